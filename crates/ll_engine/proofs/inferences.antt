@@ -5,6 +5,7 @@ pub mod NumberLemmas
 pub mod OwnTries
 pub mod Quantifying
 pub mod Connecting
+pub mod LeafTaking
 pub mod Settling
 pub mod StepLemmas
 pub mod TakeLemmas

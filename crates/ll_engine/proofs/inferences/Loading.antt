@@ -80,6 +80,14 @@ all_closed may (t ∷ ts) h = All-cons (λ (t : Term). places_below 0 t ≡ true
 
 -- ---- a load in front
 
+-- a load of a module, in front of a machine's agenda: as many arguments as parameters, closed, clauses that may be loaded, and the inference
+pub record IsLoading (m : Parts) (body : FormAt) (args : List At) (rest : List Item) (d : Module) : Type 0 where
+  pub count : length args ≡ d.params
+  pub closed : AreClosed (term_trees m.bank args)
+  pub clauses : HasClauses m.bank d.clauses.items
+  pub heads : MayLoad m.bank d.clauses.items (term_trees m.bank args)
+  pub row : (new : Parts) (c : Candidate) → Loads m d args body rest new → Infers m c new
+
 module _ (m : Parts) (g body : FormAt) (k : ℕ) (args : List At) (rest : List Item) (f : Fits m) (e1 : items_of m ≡ Goal g ∷ rest)
     (e2 : form_tree m.bank g.0 ≡ Use k (term_trees m.bank args) (form_tree m.bank body.0)) where
   -- it names a module
@@ -111,24 +119,23 @@ module _ (m : Parts) (g body : FormAt) (k : ℕ) (args : List At) (rest : List I
         f.valid.modules tree_is in
         unfold_load-fits (allowed m) (module_tree m.bank d) (term_trees m.bank args) (form_tree m.bank body.0) refl cf count_is h.2 h.3
 
-    -- with as many arguments as parameters, closed, and clauses that may be loaded
-    pub use_count : length args ≡ d.params
+    use_count : length args ≡ d.params
     use_count = sym (length-map args (λ (a : At). term_tree m.bank a.0)) ∙ count_is
 
-    pub use_closed : AreClosed (term_trees m.bank args)
+    use_closed : AreClosed (term_trees m.bank args)
     use_closed = all_closed (allowed m) (term_trees m.bank args) (goal_fits m g rest (Use k (term_trees m.bank args) (form_tree m.bank body.0)) f e1 e2).2
 
-    pub use_clauses : HasClauses m.bank d.clauses.items
+    use_clauses : HasClauses m.bank d.clauses.items
     use_clauses = clauses_at m.bank m.modules k d e f.has_modules
 
-    pub use_heads : MayLoad m.bank d.clauses.items (term_trees m.bank args)
+    use_heads : MayLoad m.bank d.clauses.items (term_trees m.bank args)
     use_heads =
         let env = arguments_env (term_trees m.bank args) in
         load_heads_of env m.bank d.clauses.items (form_tree m.bank body.0)
         (forall_heads_of d.locals (load_all env (map (clause_tree m.bank) d.clauses.items) (form_tree m.bank body.0))
         (fits_apply (allowed m) GoalSide [] (unfold_load (module_tree m.bank d) (term_trees m.bank args) (form_tree m.bank body.0)) fits_load))
 
-    pub use_row : (new : Parts) (c : Candidate) → Loads m d args body rest new → Infers m c new
+    use_row : (new : Parts) (c : Candidate) → Loads m d args body rest new → Infers m c new
     use_row new c w =
         let o = w.opens in let t = module_tree m.bank d in let ts = term_trees m.bank args in let p = form_tree m.bank body.0 in
         let s = reading m.bank m.bound in
@@ -144,3 +151,6 @@ module _ (m : Parts) (g body : FormAt) (k : ℕ) (args : List At) (rest : List I
         ∙ (ap (λ o. load_module (at_goal m g rest) (map (shown_item m.bank m.bound m.resources.kept) rest) (map (sub s) ts) (sub_form s p) o) tree_is
         ∙ (ap (λ h. Some (still_state m h rest m.eigens)) (sym (unfold_sub s (closing m f) ms (module_scope t) t ts p cf))
         ∙ ap (λ e. Some (still_state m (sub_form s (unfold_load t ts p)) rest e)) (sym x))))
+
+    pub is_loading : IsLoading m body args rest d
+    is_loading = record { count = use_count; closed = use_closed; clauses = use_clauses; heads = use_heads; row = use_row }

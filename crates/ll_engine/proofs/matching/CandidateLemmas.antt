@@ -3,7 +3,7 @@ use Rattle.std.proofs.Common.{◌≡◌, ℕ, suc, ◌+◌, Bool, List, [], ◌�
 use Rattle.std.specs.Prelude.{if◌then◌else◌}
 use Rattle.std.proofs.lemmas.List.{append-nil, length_push, get_or_push}
 use Rattle.std.proofs.Math.ListN.{get_or-append}
-use Rattle.std.proofs.lemmas.List.Elements.{All-head, All-tail}
+use Rattle.std.proofs.lemmas.List.Elements.{All-head, All-tail, All-push}
 use Rattle.ll_lists.proofs.CallerLemmas.{All-front, All-last as All-end}
 use Rattle.ll_bank.specs.declared.At.{At}
 use Rattle.ll_bank.specs.declared.FormAt.{FormAt}
@@ -13,7 +13,7 @@ use Rattle.ll_bank.specs.declared.FormNode.TheVariants.{Top as TopView, One as O
 use Rattle.ll_bank.specs.declared.FormNode.TheVariants.{Plus as PlusView, Bang as BangView, Lolli as LolliView, Imp as ImpView, Forall as ForallView}
 use Rattle.ll_bank.specs.declared.FormNode.TheVariants.{Exists as ExistsView, Use as UseView, Is as IsView, Less as LessView, Most as MostView}
 use Rattle.ll_bank.specs.Term.{Term, app, head_of, arity}
-use Rattle.ll_bank.specs.Nodes.{Nodes, term_trees, form_tree, form_of}
+use Rattle.ll_bank.specs.Nodes.{Nodes, HasForm, term_trees, form_tree, form_of}
 use Rattle.ll_bank.proofs.CallerLemmas.{head_of-app, arity-app, length-term_trees}
 use Rattle.ll_laws.specs.declared.Candidate.{Candidate}
 use Rattle.ll_engine.specs.Leaves.{heads, head_tries, waiting_heads}
@@ -90,6 +90,33 @@ module _ (bank : Nodes) where
         let go : next ≡ suc k = omega arith in
         ap (λ j. found ++ head_tries test label j hs) go ∙ (ap (λ xs. found ++ xs) (sym none)
         ∙ (ap (λ us. found ++ head_tries test label k (us ++ hs)) (sym e) ∙ begins))
+
+-- what is known of the clauses that wait, once the last is taken
+pub record AreWaiting (bank : Nodes) (rest : List FormAt) (f : FormAt) : Type 0 where
+  pub last : HasForm bank f.0
+  pub others : All (λ g. HasForm bank g.0) rest
+  pub one_more : (g : FormAt) (new : List FormAt) → new ≡ rest ++ g ∷ [] → HasForm bank g.0 → All (λ x. HasForm bank x.0) new
+  pub two_more : (g h : FormAt) (mid new : List FormAt) → mid ≡ rest ++ h ∷ [] → new ≡ mid ++ g ∷ [] → HasForm bank g.0 → HasForm bank h.0
+      → All (λ x. HasForm bank x.0) new
+
+pub are_waiting : (bank : Nodes) (old rest : List FormAt) (f : FormAt) → old ≡ rest ++ f ∷ [] → All (λ g. HasForm bank g.0) old → AreWaiting bank rest f
+are_waiting bank old rest f popped all =
+    record {
+      last = All-end (λ (g : FormAt). HasForm bank g.0) rest f each;
+      others = others;
+      one_more = more rest others;
+      two_more = λ g h mid new m n a b. more mid (more rest others h mid m b) g new n a;
+    }
+  where
+    each : All (λ (g : FormAt). HasForm bank g.0) (rest ++ f ∷ [])
+    each = subst (All (λ (g : FormAt). HasForm bank g.0)) popped all
+
+    others : All (λ (g : FormAt). HasForm bank g.0) rest
+    others = All-front (λ (g : FormAt). HasForm bank g.0) rest f each
+
+    more : (xs : List FormAt) → All (λ (g : FormAt). HasForm bank g.0) xs → (g : FormAt) (new : List FormAt) → new ≡ xs ++ g ∷ [] → HasForm bank g.0
+        → All (λ (g : FormAt). HasForm bank g.0) new
+    more xs h g new n i = subst (All (λ (g : FormAt). HasForm bank g.0)) (sym n) (All-push (λ (g : FormAt). HasForm bank g.0) xs g h i)
 
 -- each head that waits is as before
 module _ (P : Term → Type 0) (bank : Nodes) (old rest : List FormAt) (f : FormAt) (popped : old ≡ rest ++ f ∷ []) (each : All P (waiting_heads bank old)) where

@@ -195,12 +195,6 @@ pub settled_sound : (p : ProblemTree) (old new : Parts) (ps : List Held) (ok : B
 settled_sound p old new ps true h s a = record { points = a.points; machine = (h.fits, s.problem ∙ a.machine.1) }
 settled_sound p old new ps false h s a = record { points = a.points; machine = tt }
 
-pub popped_tries : (p : ProblemTree) (ps qs : List Held) (k : Held) → ps ≡ qs ++ k ∷ [] → AreKept p ps → AreTries k.parts k.untried
-popped_tries p ps qs k e a = (All-pop (IsKept p) ps qs (Some k) e a).1.tries
-
-pub popped_open : (p : ProblemTree) (ps qs : List Held) (k : Held) → ps ≡ qs ++ k ∷ [] → AreKept p ps → IsOpen p k.parts
-popped_open p ps qs k e a = (All-pop (IsKept p) ps qs (Some k) e a).1.opened
-
 -- the newest point was gone back to
 pub retries_by : (o : Option State) (p : ProblemTree) (old mid : Parts) (ps rest more : List Held) (k : Held) (ok : Bool) (z : Spine) → ps ≡ rest ++ k ∷ []
     → mid ≡ k.parts → more ≡ rest
@@ -211,9 +205,6 @@ retries_by o p old mid ps rest more k ok z e same others h =
     (subst (λ (n : Parts). Chose (spine_at o p n more) (state_of n) (n.left - 1) (reverse k.untried) (points_of more) ok z) same h) in
     subst (λ (xs : List Point). RetriesAt (spine_at o p old ps) xs ok z) (sym (ap (λ xs. points_of xs) e ∙ ap (λ xs. map point_of xs) (newest rest k)))
     (chose_same o p k.parts old rest ps _ _ _ _ ok z moved)
-
-pub popped_kept : (p : ProblemTree) (ps qs : List Held) (k : Held) → ps ≡ qs ++ k ∷ [] → AreKept p ps → AreKept p qs
-popped_kept p ps qs k e a = (All-pop (IsKept p) ps qs (Some k) e a).0
 
 -- ---- marks
 
@@ -267,28 +258,31 @@ pub helds_push : (m : Machine) (ps : List Kept) (k : Kept) → helds m (ps ++ k 
 helds_push m ps k = map-append (held_of m) ps (k ∷ [])
 
 -- what is known of the newest choice point and those before it
-pub record Popped (m : Machine) (ps qs : List Kept) (k : Kept) : Type 0 where
+pub record Popped (p : ProblemTree) (m : Machine) (ps qs : List Kept) (k : Kept) : Type 0 where
   pub good : IsGood k.mark m
   pub list : helds m ps ≡ helds m qs ++ held_of m k ∷ []
   pub goods : All (λ j. IsGood j.mark m) qs
   pub rises : Rises qs
   pub before : All (λ j. IsBefore j.mark k.mark) qs
+  pub kept : IsKept p (held_of m k)
+  pub others : AreKept p (helds m qs)
 
-pub popped : (m : Machine) (ps qs : List Kept) (k : Kept) → ps ≡ qs ++ k ∷ [] → AreMarks m ps → Popped m ps qs k
-popped m ps qs k e a =
+pub popped : (p : ProblemTree) (m : Machine) (ps qs : List Kept) (k : Kept) → ps ≡ qs ++ k ∷ [] → AreMarks m ps → AreKept p (helds m ps)
+    → Popped p m ps qs k
+popped p m ps qs k e a h =
     let both = All-pop (λ (j : Kept). IsGood j.mark m) ps qs (Some k) e a.good in
     let rest = rises_popped qs k (subst (λ (ks : List Kept). Rises ks) e a.rise) in
+    let list : helds m ps ≡ helds m qs ++ held_of m k ∷ [] = ap (λ ks. helds m ks) e ∙ helds_push m qs k in
+    let points = All-pop (IsKept p) (helds m ps) (helds m qs) (Some (held_of m k)) list h in
     record {
       good = both.1;
-      list = ap (λ ks. helds m ks) e ∙ helds_push m qs k;
+      list = list;
       goods = both.0;
       rises = rest.0;
       before = rest.1;
+      kept = points.1;
+      others = points.0;
     }
-
--- a choice point has a candidate left
-pub popped_some : (p : ProblemTree) (ps qs : List Held) (k : Held) → ps ≡ qs ++ k ∷ [] → AreKept p ps → k.untried ≡ [] → ⊥
-popped_some p ps qs k e a = (All-pop (IsKept p) ps qs (Some k) e a).1.some
 
 -- a list without elements
 pub none_left : (cs : List Candidate) (n : ℕ) → n ≡ length cs → n ≡ 0 → cs ≡ []

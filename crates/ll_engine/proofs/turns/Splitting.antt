@@ -24,7 +24,7 @@ use Rattle.ll_engine.specs.Healthy.{IsPoint, ArePoints, RunsFrom, HealthyFrom, H
 use Rattle.ll_freeze.specs.declared.machine.Machine.{Machine}
 use Rattle.ll_freeze.specs.Parts.{Parts, Base, base_of, IsGood}
 use Rattle.ll_engine.specs.declared.spine.Kept.{Kept}
-use Rattle.ll_engine.specs.Pointed.{Held, held_of, helds, Rises, AreMarks, AreTries, point_of, points_of, spine_at, IsKept}
+use Rattle.ll_engine.specs.Pointed.{Held, held_of, helds, Rises, AreMarks, AreTries, point_of, points_of, spine_at, IsKept, AreKept}
 use Rattle.ll_engine.specs.Splits.{TakesOldest, SplitsTo, frozen_point}
 
 -- older choice points stand behind
@@ -195,19 +195,25 @@ takes_oldest first p m h ps hs b depth e k v =
     }
 
 -- what is known of the oldest choice point and those after it
-pub record Shifted (m : Machine) (ps qs : List Kept) (k : Kept) : Type 0 where
+pub record Shifted (p : ProblemTree) (m : Machine) (ps qs : List Kept) (k : Kept) : Type 0 where
   pub good : IsGood k.mark m
   pub list : helds m ps ≡ held_of m k ∷ helds m qs
   pub marks : AreMarks m qs
+  pub kept : IsKept p (held_of m k)
+  pub others : AreKept p (helds m qs)
 
-pub shifted : (m : Machine) (ps qs : List Kept) (k : Kept) → ps ≡ k ∷ qs → AreMarks m ps → Shifted m ps qs k
-shifted m ps qs k e a =
+pub shifted : (p : ProblemTree) (m : Machine) (ps qs : List Kept) (k : Kept) → ps ≡ k ∷ qs → AreMarks m ps → AreKept p (helds m ps) → Shifted p m ps qs k
+shifted p m ps qs k e a h =
     let goods : All (λ (j : Kept). IsGood j.mark m) (k ∷ qs) = subst (λ (ks : List Kept). All (λ (j : Kept). IsGood j.mark m) ks) e a.good in
     let rises : Rises (k ∷ qs) = subst (λ (ks : List Kept). Rises ks) e a.rise in
+    let list : helds m ps ≡ held_of m k ∷ helds m qs = ap (λ ks. helds m ks) e in
+    let points = subst (λ (hs : List Held). AreKept p hs) list h in
     record {
       good = All-head (λ (j : Kept). IsGood j.mark m) k qs goods;
-      list = ap (λ ks. helds m ks) e;
+      list = list;
       marks = record { good = All-tail (λ (j : Kept). IsGood j.mark m) k qs goods; rise = rises.1 };
+      kept = All-head (IsKept p) (held_of m k) (helds m qs) points;
+      others = All-tail (IsKept p) (held_of m k) (helds m qs) points;
     }
 
 -- a choice point of a search of its own machine's problem

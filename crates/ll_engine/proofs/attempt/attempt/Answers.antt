@@ -5,8 +5,19 @@ use Rattle.ll_engine.proofs.machine.MachineLemmas.{in_front}
 use Rattle.ll_engine.proofs.inferences.Quantifying.{forall_heads, exists_heads, forall_row, exists_row, not_empty, no_candidate}
 use Rattle.ll_bank.specs.Form.{Use}
 use Rattle.ll_bank.specs.Nodes.{term_trees, form_tree}
-use Rattle.ll_engine.proofs.inferences.Loading.{use_count, use_closed, use_clauses, use_heads, use_row}
+use Rattle.ll_engine.proofs.inferences.Loading.{IsLoading, is_loading}
 use Rattle.ll_engine.proofs.attempt.attempt.Goals as goal
+use Rattle.ll_engine.proofs.attempt.attempt.Goals.{After-deref}
+
+-- the load in front, with its arguments as they are lent
+loading : (c : After-deref) → IsLoading (parts_of c.args.machine.now) c.in-Use.body c.deref.result.now
+    (items_at c.args.machine.now.agenda c.in-Some.rest) c.index-modules-number.result
+loading c =
+    let m = parts_of c.args.machine.now in let u = c.in-Use in let rest = items_at m.agenda c.in-Some.rest in
+    let q : u.args.now ≡ c.deref.result.now = sym (c.deref.ensures.value ∙ c.in_ok-args-in-Use.ensures.items) in
+    is_loading m c.in-Goal.goal u.body u.number c.deref.result.now rest c.requires.fits (c.in-Some.ensures.some.list ∙ ap (λ x. x ∷ rest) c.in-Goal.is)
+    (u.ensures.shown.tree ∙ ap (λ xs. Use u.number (term_trees m.bank xs) (form_tree m.bank u.body.0)) q) c.index-modules-number.result
+    c.index-modules-number.is
 
 pub unreachable-requires : goal.unreachable-requires
 unreachable-requires c = not_empty (parts_of c.args.machine.now) c.requires.goal (c.in_default.ensures.none.0 refl)
@@ -43,44 +54,21 @@ returns-in_ok-take_exists-in-Exists-clause-attempts c =
     c.in-Exists.ensures.shown.tree c.in_ok-take_exists-in-Exists.ensures.opens
 
 pub take_load-requires-clause-count : goal.take_load-requires-clause-count
-take_load-requires-clause-count c =
-    let m = parts_of c.args.machine.now in let u = c.in-Use in let rest = items_at m.agenda c.in-Some.rest in
-    let q : u.args.now ≡ c.deref.result.now = sym (c.deref.ensures.value ∙ c.in_ok-args-in-Use.ensures.items) in
-    use_count m c.in-Goal.goal u.body u.number c.deref.result.now rest c.requires.fits (c.in-Some.ensures.some.list ∙ ap (λ x. x ∷ rest) c.in-Goal.is)
-    (u.ensures.shown.tree ∙ ap (λ xs. Use u.number (term_trees m.bank xs) (form_tree m.bank u.body.0)) q) c.index-modules-number.result
-    c.index-modules-number.is
+take_load-requires-clause-count c = (loading (goal.at.take_load-requires-clause-count c).After-deref).count
 
 pub take_load-requires-clause-closed : goal.take_load-requires-clause-closed
-take_load-requires-clause-closed c =
-    let m = parts_of c.args.machine.now in let u = c.in-Use in let rest = items_at m.agenda c.in-Some.rest in
-    let q : u.args.now ≡ c.deref.result.now = sym (c.deref.ensures.value ∙ c.in_ok-args-in-Use.ensures.items) in
-    use_closed m c.in-Goal.goal u.body u.number c.deref.result.now rest c.requires.fits (c.in-Some.ensures.some.list ∙ ap (λ x. x ∷ rest) c.in-Goal.is)
-    (u.ensures.shown.tree ∙ ap (λ xs. Use u.number (term_trees m.bank xs) (form_tree m.bank u.body.0)) q) c.index-modules-number.result
-    c.index-modules-number.is
+take_load-requires-clause-closed c = (loading (goal.at.take_load-requires-clause-closed c).After-deref).closed
 
 pub take_load-requires-clause-clauses : goal.take_load-requires-clause-clauses
-take_load-requires-clause-clauses c =
-    let m = parts_of c.args.machine.now in let u = c.in-Use in let rest = items_at m.agenda c.in-Some.rest in
-    let q : u.args.now ≡ c.deref.result.now = sym (c.deref.ensures.value ∙ c.in_ok-args-in-Use.ensures.items) in
-    use_clauses m c.in-Goal.goal u.body u.number c.deref.result.now rest c.requires.fits (c.in-Some.ensures.some.list ∙ ap (λ x. x ∷ rest) c.in-Goal.is)
-    (u.ensures.shown.tree ∙ ap (λ xs. Use u.number (term_trees m.bank xs) (form_tree m.bank u.body.0)) q) c.index-modules-number.result
-    c.index-modules-number.is
+take_load-requires-clause-clauses c = (loading (goal.at.take_load-requires-clause-clauses c).After-deref).clauses
 
 pub take_load-requires-clause-heads : goal.take_load-requires-clause-heads
-take_load-requires-clause-heads c =
-    let m = parts_of c.args.machine.now in let u = c.in-Use in let rest = items_at m.agenda c.in-Some.rest in
-    let q : u.args.now ≡ c.deref.result.now = sym (c.deref.ensures.value ∙ c.in_ok-args-in-Use.ensures.items) in
-    use_heads m c.in-Goal.goal u.body u.number c.deref.result.now rest c.requires.fits (c.in-Some.ensures.some.list ∙ ap (λ x. x ∷ rest) c.in-Goal.is)
-    (u.ensures.shown.tree ∙ ap (λ xs. Use u.number (term_trees m.bank xs) (form_tree m.bank u.body.0)) q) c.index-modules-number.result
-    c.index-modules-number.is
+take_load-requires-clause-heads c = (loading (goal.at.take_load-requires-clause-heads c).After-deref).heads
 
 pub returns-in_ok-take_load-in-Use-clause-attempts : goal.returns-in_ok-take_load-in-Use-clause-attempts
 returns-in_ok-take_load-in-Use-clause-attempts c =
-    let m = parts_of c.args.machine.now in let u = c.in-Use in let rest = items_at m.agenda c.in-Some.rest in
-    let q : u.args.now ≡ c.deref.result.now = sym (c.deref.ensures.value ∙ c.in_ok-args-in-Use.ensures.items) in
-    use_row m c.in-Goal.goal u.body u.number c.deref.result.now rest c.requires.fits (c.in-Some.ensures.some.list ∙ ap (λ x. x ∷ rest) c.in-Goal.is)
-    (u.ensures.shown.tree ∙ ap (λ xs. Use u.number (term_trees m.bank xs) (form_tree m.bank u.body.0)) q) c.index-modules-number.result
-    c.index-modules-number.is (parts_of c.take_load.new.machine) c.args.candidate c.in_ok-take_load-in-Use.ensures.loads
+    (loading (goal.at.returns-in_ok-take_load-in-Use-clause-attempts c).After-deref).row (parts_of c.take_load.new.machine)
+    c.args.candidate c.in_ok-take_load-in-Use.ensures.loads
 
 pub take_one-requires-clause-front : goal.take_one-requires-clause-front
 take_one-requires-clause-front c =

@@ -1,19 +1,20 @@
-use Rattle.std.proofs.Common.{◌<◌, ◌++◌, ap, sym, subst, ◌∙◌, arith, length, All}
-use Rattle.std.proofs.lemmas.List.Elements.{All-push}
-use Rattle.ll_lists.proofs.CallerLemmas.{All-front, All-last as All-end}
-use Rattle.ll_bank.specs.declared.FormAt.{FormAt}
+use Rattle.std.proofs.Common.{◌++◌, ap, sym, ◌∙◌, arith}
 use Rattle.ll_bank.specs.Nodes.{term_tree}
 use Rattle.ll_engine.specs.Leaves.{heads, head_tries, waiting_heads}
 use Rattle.ll_engine.specs.Matches.{HasCellsIn, head_fits, all_found}
 use Rattle.ll_engine.proofs.matching.CandidateLemmas.{each_past, each_in, each_both, each_leaf, each_behind, heads_seen, no_heads, walk_past, walk_in}
-use Rattle.ll_engine.proofs.matching.CandidateLemmas.{walk_both, leaf_found, leaf_passed}
+use Rattle.ll_engine.proofs.matching.CandidateLemmas.{walk_both, leaf_found, leaf_passed, AreWaiting, are_waiting}
 use Rattle.ll_engine.proofs.candidates.add_leaves.Goals as goal
-use Rattle.ll_engine.proofs.candidates.add_leaves.Goals.{then-branch+in_ok-push-in-Atom, else-branch}
+use Rattle.ll_engine.proofs.candidates.add_leaves.Goals.{In-Some, then-branch+in_ok-push-in-Atom, else-branch}
+
+-- what is known of the clauses that wait
+waiting : (c : In-Some) → AreWaiting c.args.store.now.bank c.pop.new.self.items c.in-Some.form
+waiting c =
+    are_waiting c.args.store.now.bank c.loop-form.waiting.items c.pop.new.self.items c.in-Some.form c.in-Some.ensures.items c.loop-form.invariant.inside
 
 pub loop-form-preserved : goal.loop-form-preserved
 loop-form-preserved c = record {
-  inside = All-front (λ (f : FormAt). f.0 < length c.args.store.now.bank.forms) c.pop.new.self.items c.in-Some.form
-      (subst (All (λ (f : FormAt). f.0 < length c.args.store.now.bank.forms)) c.in-Some.ensures.items c.loop-form.invariant.inside);
+  inside = (waiting (goal.at.loop-form-preserved c).In-Some).others;
   cells = each_past (HasCellsIn c.args.store.now) c.args.store.now.bank c.loop-form.waiting.items c.pop.new.self.items c.in-Some.form c.in-Some.ensures.items
       c.loop-form.invariant.cells
       (heads_seen c.args.store.now.bank c.in-Some.form c.form_at.result c.form_at.ensures.shown.tree
@@ -27,65 +28,49 @@ loop-form-preserved c = record {
 }
 
 pub loop-form-preserved-in-Continue-branch-7 : goal.loop-form-preserved-in-Continue-branch-7
-loop-form-preserved-in-Continue-branch-7 c = let h = All-end (λ (f : FormAt). f.0 < length c.args.store.now.bank.forms) c.pop.new.self.items c.in-Some.form
-    (subst (All (λ (f : FormAt). f.0 < length c.args.store.now.bank.forms)) c.in-Some.ensures.items c.loop-form.invariant.inside) in record {
-      inside = subst (All (λ (f : FormAt). f.0 < length c.args.store.now.bank.forms)) (sym c.in_ok-push-in-Lolli.ensures.items)
-          (All-push (λ (f : FormAt). f.0 < length c.args.store.now.bank.forms) c.pop.new.self.items c.in-Lolli.rest
-          (All-front (λ (f : FormAt). f.0 < length c.args.store.now.bank.forms) c.pop.new.self.items c.in-Some.form
-          (subst (All (λ (f : FormAt). f.0 < length c.args.store.now.bank.forms)) c.in-Some.ensures.items c.loop-form.invariant.inside)) (let p =
-          c.in-Lolli.ensures.shown.parts.1 in let q = h in omega arith));
-      cells = each_in (HasCellsIn c.args.store.now) c.args.store.now.bank c.loop-form.waiting.items c.pop.new.self.items c.in-Some.form c.in-Some.ensures.items
-          c.loop-form.invariant.cells c.in-Lolli.rest c.push-in-Lolli.new.self.items c.in_ok-push-in-Lolli.ensures.items
-          (ap (λ t. heads t) c.in-Lolli.ensures.shown.tree);
-      so_far = walk_in c.args.store.now.bank (head_fits c.args.store.now c.args.asked) c.args.label c.loop-form.leaf _ (all_found c.loop-form.found)
-          c.loop-form.waiting.items c.pop.new.self.items c.in-Some.form c.in-Some.ensures.items c.loop-form.invariant.so_far c.in-Lolli.rest
-          c.push-in-Lolli.new.self.items c.in_ok-push-in-Lolli.ensures.items (ap (λ t. heads t) c.in-Lolli.ensures.shown.tree);
-    }
+loop-form-preserved-in-Continue-branch-7 c = let w = waiting (goal.at.loop-form-preserved-in-Continue-branch-7 c).In-Some in record {
+  inside = w.one_more c.in-Lolli.rest c.push-in-Lolli.new.self.items c.in_ok-push-in-Lolli.ensures.items
+      (let p = c.in-Lolli.ensures.shown.parts.1 in let q = w.last in omega arith);
+  cells = each_in (HasCellsIn c.args.store.now) c.args.store.now.bank c.loop-form.waiting.items c.pop.new.self.items c.in-Some.form c.in-Some.ensures.items
+      c.loop-form.invariant.cells c.in-Lolli.rest c.push-in-Lolli.new.self.items c.in_ok-push-in-Lolli.ensures.items
+      (ap (λ t. heads t) c.in-Lolli.ensures.shown.tree);
+  so_far = walk_in c.args.store.now.bank (head_fits c.args.store.now c.args.asked) c.args.label c.loop-form.leaf _ (all_found c.loop-form.found)
+      c.loop-form.waiting.items c.pop.new.self.items c.in-Some.form c.in-Some.ensures.items c.loop-form.invariant.so_far c.in-Lolli.rest
+      c.push-in-Lolli.new.self.items c.in_ok-push-in-Lolli.ensures.items (ap (λ t. heads t) c.in-Lolli.ensures.shown.tree);
+}
 
 pub loop-form-preserved-in-Continue-branch-8 : goal.loop-form-preserved-in-Continue-branch-8
-loop-form-preserved-in-Continue-branch-8 c = let h = All-end (λ (f : FormAt). f.0 < length c.args.store.now.bank.forms) c.pop.new.self.items c.in-Some.form
-    (subst (All (λ (f : FormAt). f.0 < length c.args.store.now.bank.forms)) c.in-Some.ensures.items c.loop-form.invariant.inside) in record {
-      inside = subst (All (λ (f : FormAt). f.0 < length c.args.store.now.bank.forms)) (sym c.in_ok-push-in-Imp.ensures.items)
-          (All-push (λ (f : FormAt). f.0 < length c.args.store.now.bank.forms) c.pop.new.self.items c.in-Imp.rest
-          (All-front (λ (f : FormAt). f.0 < length c.args.store.now.bank.forms) c.pop.new.self.items c.in-Some.form
-          (subst (All (λ (f : FormAt). f.0 < length c.args.store.now.bank.forms)) c.in-Some.ensures.items c.loop-form.invariant.inside)) (let p =
-          c.in-Imp.ensures.shown.parts.1 in let q = h in omega arith));
-      cells = each_in (HasCellsIn c.args.store.now) c.args.store.now.bank c.loop-form.waiting.items c.pop.new.self.items c.in-Some.form c.in-Some.ensures.items
-          c.loop-form.invariant.cells c.in-Imp.rest c.push-in-Imp.new.self.items c.in_ok-push-in-Imp.ensures.items
-          (ap (λ t. heads t) c.in-Imp.ensures.shown.tree);
-      so_far = walk_in c.args.store.now.bank (head_fits c.args.store.now c.args.asked) c.args.label c.loop-form.leaf _ (all_found c.loop-form.found)
-          c.loop-form.waiting.items c.pop.new.self.items c.in-Some.form c.in-Some.ensures.items c.loop-form.invariant.so_far c.in-Imp.rest
-          c.push-in-Imp.new.self.items c.in_ok-push-in-Imp.ensures.items (ap (λ t. heads t) c.in-Imp.ensures.shown.tree);
-    }
+loop-form-preserved-in-Continue-branch-8 c = let w = waiting (goal.at.loop-form-preserved-in-Continue-branch-8 c).In-Some in record {
+  inside = w.one_more c.in-Imp.rest c.push-in-Imp.new.self.items c.in_ok-push-in-Imp.ensures.items
+      (let p = c.in-Imp.ensures.shown.parts.1 in let q = w.last in omega arith);
+  cells = each_in (HasCellsIn c.args.store.now) c.args.store.now.bank c.loop-form.waiting.items c.pop.new.self.items c.in-Some.form c.in-Some.ensures.items
+      c.loop-form.invariant.cells c.in-Imp.rest c.push-in-Imp.new.self.items c.in_ok-push-in-Imp.ensures.items
+      (ap (λ t. heads t) c.in-Imp.ensures.shown.tree);
+  so_far = walk_in c.args.store.now.bank (head_fits c.args.store.now c.args.asked) c.args.label c.loop-form.leaf _ (all_found c.loop-form.found)
+      c.loop-form.waiting.items c.pop.new.self.items c.in-Some.form c.in-Some.ensures.items c.loop-form.invariant.so_far c.in-Imp.rest
+      c.push-in-Imp.new.self.items c.in_ok-push-in-Imp.ensures.items (ap (λ t. heads t) c.in-Imp.ensures.shown.tree);
+}
 
 pub loop-form-preserved-in-Continue-branch-9 : goal.loop-form-preserved-in-Continue-branch-9
-loop-form-preserved-in-Continue-branch-9 c = let h = All-end (λ (f : FormAt). f.0 < length c.args.store.now.bank.forms) c.pop.new.self.items c.in-Some.form
-    (subst (All (λ (f : FormAt). f.0 < length c.args.store.now.bank.forms)) c.in-Some.ensures.items c.loop-form.invariant.inside) in record {
-      inside = subst (All (λ (f : FormAt). f.0 < length c.args.store.now.bank.forms)) (sym c.in_ok-push-in-Forall.ensures.items)
-          (All-push (λ (f : FormAt). f.0 < length c.args.store.now.bank.forms) c.pop.new.self.items c.in-Forall.rest
-          (All-front (λ (f : FormAt). f.0 < length c.args.store.now.bank.forms) c.pop.new.self.items c.in-Some.form
-          (subst (All (λ (f : FormAt). f.0 < length c.args.store.now.bank.forms)) c.in-Some.ensures.items c.loop-form.invariant.inside)) (let p =
-          c.in-Forall.ensures.shown.parts in let q = h in omega arith));
-      cells = each_in (HasCellsIn c.args.store.now) c.args.store.now.bank c.loop-form.waiting.items c.pop.new.self.items c.in-Some.form c.in-Some.ensures.items
-          c.loop-form.invariant.cells c.in-Forall.rest c.push-in-Forall.new.self.items c.in_ok-push-in-Forall.ensures.items
-          (ap (λ t. heads t) c.in-Forall.ensures.shown.tree);
-      so_far = walk_in c.args.store.now.bank (head_fits c.args.store.now c.args.asked) c.args.label c.loop-form.leaf _ (all_found c.loop-form.found)
-          c.loop-form.waiting.items c.pop.new.self.items c.in-Some.form c.in-Some.ensures.items c.loop-form.invariant.so_far c.in-Forall.rest
-          c.push-in-Forall.new.self.items c.in_ok-push-in-Forall.ensures.items (ap (λ t. heads t) c.in-Forall.ensures.shown.tree);
-    }
+loop-form-preserved-in-Continue-branch-9 c = let w = waiting (goal.at.loop-form-preserved-in-Continue-branch-9 c).In-Some in record {
+  inside = w.one_more c.in-Forall.rest c.push-in-Forall.new.self.items c.in_ok-push-in-Forall.ensures.items
+      (let p = c.in-Forall.ensures.shown.parts in let q = w.last in omega arith);
+  cells = each_in (HasCellsIn c.args.store.now) c.args.store.now.bank c.loop-form.waiting.items c.pop.new.self.items c.in-Some.form c.in-Some.ensures.items
+      c.loop-form.invariant.cells c.in-Forall.rest c.push-in-Forall.new.self.items c.in_ok-push-in-Forall.ensures.items
+      (ap (λ t. heads t) c.in-Forall.ensures.shown.tree);
+  so_far = walk_in c.args.store.now.bank (head_fits c.args.store.now c.args.asked) c.args.label c.loop-form.leaf _ (all_found c.loop-form.found)
+      c.loop-form.waiting.items c.pop.new.self.items c.in-Some.form c.in-Some.ensures.items c.loop-form.invariant.so_far c.in-Forall.rest
+      c.push-in-Forall.new.self.items c.in_ok-push-in-Forall.ensures.items (ap (λ t. heads t) c.in-Forall.ensures.shown.tree);
+}
 
 pub loop-form-preserved-in-Continue-branch-6 : goal.loop-form-preserved-in-Continue-branch-6
 loop-form-preserved-in-Continue-branch-6 c =
-    let h = All-end (λ (f : FormAt). f.0 < length c.args.store.now.bank.forms) c.pop.new.self.items c.in-Some.form
-    (subst (All (λ (f : FormAt). f.0 < length c.args.store.now.bank.forms)) c.in-Some.ensures.items c.loop-form.invariant.inside) in
+    let w = waiting (goal.at.loop-form-preserved-in-Continue-branch-6 c).In-Some in
     let p = c.in-With.ensures.shown.parts.0 in let q = c.in-With.ensures.shown.parts.1 in
-    let mid = subst (All (λ (f : FormAt). f.0 < length c.args.store.now.bank.forms)) (sym c.in_ok-push-in-With.ensures.items)
-    (All-push (λ (f : FormAt). f.0 < length c.args.store.now.bank.forms) c.pop.new.self.items c.in-With.right
-    (All-front (λ (f : FormAt). f.0 < length c.args.store.now.bank.forms) c.pop.new.self.items c.in-Some.form
-    (subst (All (λ (f : FormAt). f.0 < length c.args.store.now.bank.forms)) c.in-Some.ensures.items c.loop-form.invariant.inside)) (omega arith)) in
+    let h = w.last in
     record {
-      inside = subst (All (λ (f : FormAt). f.0 < length c.args.store.now.bank.forms)) (sym c.in_ok-push-in-With-2.ensures.items)
-          (All-push (λ (f : FormAt). f.0 < length c.args.store.now.bank.forms) c.push-in-With.new.self.items c.in-With.left mid (omega arith));
+      inside = w.two_more c.in-With.left c.in-With.right c.push-in-With.new.self.items c.push-in-With-2.new.self.items
+          c.in_ok-push-in-With.ensures.items c.in_ok-push-in-With-2.ensures.items (omega arith) (omega arith);
       cells = each_both (HasCellsIn c.args.store.now) c.args.store.now.bank c.loop-form.waiting.items c.pop.new.self.items c.in-Some.form
           c.in-Some.ensures.items c.loop-form.invariant.cells c.in-With.left c.in-With.right c.push-in-With.new.self.items c.push-in-With-2.new.self.items
           c.in_ok-push-in-With.ensures.items c.in_ok-push-in-With-2.ensures.items (ap (λ t. heads t) c.in-With.ensures.shown.tree);
@@ -97,8 +82,7 @@ loop-form-preserved-in-Continue-branch-6 c =
 
 pub loop-form-preserved-in-Atom : goal.loop-form-preserved-in-Atom
 loop-form-preserved-in-Atom c = record {
-  inside = All-front (λ (f : FormAt). f.0 < length c.args.store.now.bank.forms) c.pop.new.self.items c.in-Some.form
-      (subst (All (λ (f : FormAt). f.0 < length c.args.store.now.bank.forms)) c.in-Some.ensures.items c.loop-form.invariant.inside);
+  inside = (waiting (goal.at.loop-form-preserved-in-Atom c).In-Some).others;
   cells = each_behind (HasCellsIn c.args.store.now) c.args.store.now.bank c.loop-form.waiting.items c.pop.new.self.items c.in-Some.form c.in-Some.ensures.items
       c.loop-form.invariant.cells (term_tree c.args.store.now.bank c.in-Atom.head.0) (ap (λ t. heads t) c.in-Atom.ensures.shown.tree);
   so_far = elim c.if-branch.branch [

@@ -1,4 +1,4 @@
-use Rattle.std.proofs.Common.{rules, refl, sym, subst, ◌∙◌, List, ◌∷◌, [], ◌++◌}
+use Rattle.std.proofs.Common.{rules, sym, subst, ◌∙◌, List}
 use Rattle.std.proofs.lemmas.List.Elements.{All-push, All-weaker}
 use Rattle.ll_freeze.specs.Parts.{parts_of, IsGood, IsBefore}
 use Rattle.ll_engine.specs.declared.spine.Kept.{Kept}
@@ -7,10 +7,15 @@ use Rattle.ll_engine.specs.Based.{KeepsFloors}
 use Rattle.ll_engine.proofs.machine.Basing.{floor_push}
 use Rattle.ll_engine.proofs.turns.Pointing.{puts_some, keeps_some, some_left, helds_push, rises_push}
 use Rattle.ll_engine.proofs.spine.keep.Goals as goal
+use Rattle.ll_engine.proofs.spine.keep.Goals.{In_ok-push_back}
+
+-- the new choice point
+abbrev made : In_ok-push_back → Kept
+made c = record { mark = c.mark.result; untried = c.args.untried }
 
 pub returns-clause-puts : goal.returns-clause-puts
 returns-clause-puts c =
-    let m = c.args.machine.now in let k : Kept = record { mark = c.mark.result; untried = c.args.untried } in
+    let m = c.args.machine.now in let k = made (goal.at.returns-clause-puts c).In_ok-push_back in
     subst (λ (qs : List Held). Puts (parts_of m) c.args.untried.items (helds m c.args.points.now.items) qs)
     (sym (Rattle.std.proofs.Common.ap (λ ks. helds m ks) c.in_ok-push_back.ensures.items ∙ helds_push m c.args.points.now.items k))
     (puts_some (parts_of m) (helds m c.args.points.now.items) (held_of m k) c.mark.ensures.parts
@@ -18,7 +23,7 @@ returns-clause-puts c =
 
 pub returns-clause-kept : goal.returns-clause-kept
 returns-clause-kept c =
-    let m = c.args.machine.now in let k : Kept = record { mark = c.mark.result; untried = c.args.untried } in
+    let m = c.args.machine.now in let k = made (goal.at.returns-clause-kept c).In_ok-push_back in
     subst (λ (qs : List Held). KeepsKept (parts_of m) c.args.untried.items (helds m c.args.points.now.items) qs)
     (sym (Rattle.std.proofs.Common.ap (λ ks. helds m ks) c.in_ok-push_back.ensures.items ∙ helds_push m c.args.points.now.items k))
     (keeps_some (parts_of m) (helds m c.args.points.now.items) (held_of m k) c.mark.ensures.parts
@@ -26,7 +31,7 @@ returns-clause-kept c =
 
 pub returns-clause-marks : goal.returns-clause-marks
 returns-clause-marks c =
-    let m = c.args.machine.now in let k : Kept = record { mark = c.mark.result; untried = c.args.untried } in
+    let m = c.args.machine.now in let k = made (goal.at.returns-clause-marks c).In_ok-push_back in
     let ps = c.args.points.now.items in let a = c.requires.marks in
     subst (λ (qs : List Kept). AreMarks m qs) (sym c.in_ok-push_back.ensures.items)
     (record {
@@ -37,6 +42,6 @@ returns-clause-marks c =
 
 pub returns-clause-floors : goal.returns-clause-floors
 returns-clause-floors c =
-    let m = c.args.machine.now in let k : Kept = record { mark = c.mark.result; untried = c.args.untried } in
+    let m = c.args.machine.now in let k = made (goal.at.returns-clause-floors c).In_ok-push_back in
     subst (λ (qs : List Kept). KeepsFloors m c.args.points.now.items qs) (sym c.in_ok-push_back.ensures.items)
     (floor_push m c.args.points.now.items k c.mark.ensures.last)

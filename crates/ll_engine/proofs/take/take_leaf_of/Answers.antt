@@ -1,4 +1,4 @@
-use Rattle.std.proofs.Common.{length, take, drop, ◌-◌, [], true, false, refl, ap, sym, subst, ◌∙◌, arith}
+use Rattle.std.proofs.Common.{[], refl, ap, sym, subst, ◌∙◌, arith}
 use Rattle.std.proofs.lemmas.List.{append-nil}
 use Rattle.ll_bank.specs.Nodes.{Nodes, Extends}
 use Rattle.ll_laws.specs.Attempt.{vars_from}
@@ -7,11 +7,23 @@ use Rattle.ll_resources.specs.Seen.{resource}
 use Rattle.ll_freeze.specs.Fits.{allowed}
 use Rattle.ll_freeze.specs.Parts.{parts_of}
 use Rattle.ll_freeze.proofs.CallerLemmas.{store_then, context_same}
-use Rattle.ll_engine.proofs.machine.ReadLemmas.{cells_bound, cells_levels}
-use Rattle.ll_engine.proofs.machine.CellLemmas.{slice_is}
 use Rattle.ll_engine.proofs.machine.Keeping.{store_extends, later_of}
-use Rattle.ll_engine.proofs.inferences.TakingLemmas.{variable_count, clause_inside, clause_sorted, count_is, finds_in, ready_in, none_taken, some_taken}
+use Rattle.ll_engine.proofs.inferences.TakingLemmas.{variable_count, clause_inside, clause_sorted, count_is}
+use Rattle.ll_engine.proofs.inferences.LeafTaking.{LeafFacts, leaf_facts}
 use Rattle.ll_engine.proofs.take.take_leaf_of.Goals as goal
+use Rattle.ll_engine.proofs.take.take_leaf_of.Goals.{After-deref}
+
+-- what is known of the leaf once the terms are lent
+facts : (c : After-deref) → LeafFacts c.args.machine.now c.requires.fits c.args.candidate.label (resource c.args.entry) c.requires.found c.args.rest
+    c.args.candidate.leaf c.open_leaf.new.bank c.open_leaf.new.agenda c.open_leaf.new.terms.items c.in_ok-opened.opened.head c.in_ok-opened.opened.top
+    c.in_ok-opened.ensures.keeps c.in_ok-opened.ensures.opened c.args.atom c.requires.front c.len.result c.len-before.result
+    (c.len.ensures ∙ c.open_leaf.new.terms.ok.0) (c.len-before.ensures ∙ c.args.machine.now.terms.ok.0) c.add_cells.new.store
+    c.add_cells.ensures.bank c.in_ok-add_cells.ensures.cells c.deref.result.now c.deref.ensures.value
+facts c = leaf_facts c.args.machine.now c.requires.fits c.args.candidate.label (resource c.args.entry) c.requires.found c.args.rest
+    c.args.candidate.leaf c.open_leaf.new.bank c.open_leaf.new.agenda c.open_leaf.new.terms.items c.in_ok-opened.opened.head c.in_ok-opened.opened.top
+    c.in_ok-opened.ensures.keeps c.in_ok-opened.ensures.opened c.args.atom c.requires.front c.len.result c.len-before.result
+    (c.len.ensures ∙ c.open_leaf.new.terms.ok.0) (c.len-before.ensures ∙ c.args.machine.now.terms.ok.0) c.add_cells.new.store
+    c.add_cells.ensures.bank c.in_ok-add_cells.ensures.cells c.deref.result.now c.deref.ensures.value
 
 pub open_leaf-requires-clause-inside : goal.open_leaf-requires-clause-inside
 open_leaf-requires-clause-inside c = clause_inside (parts_of c.args.machine.now) c.requires.fits c.args.candidate.label (resource c.args.entry) c.requires.found
@@ -37,130 +49,32 @@ overflow_sub-count c = let n = count_is (parts_of c.args.machine.now) c.requires
     c.in_ok-opened.opened.top c.in_ok-opened.ensures.keeps c.in_ok-opened.ensures.opened in omega arith
 
 pub unify_leaf-requires-clause-table : goal.unify_leaf-requires-clause-table
-unify_leaf-requires-clause-table c = (ready_in (parts_of c.args.machine.now) c.requires.fits c.args.candidate.label (resource c.args.entry) c.requires.found
-    c.args.rest c.args.candidate.leaf c.open_leaf.new.bank c.open_leaf.new.agenda c.open_leaf.new.terms.items c.in_ok-opened.opened.head
-    c.in_ok-opened.opened.top c.in_ok-opened.ensures.keeps c.in_ok-opened.ensures.opened c.args.atom c.requires.front
-    (table_of c.add_cells.new.store.cells.cells) (cells_bound c.args.machine.now.store.cells.cells c.add_cells.new.store.cells.cells
-    (c.len.result - c.len-before.result) c.in_ok-opened.ensures.opened.count c.args.machine.now.eigens c.in_ok-add_cells.ensures.cells (let n =
-    count_is (parts_of c.args.machine.now) c.requires.fits c.args.candidate.label (resource c.args.entry) c.requires.found c.args.rest c.args.candidate.leaf
-    c.open_leaf.new.bank c.open_leaf.new.agenda c.open_leaf.new.terms.items c.in_ok-opened.opened.head c.in_ok-opened.opened.top c.in_ok-opened.ensures.keeps
-    c.in_ok-opened.ensures.opened in let a = c.len.ensures in let b = c.len-before.ensures in omega arith))
-    (cells_levels c.args.machine.now.store.cells.cells c.add_cells.new.store.cells.cells (c.len.result - c.len-before.result)
-    c.in_ok-opened.ensures.opened.count c.args.machine.now.eigens c.in_ok-add_cells.ensures.cells (let n =
-    count_is (parts_of c.args.machine.now) c.requires.fits c.args.candidate.label (resource c.args.entry) c.requires.found c.args.rest c.args.candidate.leaf
-    c.open_leaf.new.bank c.open_leaf.new.agenda c.open_leaf.new.terms.items c.in_ok-opened.opened.head c.in_ok-opened.opened.top c.in_ok-opened.ensures.keeps
-    c.in_ok-opened.ensures.opened in let a = c.len.ensures in let b = c.len-before.ensures in omega arith)) c.add_cells.new.store.bank
-    (take (length c.deref.result.now - c.len-before.result) (drop c.len-before.result c.deref.result.now)) c.add_cells.ensures.bank
-    (slice_is c.deref.result.now c.open_leaf.new.terms.items c.len-before.result (length c.args.machine.now.terms.items) c.deref.ensures.value (let e =
-    c.len-before.ensures in omega arith))).table
+unify_leaf-requires-clause-table c =
+    let f = facts (goal.at.unify_leaf-requires-clause-table c).After-deref in f.ready.table
 
 pub unify_leaf-requires-clause-atom : goal.unify_leaf-requires-clause-atom
-unify_leaf-requires-clause-atom c = (ready_in (parts_of c.args.machine.now) c.requires.fits c.args.candidate.label (resource c.args.entry) c.requires.found
-    c.args.rest c.args.candidate.leaf c.open_leaf.new.bank c.open_leaf.new.agenda c.open_leaf.new.terms.items c.in_ok-opened.opened.head
-    c.in_ok-opened.opened.top c.in_ok-opened.ensures.keeps c.in_ok-opened.ensures.opened c.args.atom c.requires.front
-    (table_of c.add_cells.new.store.cells.cells) (cells_bound c.args.machine.now.store.cells.cells c.add_cells.new.store.cells.cells
-    (c.len.result - c.len-before.result) c.in_ok-opened.ensures.opened.count c.args.machine.now.eigens c.in_ok-add_cells.ensures.cells (let n =
-    count_is (parts_of c.args.machine.now) c.requires.fits c.args.candidate.label (resource c.args.entry) c.requires.found c.args.rest c.args.candidate.leaf
-    c.open_leaf.new.bank c.open_leaf.new.agenda c.open_leaf.new.terms.items c.in_ok-opened.opened.head c.in_ok-opened.opened.top c.in_ok-opened.ensures.keeps
-    c.in_ok-opened.ensures.opened in let a = c.len.ensures in let b = c.len-before.ensures in omega arith))
-    (cells_levels c.args.machine.now.store.cells.cells c.add_cells.new.store.cells.cells (c.len.result - c.len-before.result)
-    c.in_ok-opened.ensures.opened.count c.args.machine.now.eigens c.in_ok-add_cells.ensures.cells (let n =
-    count_is (parts_of c.args.machine.now) c.requires.fits c.args.candidate.label (resource c.args.entry) c.requires.found c.args.rest c.args.candidate.leaf
-    c.open_leaf.new.bank c.open_leaf.new.agenda c.open_leaf.new.terms.items c.in_ok-opened.opened.head c.in_ok-opened.opened.top c.in_ok-opened.ensures.keeps
-    c.in_ok-opened.ensures.opened in let a = c.len.ensures in let b = c.len-before.ensures in omega arith)) c.add_cells.new.store.bank
-    (take (length c.deref.result.now - c.len-before.result) (drop c.len-before.result c.deref.result.now)) c.add_cells.ensures.bank
-    (slice_is c.deref.result.now c.open_leaf.new.terms.items c.len-before.result (length c.args.machine.now.terms.items) c.deref.ensures.value (let e =
-    c.len-before.ensures in omega arith))).atom_place
+unify_leaf-requires-clause-atom c =
+    let f = facts (goal.at.unify_leaf-requires-clause-atom c).After-deref in f.ready.atom_place
 
 pub unify_leaf-requires-clause-head : goal.unify_leaf-requires-clause-head
-unify_leaf-requires-clause-head c = (ready_in (parts_of c.args.machine.now) c.requires.fits c.args.candidate.label (resource c.args.entry) c.requires.found
-    c.args.rest c.args.candidate.leaf c.open_leaf.new.bank c.open_leaf.new.agenda c.open_leaf.new.terms.items c.in_ok-opened.opened.head
-    c.in_ok-opened.opened.top c.in_ok-opened.ensures.keeps c.in_ok-opened.ensures.opened c.args.atom c.requires.front
-    (table_of c.add_cells.new.store.cells.cells) (cells_bound c.args.machine.now.store.cells.cells c.add_cells.new.store.cells.cells
-    (c.len.result - c.len-before.result) c.in_ok-opened.ensures.opened.count c.args.machine.now.eigens c.in_ok-add_cells.ensures.cells (let n =
-    count_is (parts_of c.args.machine.now) c.requires.fits c.args.candidate.label (resource c.args.entry) c.requires.found c.args.rest c.args.candidate.leaf
-    c.open_leaf.new.bank c.open_leaf.new.agenda c.open_leaf.new.terms.items c.in_ok-opened.opened.head c.in_ok-opened.opened.top c.in_ok-opened.ensures.keeps
-    c.in_ok-opened.ensures.opened in let a = c.len.ensures in let b = c.len-before.ensures in omega arith))
-    (cells_levels c.args.machine.now.store.cells.cells c.add_cells.new.store.cells.cells (c.len.result - c.len-before.result)
-    c.in_ok-opened.ensures.opened.count c.args.machine.now.eigens c.in_ok-add_cells.ensures.cells (let n =
-    count_is (parts_of c.args.machine.now) c.requires.fits c.args.candidate.label (resource c.args.entry) c.requires.found c.args.rest c.args.candidate.leaf
-    c.open_leaf.new.bank c.open_leaf.new.agenda c.open_leaf.new.terms.items c.in_ok-opened.opened.head c.in_ok-opened.opened.top c.in_ok-opened.ensures.keeps
-    c.in_ok-opened.ensures.opened in let a = c.len.ensures in let b = c.len-before.ensures in omega arith)) c.add_cells.new.store.bank
-    (take (length c.deref.result.now - c.len-before.result) (drop c.len-before.result c.deref.result.now)) c.add_cells.ensures.bank
-    (slice_is c.deref.result.now c.open_leaf.new.terms.items c.len-before.result (length c.args.machine.now.terms.items) c.deref.ensures.value (let e =
-    c.len-before.ensures in omega arith))).head_inside
+unify_leaf-requires-clause-head c =
+    let f = facts (goal.at.unify_leaf-requires-clause-head c).After-deref in f.ready.head_inside
 
 pub unify_leaf-requires-clause-variables : goal.unify_leaf-requires-clause-variables
-unify_leaf-requires-clause-variables c = (ready_in (parts_of c.args.machine.now) c.requires.fits c.args.candidate.label (resource c.args.entry) c.requires.found
-    c.args.rest c.args.candidate.leaf c.open_leaf.new.bank c.open_leaf.new.agenda c.open_leaf.new.terms.items c.in_ok-opened.opened.head
-    c.in_ok-opened.opened.top c.in_ok-opened.ensures.keeps c.in_ok-opened.ensures.opened c.args.atom c.requires.front
-    (table_of c.add_cells.new.store.cells.cells) (cells_bound c.args.machine.now.store.cells.cells c.add_cells.new.store.cells.cells
-    (c.len.result - c.len-before.result) c.in_ok-opened.ensures.opened.count c.args.machine.now.eigens c.in_ok-add_cells.ensures.cells (let n =
-    count_is (parts_of c.args.machine.now) c.requires.fits c.args.candidate.label (resource c.args.entry) c.requires.found c.args.rest c.args.candidate.leaf
-    c.open_leaf.new.bank c.open_leaf.new.agenda c.open_leaf.new.terms.items c.in_ok-opened.opened.head c.in_ok-opened.opened.top c.in_ok-opened.ensures.keeps
-    c.in_ok-opened.ensures.opened in let a = c.len.ensures in let b = c.len-before.ensures in omega arith))
-    (cells_levels c.args.machine.now.store.cells.cells c.add_cells.new.store.cells.cells (c.len.result - c.len-before.result)
-    c.in_ok-opened.ensures.opened.count c.args.machine.now.eigens c.in_ok-add_cells.ensures.cells (let n =
-    count_is (parts_of c.args.machine.now) c.requires.fits c.args.candidate.label (resource c.args.entry) c.requires.found c.args.rest c.args.candidate.leaf
-    c.open_leaf.new.bank c.open_leaf.new.agenda c.open_leaf.new.terms.items c.in_ok-opened.opened.head c.in_ok-opened.opened.top c.in_ok-opened.ensures.keeps
-    c.in_ok-opened.ensures.opened in let a = c.len.ensures in let b = c.len-before.ensures in omega arith)) c.add_cells.new.store.bank
-    (take (length c.deref.result.now - c.len-before.result) (drop c.len-before.result c.deref.result.now)) c.add_cells.ensures.bank
-    (slice_is c.deref.result.now c.open_leaf.new.terms.items c.len-before.result (length c.args.machine.now.terms.items) c.deref.ensures.value (let e =
-    c.len-before.ensures in omega arith))).values_inside
+unify_leaf-requires-clause-variables c =
+    let f = facts (goal.at.unify_leaf-requires-clause-variables c).After-deref in f.ready.values_inside
 
 pub unify_leaf-requires-clause-heads : goal.unify_leaf-requires-clause-heads
-unify_leaf-requires-clause-heads c = (ready_in (parts_of c.args.machine.now) c.requires.fits c.args.candidate.label (resource c.args.entry) c.requires.found
-    c.args.rest c.args.candidate.leaf c.open_leaf.new.bank c.open_leaf.new.agenda c.open_leaf.new.terms.items c.in_ok-opened.opened.head
-    c.in_ok-opened.opened.top c.in_ok-opened.ensures.keeps c.in_ok-opened.ensures.opened c.args.atom c.requires.front
-    (table_of c.add_cells.new.store.cells.cells) (cells_bound c.args.machine.now.store.cells.cells c.add_cells.new.store.cells.cells
-    (c.len.result - c.len-before.result) c.in_ok-opened.ensures.opened.count c.args.machine.now.eigens c.in_ok-add_cells.ensures.cells (let n =
-    count_is (parts_of c.args.machine.now) c.requires.fits c.args.candidate.label (resource c.args.entry) c.requires.found c.args.rest c.args.candidate.leaf
-    c.open_leaf.new.bank c.open_leaf.new.agenda c.open_leaf.new.terms.items c.in_ok-opened.opened.head c.in_ok-opened.opened.top c.in_ok-opened.ensures.keeps
-    c.in_ok-opened.ensures.opened in let a = c.len.ensures in let b = c.len-before.ensures in omega arith))
-    (cells_levels c.args.machine.now.store.cells.cells c.add_cells.new.store.cells.cells (c.len.result - c.len-before.result)
-    c.in_ok-opened.ensures.opened.count c.args.machine.now.eigens c.in_ok-add_cells.ensures.cells (let n =
-    count_is (parts_of c.args.machine.now) c.requires.fits c.args.candidate.label (resource c.args.entry) c.requires.found c.args.rest c.args.candidate.leaf
-    c.open_leaf.new.bank c.open_leaf.new.agenda c.open_leaf.new.terms.items c.in_ok-opened.opened.head c.in_ok-opened.opened.top c.in_ok-opened.ensures.keeps
-    c.in_ok-opened.ensures.opened in let a = c.len.ensures in let b = c.len-before.ensures in omega arith)) c.add_cells.new.store.bank
-    (take (length c.deref.result.now - c.len-before.result) (drop c.len-before.result c.deref.result.now)) c.add_cells.ensures.bank
-    (slice_is c.deref.result.now c.open_leaf.new.terms.items c.len-before.result (length c.args.machine.now.terms.items) c.deref.ensures.value (let e =
-    c.len-before.ensures in omega arith))).heads
+unify_leaf-requires-clause-heads c =
+    let f = facts (goal.at.unify_leaf-requires-clause-heads c).After-deref in f.ready.heads
 
 pub unify_leaf-requires-clause-vars : goal.unify_leaf-requires-clause-vars
-unify_leaf-requires-clause-vars c = (ready_in (parts_of c.args.machine.now) c.requires.fits c.args.candidate.label (resource c.args.entry) c.requires.found
-    c.args.rest c.args.candidate.leaf c.open_leaf.new.bank c.open_leaf.new.agenda c.open_leaf.new.terms.items c.in_ok-opened.opened.head
-    c.in_ok-opened.opened.top c.in_ok-opened.ensures.keeps c.in_ok-opened.ensures.opened c.args.atom c.requires.front
-    (table_of c.add_cells.new.store.cells.cells) (cells_bound c.args.machine.now.store.cells.cells c.add_cells.new.store.cells.cells
-    (c.len.result - c.len-before.result) c.in_ok-opened.ensures.opened.count c.args.machine.now.eigens c.in_ok-add_cells.ensures.cells (let n =
-    count_is (parts_of c.args.machine.now) c.requires.fits c.args.candidate.label (resource c.args.entry) c.requires.found c.args.rest c.args.candidate.leaf
-    c.open_leaf.new.bank c.open_leaf.new.agenda c.open_leaf.new.terms.items c.in_ok-opened.opened.head c.in_ok-opened.opened.top c.in_ok-opened.ensures.keeps
-    c.in_ok-opened.ensures.opened in let a = c.len.ensures in let b = c.len-before.ensures in omega arith))
-    (cells_levels c.args.machine.now.store.cells.cells c.add_cells.new.store.cells.cells (c.len.result - c.len-before.result)
-    c.in_ok-opened.ensures.opened.count c.args.machine.now.eigens c.in_ok-add_cells.ensures.cells (let n =
-    count_is (parts_of c.args.machine.now) c.requires.fits c.args.candidate.label (resource c.args.entry) c.requires.found c.args.rest c.args.candidate.leaf
-    c.open_leaf.new.bank c.open_leaf.new.agenda c.open_leaf.new.terms.items c.in_ok-opened.opened.head c.in_ok-opened.opened.top c.in_ok-opened.ensures.keeps
-    c.in_ok-opened.ensures.opened in let a = c.len.ensures in let b = c.len-before.ensures in omega arith)) c.add_cells.new.store.bank
-    (take (length c.deref.result.now - c.len-before.result) (drop c.len-before.result c.deref.result.now)) c.add_cells.ensures.bank
-    (slice_is c.deref.result.now c.open_leaf.new.terms.items c.len-before.result (length c.args.machine.now.terms.items) c.deref.ensures.value (let e =
-    c.len-before.ensures in omega arith))).vars
+unify_leaf-requires-clause-vars c =
+    let f = facts (goal.at.unify_leaf-requires-clause-vars c).After-deref in f.ready.vars
 
 pub unify_leaf-requires-clause-new : goal.unify_leaf-requires-clause-new
-unify_leaf-requires-clause-new c = λ x l. (ready_in (parts_of c.args.machine.now) c.requires.fits c.args.candidate.label (resource c.args.entry)
-    c.requires.found c.args.rest c.args.candidate.leaf c.open_leaf.new.bank c.open_leaf.new.agenda c.open_leaf.new.terms.items c.in_ok-opened.opened.head
-    c.in_ok-opened.opened.top c.in_ok-opened.ensures.keeps c.in_ok-opened.ensures.opened c.args.atom c.requires.front
-    (table_of c.add_cells.new.store.cells.cells) (cells_bound c.args.machine.now.store.cells.cells c.add_cells.new.store.cells.cells
-    (c.len.result - c.len-before.result) c.in_ok-opened.ensures.opened.count c.args.machine.now.eigens c.in_ok-add_cells.ensures.cells (let n =
-    count_is (parts_of c.args.machine.now) c.requires.fits c.args.candidate.label (resource c.args.entry) c.requires.found c.args.rest c.args.candidate.leaf
-    c.open_leaf.new.bank c.open_leaf.new.agenda c.open_leaf.new.terms.items c.in_ok-opened.opened.head c.in_ok-opened.opened.top c.in_ok-opened.ensures.keeps
-    c.in_ok-opened.ensures.opened in let a = c.len.ensures in let b = c.len-before.ensures in omega arith))
-    (cells_levels c.args.machine.now.store.cells.cells c.add_cells.new.store.cells.cells (c.len.result - c.len-before.result)
-    c.in_ok-opened.ensures.opened.count c.args.machine.now.eigens c.in_ok-add_cells.ensures.cells (let n =
-    count_is (parts_of c.args.machine.now) c.requires.fits c.args.candidate.label (resource c.args.entry) c.requires.found c.args.rest c.args.candidate.leaf
-    c.open_leaf.new.bank c.open_leaf.new.agenda c.open_leaf.new.terms.items c.in_ok-opened.opened.head c.in_ok-opened.opened.top c.in_ok-opened.ensures.keeps
-    c.in_ok-opened.ensures.opened in let a = c.len.ensures in let b = c.len-before.ensures in omega arith)) c.add_cells.new.store.bank
-    (take (length c.deref.result.now - c.len-before.result) (drop c.len-before.result c.deref.result.now)) c.add_cells.ensures.bank
-    (slice_is c.deref.result.now c.open_leaf.new.terms.items c.len-before.result (length c.args.machine.now.terms.items) c.deref.ensures.value (let e =
-    c.len-before.ensures in omega arith))).apart x (let e = c.len-before.ensures in omega arith)
+unify_leaf-requires-clause-new c = λ x l.
+    let f = facts (goal.at.unify_leaf-requires-clause-new c).After-deref in f.ready.apart x (let e = c.len-before.ensures in omega arith)
 
 pub use_entry-requires-clause-found : goal.use_entry-requires-clause-found
 use_entry-requires-clause-found c = c.requires.found
@@ -173,38 +87,9 @@ overflow_sub-machine c = let l = c.requires.left in omega arith
 
 pub returns-then-not-branch-clause-attempts : goal.returns-then-not-branch-clause-attempts
 returns-then-not-branch-clause-attempts c =
-    none_taken (parts_of c.args.machine.now) c.requires.fits c.args.candidate.label (resource c.args.entry) c.requires.found c.args.rest c.args.candidate.leaf
-    c.open_leaf.new.bank c.open_leaf.new.agenda c.open_leaf.new.terms.items c.in_ok-opened.opened.head c.in_ok-opened.opened.top
-    c.in_ok-opened.ensures.keeps c.in_ok-opened.ensures.opened c.args.atom c.requires.front (table_of c.add_cells.new.store.cells.cells)
-    (cells_bound c.args.machine.now.store.cells.cells c.add_cells.new.store.cells.cells (c.len.result - c.len-before.result)
-    c.in_ok-opened.ensures.opened.count c.args.machine.now.eigens c.in_ok-add_cells.ensures.cells (let n =
-    count_is (parts_of c.args.machine.now) c.requires.fits c.args.candidate.label (resource c.args.entry) c.requires.found c.args.rest c.args.candidate.leaf
-    c.open_leaf.new.bank c.open_leaf.new.agenda c.open_leaf.new.terms.items c.in_ok-opened.opened.head c.in_ok-opened.opened.top
-    c.in_ok-opened.ensures.keeps c.in_ok-opened.ensures.opened in let a = c.len.ensures in let b = c.len-before.ensures in omega arith))
-    (cells_levels c.args.machine.now.store.cells.cells c.add_cells.new.store.cells.cells (c.len.result - c.len-before.result)
-    c.in_ok-opened.ensures.opened.count c.args.machine.now.eigens c.in_ok-add_cells.ensures.cells (let n =
-    count_is (parts_of c.args.machine.now) c.requires.fits c.args.candidate.label (resource c.args.entry) c.requires.found c.args.rest c.args.candidate.leaf
-    c.open_leaf.new.bank c.open_leaf.new.agenda c.open_leaf.new.terms.items c.in_ok-opened.opened.head c.in_ok-opened.opened.top
-    c.in_ok-opened.ensures.keeps c.in_ok-opened.ensures.opened in let a = c.len.ensures in let b = c.len-before.ensures in omega arith))
-    c.unify_leaf.new.store.bank (table_of c.unify_leaf.new.store.cells.cells)
-    (finds_in (parts_of c.args.machine.now) c.requires.fits c.args.candidate.label (resource c.args.entry) c.requires.found c.args.rest c.args.candidate.leaf
-    c.open_leaf.new.bank c.open_leaf.new.agenda c.open_leaf.new.terms.items c.in_ok-opened.opened.head c.in_ok-opened.opened.top
-    c.in_ok-opened.ensures.keeps c.in_ok-opened.ensures.opened c.args.atom c.requires.front (table_of c.add_cells.new.store.cells.cells)
-    (cells_bound c.args.machine.now.store.cells.cells c.add_cells.new.store.cells.cells (c.len.result - c.len-before.result)
-    c.in_ok-opened.ensures.opened.count c.args.machine.now.eigens c.in_ok-add_cells.ensures.cells (let n =
-    count_is (parts_of c.args.machine.now) c.requires.fits c.args.candidate.label (resource c.args.entry) c.requires.found c.args.rest c.args.candidate.leaf
-    c.open_leaf.new.bank c.open_leaf.new.agenda c.open_leaf.new.terms.items c.in_ok-opened.opened.head c.in_ok-opened.opened.top
-    c.in_ok-opened.ensures.keeps c.in_ok-opened.ensures.opened in let a = c.len.ensures in let b = c.len-before.ensures in omega arith))
-    (cells_levels c.args.machine.now.store.cells.cells c.add_cells.new.store.cells.cells (c.len.result - c.len-before.result)
-    c.in_ok-opened.ensures.opened.count c.args.machine.now.eigens c.in_ok-add_cells.ensures.cells (let n =
-    count_is (parts_of c.args.machine.now) c.requires.fits c.args.candidate.label (resource c.args.entry) c.requires.found c.args.rest c.args.candidate.leaf
-    c.open_leaf.new.bank c.open_leaf.new.agenda c.open_leaf.new.terms.items c.in_ok-opened.opened.head c.in_ok-opened.opened.top
-    c.in_ok-opened.ensures.keeps c.in_ok-opened.ensures.opened in let a = c.len.ensures in let b = c.len-before.ensures in omega arith))
-    c.add_cells.new.store.bank c.unify_leaf.new.store.bank
-    (take (length c.deref.result.now - c.len-before.result) (drop c.len-before.result c.deref.result.now)) (table_of c.unify_leaf.new.store.cells.cells)
-    c.in_ok-unify_leaf.field-0 false c.add_cells.ensures.bank
-    (slice_is c.deref.result.now c.open_leaf.new.terms.items c.len-before.result (length c.args.machine.now.terms.items) c.deref.ensures.value (let e =
-    c.len-before.ensures in omega arith)) (c.if-not-branch.true) c.in_ok-unify_leaf.ensures.found)
+    let f = facts (goal.at.returns-then-not-branch-clause-attempts c).After-deref in
+    f.none c.unify_leaf.new.store.bank (table_of c.unify_leaf.new.store.cells.cells) c.in_ok-unify_leaf.field-0 c.if-not-branch.true
+    c.in_ok-unify_leaf.ensures.found
 
 pub returns-then-not-branch-clause-later : goal.returns-then-not-branch-clause-later
 returns-then-not-branch-clause-later c =
@@ -215,20 +100,9 @@ returns-then-not-branch-clause-later c =
 
 pub returns-clause-attempts : goal.returns-clause-attempts
 returns-clause-attempts c =
-    some_taken (parts_of c.args.machine.now) c.requires.fits c.args.candidate.label (resource c.args.entry) c.requires.found c.args.rest c.args.candidate.leaf
-    c.open_leaf.new.bank c.open_leaf.new.agenda c.open_leaf.new.terms.items c.in_ok-opened.opened.head c.in_ok-opened.opened.top
-    c.in_ok-opened.ensures.keeps c.in_ok-opened.ensures.opened c.args.atom c.requires.front (table_of c.add_cells.new.store.cells.cells)
-    (cells_bound c.args.machine.now.store.cells.cells c.add_cells.new.store.cells.cells (c.len.result - c.len-before.result)
-    c.in_ok-opened.ensures.opened.count c.args.machine.now.eigens c.in_ok-add_cells.ensures.cells (let n =
-    count_is (parts_of c.args.machine.now) c.requires.fits c.args.candidate.label (resource c.args.entry) c.requires.found c.args.rest c.args.candidate.leaf
-    c.open_leaf.new.bank c.open_leaf.new.agenda c.open_leaf.new.terms.items c.in_ok-opened.opened.head c.in_ok-opened.opened.top
-    c.in_ok-opened.ensures.keeps c.in_ok-opened.ensures.opened in let a = c.len.ensures in let b = c.len-before.ensures in omega arith))
-    (cells_levels c.args.machine.now.store.cells.cells c.add_cells.new.store.cells.cells (c.len.result - c.len-before.result)
-    c.in_ok-opened.ensures.opened.count c.args.machine.now.eigens c.in_ok-add_cells.ensures.cells (let n =
-    count_is (parts_of c.args.machine.now) c.requires.fits c.args.candidate.label (resource c.args.entry) c.requires.found c.args.rest c.args.candidate.leaf
-    c.open_leaf.new.bank c.open_leaf.new.agenda c.open_leaf.new.terms.items c.in_ok-opened.opened.head c.in_ok-opened.opened.top
-    c.in_ok-opened.ensures.keeps c.in_ok-opened.ensures.opened in let a = c.len.ensures in let b = c.len-before.ensures in omega arith))
-    c.unify_leaf.new.store.bank (table_of c.unify_leaf.new.store.cells.cells) _
+    let f = facts (goal.at.returns-clause-attempts c).After-deref in
+    f.some c.unify_leaf.new.store.bank (table_of c.unify_leaf.new.store.cells.cells) _ c.in_ok-unify_leaf.field-0 c.if-not-branch.false
+    c.in_ok-unify_leaf.ensures.found
     (record {
       problem = refl;
       modules = refl;
@@ -244,24 +118,6 @@ returns-clause-attempts c =
       steps = c.in_ok-push.ensures.items;
       left = (let l = c.requires.left in omega arith);
     })
-    (finds_in (parts_of c.args.machine.now) c.requires.fits c.args.candidate.label (resource c.args.entry) c.requires.found c.args.rest c.args.candidate.leaf
-    c.open_leaf.new.bank c.open_leaf.new.agenda c.open_leaf.new.terms.items c.in_ok-opened.opened.head c.in_ok-opened.opened.top
-    c.in_ok-opened.ensures.keeps c.in_ok-opened.ensures.opened c.args.atom c.requires.front (table_of c.add_cells.new.store.cells.cells)
-    (cells_bound c.args.machine.now.store.cells.cells c.add_cells.new.store.cells.cells (c.len.result - c.len-before.result)
-    c.in_ok-opened.ensures.opened.count c.args.machine.now.eigens c.in_ok-add_cells.ensures.cells (let n =
-    count_is (parts_of c.args.machine.now) c.requires.fits c.args.candidate.label (resource c.args.entry) c.requires.found c.args.rest c.args.candidate.leaf
-    c.open_leaf.new.bank c.open_leaf.new.agenda c.open_leaf.new.terms.items c.in_ok-opened.opened.head c.in_ok-opened.opened.top
-    c.in_ok-opened.ensures.keeps c.in_ok-opened.ensures.opened in let a = c.len.ensures in let b = c.len-before.ensures in omega arith))
-    (cells_levels c.args.machine.now.store.cells.cells c.add_cells.new.store.cells.cells (c.len.result - c.len-before.result)
-    c.in_ok-opened.ensures.opened.count c.args.machine.now.eigens c.in_ok-add_cells.ensures.cells (let n =
-    count_is (parts_of c.args.machine.now) c.requires.fits c.args.candidate.label (resource c.args.entry) c.requires.found c.args.rest c.args.candidate.leaf
-    c.open_leaf.new.bank c.open_leaf.new.agenda c.open_leaf.new.terms.items c.in_ok-opened.opened.head c.in_ok-opened.opened.top
-    c.in_ok-opened.ensures.keeps c.in_ok-opened.ensures.opened in let a = c.len.ensures in let b = c.len-before.ensures in omega arith))
-    c.add_cells.new.store.bank c.unify_leaf.new.store.bank
-    (take (length c.deref.result.now - c.len-before.result) (drop c.len-before.result c.deref.result.now)) (table_of c.unify_leaf.new.store.cells.cells)
-    c.in_ok-unify_leaf.field-0 true c.add_cells.ensures.bank
-    (slice_is c.deref.result.now c.open_leaf.new.terms.items c.len-before.result (length c.args.machine.now.terms.items) c.deref.ensures.value (let e =
-    c.len-before.ensures in omega arith)) (c.if-not-branch.false) c.in_ok-unify_leaf.ensures.found)
 
 pub returns-clause-later : goal.returns-clause-later
 returns-clause-later c =

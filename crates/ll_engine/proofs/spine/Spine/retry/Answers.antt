@@ -1,62 +1,50 @@
-use Rattle.std.proofs.Common.{sym, subst, List, reverse, ◌-◌}
+use Rattle.std.proofs.Common.{◌≡◌, sym, subst, false, List, [], ◌∷◌, ◌++◌, reverse, ◌-◌}
 use Rattle.ll_freeze.specs.Parts.{Parts, parts_of}
-use Rattle.ll_engine.specs.Pointed.{Held, held_of, helds, spine_at, spine_of, first_of, points_of, IsOpen, AreTries, AreKept}
+use Rattle.ll_engine.specs.declared.spine.Kept.{Kept}
+use Rattle.ll_engine.specs.declared.spine.Spine.{Spine as Stored}
+use Rattle.ll_engine.specs.Pointed.{Held, held_of, helds, spine_at, spine_of, first_of, points_of, IsOpen, AreTries, AreKept, IsSound}
 use Rattle.ll_laws.specs.declared.Candidate.{Candidate}
 use Rattle.ll_freeze.specs.Shown.{state_of}
 use Rattle.ll_engine.specs.Turned.{Chose}
 use Rattle.ll_engine.proofs.machine.Basing.{based_undone}
-use Rattle.ll_engine.proofs.turns.Pointing.{popped, popped_kept, popped_tries, popped_open, popped_some, none_left, helds_undone, marks_undone, retries_by}
+use Rattle.ll_engine.proofs.turns.Pointing.{Popped, popped, none_left, helds_undone, marks_undone, retries_by}
 use Rattle.ll_engine.proofs.spine.Spine.retry.Goals as goal
 
+-- what is known of the point that was taken off
+newest : (z : Stored) (qs : List Kept) (k : Kept) → z.points.items ≡ qs ++ k ∷ [] → IsSound false z → Popped z.problem.now z.machine z.points.items qs k
+newest z qs k e s = popped z.problem.now z.machine z.points.items qs k e s.marks s.sound.points
+
 pub undo-requires : goal.undo-requires
-undo-requires c = let w = (popped c.args.self.now.machine c.args.self.now.points.items c.pop_back.new.self.items c.in-Some.kept c.in-Some.ensures.items
-    c.requires.sound.marks) in w.good
+undo-requires c = (newest c.args.self.now c.pop_back.new.self.items c.in-Some.kept c.in-Some.ensures.items c.requires.sound).good
 
 pub choose-requires-clause-open : goal.choose-requires-clause-open
 choose-requires-clause-open c =
-    let z = c.args.self.now in
-    let w = (popped c.args.self.now.machine c.args.self.now.points.items c.pop_back.new.self.items c.in-Some.kept c.in-Some.ensures.items
-    c.requires.sound.marks) in
-    subst (λ (p : Parts). IsOpen z.problem.now p) (sym c.undo.ensures.parts)
-    (popped_open z.problem.now (helds z.machine z.points.items) (helds z.machine c.pop_back.new.self.items) (held_of z.machine c.in-Some.kept) w.list
-    c.requires.sound.sound.points)
+    let w = newest c.args.self.now c.pop_back.new.self.items c.in-Some.kept c.in-Some.ensures.items c.requires.sound in
+    subst (λ (p : Parts). IsOpen c.args.self.now.problem.now p) (sym c.undo.ensures.parts) w.kept.opened
 
 pub choose-requires-clause-tries : goal.choose-requires-clause-tries
 choose-requires-clause-tries c =
-    let z = c.args.self.now in
-    let w = (popped c.args.self.now.machine c.args.self.now.points.items c.pop_back.new.self.items c.in-Some.kept c.in-Some.ensures.items
-    c.requires.sound.marks) in
+    let w = newest c.args.self.now c.pop_back.new.self.items c.in-Some.kept c.in-Some.ensures.items c.requires.sound in
     subst (λ (cs : List Candidate). AreTries (parts_of c.undo.new.self) cs) c.in-Some-pop.ensures.items
-    (subst (λ (p : Parts). AreTries p c.in-Some.kept.untried.items) (sym c.undo.ensures.parts)
-    (popped_tries z.problem.now (helds z.machine z.points.items) (helds z.machine c.pop_back.new.self.items) (held_of z.machine c.in-Some.kept) w.list
-    c.requires.sound.sound.points))
+    (subst (λ (p : Parts). AreTries p c.in-Some.kept.untried.items) (sym c.undo.ensures.parts) w.kept.tries)
 
 pub unreachable-requires-in_default-pop : goal.unreachable-requires-in_default-pop
 unreachable-requires-in_default-pop c =
-    let z = c.args.self.now in
-    let w = (popped c.args.self.now.machine c.args.self.now.points.items c.pop_back.new.self.items c.in-Some.kept c.in-Some.ensures.items
-    c.requires.sound.marks) in
-    popped_some z.problem.now (helds z.machine z.points.items) (helds z.machine c.pop_back.new.self.items) (held_of z.machine c.in-Some.kept) w.list
-    c.requires.sound.sound.points
-    (none_left c.in-Some.kept.untried.items c.in-Some.kept.untried.len c.in-Some.kept.untried.ok.0 c.in_default-pop.ensures.cases.0)
+    let w = newest c.args.self.now c.pop_back.new.self.items c.in-Some.kept c.in-Some.ensures.items c.requires.sound in
+    w.kept.some (none_left c.in-Some.kept.untried.items c.in-Some.kept.untried.len c.in-Some.kept.untried.ok.0 c.in_default-pop.ensures.cases.0)
 
 pub choose-requires-clause-points : goal.choose-requires-clause-points
 choose-requires-clause-points c =
     let z = c.args.self.now in
-    let w = (popped c.args.self.now.machine c.args.self.now.points.items c.pop_back.new.self.items c.in-Some.kept c.in-Some.ensures.items
-    c.requires.sound.marks) in
+    let w = newest c.args.self.now c.pop_back.new.self.items c.in-Some.kept c.in-Some.ensures.items c.requires.sound in
     subst (λ (hs : List Held). AreKept z.problem.now hs) (sym
-    (helds_undone z.machine c.undo.new.self c.in-Some.kept.mark c.pop_back.new.self.items c.undo.ensures.marks w.goods w.before))
-    (popped_kept z.problem.now (helds z.machine z.points.items) (helds z.machine c.pop_back.new.self.items) (held_of z.machine c.in-Some.kept) w.list
-    c.requires.sound.sound.points)
+    (helds_undone z.machine c.undo.new.self c.in-Some.kept.mark c.pop_back.new.self.items c.undo.ensures.marks w.goods w.before)) w.others
 
 pub choose-requires-clause-marks : goal.choose-requires-clause-marks
 choose-requires-clause-marks c =
-    let z = c.args.self.now in
-    let w = (popped c.args.self.now.machine c.args.self.now.points.items c.pop_back.new.self.items c.in-Some.kept c.in-Some.ensures.items
-    c.requires.sound.marks) in
+    let w = newest c.args.self.now c.pop_back.new.self.items c.in-Some.kept c.in-Some.ensures.items c.requires.sound in
     record {
-      good = marks_undone z.machine c.undo.new.self c.in-Some.kept.mark c.pop_back.new.self.items c.undo.ensures.marks w.goods w.before;
+      good = marks_undone c.args.self.now.machine c.undo.new.self c.in-Some.kept.mark c.pop_back.new.self.items c.undo.ensures.marks w.goods w.before;
       rise = w.rises;
     }
 
@@ -69,8 +57,7 @@ choose-requires-clause-based c =
 pub returns-clause-retries : goal.returns-clause-retries
 returns-clause-retries c =
     let z = c.args.self.now in
-    let w = (popped c.args.self.now.machine c.args.self.now.points.items c.pop_back.new.self.items c.in-Some.kept c.in-Some.ensures.items
-    c.requires.sound.marks) in
+    let w = newest c.args.self.now c.pop_back.new.self.items c.in-Some.kept c.in-Some.ensures.items c.requires.sound in
     let m = parts_of c.undo.new.self in let ps = helds c.undo.new.self c.pop_back.new.self.items in
     let chose =
     subst (λ (cs : List Candidate). Chose (spine_at (first_of z) z.problem.now m ps) (state_of m) (c.undo.new.self.left - 1) (reverse cs) (points_of ps)

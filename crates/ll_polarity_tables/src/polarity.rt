@@ -139,31 +139,39 @@ fn parts(rt: HostRuntime) -> Result<(), Fail> {
     Ok(())
 }
 
-#[test]
-fn a_problem(rt: HostRuntime) -> Result<(), Fail> {
-    let problem = asked(rt.alloc(), b"q a. MODULE m X.", b"m a --> p Y _ X , q Y")?;
-    assert_eq!(rt; problem.names.len(), 6);
-    assert_eq!(rt;
-        problem.asked.as_slice(),
-        [Some(4), None, Some(5)].as_slice()
-    );
-    assert!(rt; matches!(problem.bank.form_at(problem.goal), FormNode::Use(0, ..)));
-    Ok(())
+// The sign of a goal that tests or computes numbers, `-->` for a goal under the first module, and nothing for any other goal.
+fn sign_of(problem: &Problem) -> &'static str {
+    match problem.bank.form_at(problem.goal) {
+        FormNode::Use(0, ..) => "-->",
+        FormNode::Is(..) => "is",
+        FormNode::Less(..) => "<",
+        FormNode::Most(..) => "=<",
+        _ => "",
+    }
 }
 
-// Queries of an empty program, whether the goal of each is the one that is wanted, and the numbers of the names that it asks for.
+// Programs, a query of each, and what their problem has: the sign of its goal, how many names there are, and the numbers of the names that
+// the query asks for.
+const PROBLEMS: [(&str, &str, &str, usize, &[Option<u32>]); 4] = [
+    (
+        "q a. MODULE m X.",
+        "m a --> p Y _ X , q Y",
+        "-->",
+        6,
+        &[Some(4), None, Some(5)],
+    ),
+    ("", "Y is X * 2 - Y", "is", 4, &[Some(2), Some(3)]),
+    ("", "_ + X < 2", "<", 2, &[None, Some(1)]),
+    ("", "1 =< X", "=<", 1, &[Some(0)]),
+];
+
 #[test]
-fn whole_number_goals(rt: HostRuntime) -> Result<(), Fail> {
-    let alloc = rt.alloc();
-    let problem = asked(alloc, b"", b"Y is X * 2 - Y")?;
-    assert!(rt; matches!(problem.bank.form_at(problem.goal), FormNode::Is(..)));
-    assert_eq!(rt; problem.names.len(), 4);
-    assert_eq!(rt; problem.asked.as_slice(), [Some(2), Some(3)].as_slice());
-    let problem = asked(alloc, b"", b"_ + X < 2")?;
-    assert!(rt; matches!(problem.bank.form_at(problem.goal), FormNode::Less(..)));
-    assert_eq!(rt; problem.asked.as_slice(), [None, Some(1)].as_slice());
-    let problem = asked(alloc, b"", b"1 =< X")?;
-    assert!(rt; matches!(problem.bank.form_at(problem.goal), FormNode::Most(..)));
-    assert_eq!(rt; problem.asked.as_slice(), [Some(0)].as_slice());
+fn problems(rt: HostRuntime) -> Result<(), Fail> {
+    for (program, query, sign, names, wanted) in PROBLEMS {
+        let problem = asked(rt.alloc(), program.as_bytes(), query.as_bytes())?;
+        assert_eq!(rt; sign_of(&problem), sign, "of {query}");
+        assert_eq!(rt; problem.names.len(), names, "of {query}");
+        assert_eq!(rt; problem.asked.as_slice(), wanted, "of {query}");
+    }
     Ok(())
 }

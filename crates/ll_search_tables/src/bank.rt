@@ -41,18 +41,24 @@ fn shares_names(rt: HostRuntime) -> Result<(), Fail> {
     Ok(())
 }
 
+fn assert_term(rt: &impl Abort, bank: &Bank, at: At, want: TermView<'_>)
+    requires { HasTerm bank.now at.0 }
+{
+    assert_eq!(rt; bank.term_at(at), want);
+}
+
 #[test]
 fn reads_terms_back(rt: HostRuntime) -> Result<(), Fail> {
     let mut bank = Bank::new(rt.alloc());
     let variable = bank.var(7)?;
     let number = bank.int(-3)?;
     let name = bank.app(Head::Name(0), &[])?;
-    let pair = bank.app(Head::Eigen(1), &[variable, number, name])?;
-    assert_eq!(rt; bank.term_at(variable), TermView::Var(7));
-    assert_eq!(rt; bank.term_at(number), TermView::Int(-3));
-    assert_eq!(rt; bank.term_at(name), TermView::App(Head::Name(0), &[]));
     let args = [variable, number, name];
-    assert_eq!(rt; bank.term_at(pair), TermView::App(Head::Eigen(1), &args));
+    let pair = bank.app(Head::Eigen(1), &args)?;
+    assert_term(&rt, &bank, variable, TermView::Var(7));
+    assert_term(&rt, &bank, number, TermView::Int(-3));
+    assert_term(&rt, &bank, name, TermView::App(Head::Name(0), &[]));
+    assert_term(&rt, &bank, pair, TermView::App(Head::Eigen(1), &args));
     Ok(())
 }
 

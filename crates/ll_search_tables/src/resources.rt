@@ -1,10 +1,10 @@
 //! Each public call with ample memory, and its answer.
 ghost use Rattle.std.specs.Prelude.{◌≡◌, ◌<◌, ◌^◌, length, OnOk, IfOk};
 ghost use Rattle.ll_resources.specs.Resources.{Fits};
-ghost use Rattle.ll_resources.specs.History.{KeepsMarks};
+ghost use Rattle.ll_resources.specs.History.{HasMark, KeepsMarks, state_at};
 
 use ll_laws::Kind;
-use ll_resources::{Context, Entry, Saved};
+use ll_resources::{Context, ContextMark, Entry, Saved};
 use std::alloc::Global;
 use std::process::Abort;
 use std::test::Fail;
@@ -256,6 +256,42 @@ fn assert_state(rt: &impl Abort, context: &Context<u32>, live: &[bool], flag: bo
     assert_eq!(rt; context.flag(), flag);
 }
 
+/// An image at a mark of the second side: it has the live marks of that side, and what its middle kept can be put back.
+fn assert_image(
+    rt: &impl Abort,
+    context: &Context<u32>,
+    mark: ContextMark,
+    half: Saved,
+    erased: bool,
+) -> Result<(), Fail>
+    requires mark { HasMark mark context.now }
+    requires half { Fits half (state_at mark context.now) }
+{
+    let mut image = context.image(mark)?;
+    assert_state(rt, &image, &[true, false], erased);
+    image.bang_end(half)?;
+    assert_state(rt, &image, &[false, false], false);
+    Ok(())
+}
+
+/// The same of the context itself, which goes back to the mark.
+fn assert_undo(
+    rt: &impl Abort,
+    context: &mut Context<u32>,
+    mark: ContextMark,
+    half: Saved,
+    erased: bool,
+) -> Result<(), Fail>
+    requires mark { HasMark mark context.old }
+    requires half { Fits half (state_at mark context.old) }
+{
+    context.undo(mark);
+    assert_state(rt, context, &[true, false], erased);
+    context.bang_end(half)?;
+    assert_state(rt, context, &[false, false], false);
+    Ok(())
+}
+
 /// Makes a call after a mark, which gives these live marks and this flag, and goes back to the mark in an image and by `undo`.
 fn go_back(
     rt: &impl Abort,
@@ -266,47 +302,37 @@ fn go_back(
     flag: bool,
 ) -> Result<(), Fail> {
     let (mut context, saved, half) = second_side(rt, alloc, erased)?;
-    let first = [true, false];
-    assert_state(rt, &context, &first, erased);
+    assert_state(rt, &context, &[true, false], erased);
     let mark = context.mark();
     make_call(rt, &mut context, call, saved, half)?;
     assert_state(rt, &context, live, flag);
-    let mut image = context.image(mark)?;
-    assert_state(rt, &image, &first, erased);
-    image.bang_end(half)?;
-    assert_state(rt, &image, &[false, false], false);
-    context.undo(mark);
-    assert_state(rt, &context, &first, erased);
-    context.bang_end(half)?;
-    assert_state(rt, &context, &[false, false], false);
-    Ok(())
+    assert_image(rt, &context, mark, half, erased)?;
+    assert_undo(rt, &mut context, mark, half, erased)
 }
+
+/// Whether the second side erases, a call after it, and the live marks and the flag that the call gives.
+const CALLS: [(bool, Call, &[bool], bool); 11] = [
+    (true, Call::Load(Kind::Linear), &[true, true, false], false),
+    (
+        true,
+        Call::Load(Kind::Unbounded),
+        &[false, true, false],
+        true,
+    ),
+    (false, Call::PickFront, &[false, false], false),
+    (false, Call::Erase, &[true, false], true),
+    (true, Call::Close(false), &[false], true),
+    (false, Call::Close(true), &[true, false], false),
+    (true, Call::Save, &[true, false], false),
+    (true, Call::Bang, &[false, false], true),
+    (true, Call::BangEnd, &[false, false], false),
+    (true, Call::WithMid, &[false, false], false),
+    (true, Call::WithEnd, &[false, false], false),
+];
 
 #[test]
 fn goes_back_after_calls(rt: HostRuntime) -> Result<(), Fail> {
-    for (erased, call, live, flag) in [
-        (
-            true,
-            Call::Load(Kind::Linear),
-            [true, true, false].as_slice(),
-            false,
-        ),
-        (
-            true,
-            Call::Load(Kind::Unbounded),
-            [false, true, false].as_slice(),
-            true,
-        ),
-        (false, Call::PickFront, [false, false].as_slice(), false),
-        (false, Call::Erase, [true, false].as_slice(), true),
-        (true, Call::Close(false), [false].as_slice(), true),
-        (false, Call::Close(true), [true, false].as_slice(), false),
-        (true, Call::Save, [true, false].as_slice(), false),
-        (true, Call::Bang, [false, false].as_slice(), true),
-        (true, Call::BangEnd, [false, false].as_slice(), false),
-        (true, Call::WithMid, [false, false].as_slice(), false),
-        (true, Call::WithEnd, [false, false].as_slice(), false),
-    ] {
+    for (erased, call, live, flag) in CALLS {
         go_back(&rt, rt.alloc(), erased, call, live, flag)?;
     }
     Ok(())

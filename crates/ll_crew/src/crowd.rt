@@ -21,6 +21,7 @@ use ll_pool::{Seat, SharedPool};
 use std::alloc::Global;
 use std::snapshot::Snapshot;
 use std::sync::Wait;
+use std::sync::atomic::AtomicU64;
 use std::thread::{Threads, join};
 
 // A worker that tells nothing: its seat, and all that it works with.
@@ -33,6 +34,7 @@ struct Hand<'a, 'p, R, G> {
     bell: &'a Bell,
     gate: &'a G,
     sharing: Sharing,
+    came_back: &'a AtomicU64,
     seat: Seat<Frozen<'p>>,
 }
 
@@ -46,7 +48,29 @@ struct Crowd<'a, 'p, R, G> {
     bell: &'a Bell,
     gate: &'a G,
     sharing: Sharing,
+    came_back: &'a AtomicU64,
     seats: Vec<Seat<Frozen<'p>>>,
+}
+
+impl<'a, 'p, R, G> Crowd<'a, 'p, R, G> {
+    // One of them, with this seat.
+    fn hand(&self, seat: Seat<Frozen<'p>>) -> Hand<'a, 'p, R, G>
+        ensures pool { result.pool.now ≡ self.now.pool.now }
+        ensures problem { result.problem.now ≡ self.now.problem.now }
+        ensures seat { result.seat ≡ seat.entry }
+    {
+        Hand {
+            rt: self.rt,
+            alloc: self.alloc,
+            problem: self.problem,
+            pool: self.pool,
+            bell: self.bell,
+            gate: self.gate,
+            sharing: self.sharing,
+            came_back: self.came_back,
+            seat,
+        }
+    }
 }
 
 // The work of a worker that tells nothing.
@@ -62,6 +86,7 @@ fn help<'a, 'p, R: Wait, G: Gate>(hand: Hand<'a, 'p, R, G>) -> Seat<Frozen<'p>>
         bell,
         gate,
         sharing,
+        came_back,
         mut seat,
     } = hand;
     let mut mute = Mute;
@@ -74,6 +99,7 @@ fn help<'a, 'p, R: Wait, G: Gate>(hand: Hand<'a, 'p, R, G>) -> Seat<Frozen<'p>>
         pool,
         bell,
         sharing,
+        came_back,
         start: &start,
     };
     let _done = work_as(&job, gate, &mut seat, &mut told, &mut mute);
@@ -82,53 +108,25 @@ fn help<'a, 'p, R: Wait, G: Gate>(hand: Hand<'a, 'p, R, G>) -> Seat<Frozen<'p>>
 
 // The work of some workers, each in a thread of its own where one can be made.
 fn work_all<'a, 'p, R: Threads + Wait + Sync, G: Gate>(
-    crowd: Crowd<'a, 'p, R, G>,
+    mut crowd: Crowd<'a, 'p, R, G>,
 ) -> Vec<Seat<Frozen<'p>>>
     requires { Every (CanWork crowd.pool.now crowd.problem.now) crowd.seats.items }
     ensures each { EachWorked crowd.entry.seats.items result.items }
     ensures len { vec_len result ≡ vec_len crowd.entry.seats }
     ensures room { vec_capacity crowd.entry.seats ≤ vec_capacity result }
 {
-    let Crowd {
-        rt,
-        alloc,
-        problem,
-        pool,
-        bell,
-        gate,
-        sharing,
-        mut seats,
-    } = crowd;
-    let Some(seat) = seats.pop() else {
-        return seats;
+    let Some(seat) = crowd.seats.pop() else {
+        return crowd.seats;
     };
-    let hand = Hand {
-        rt,
-        alloc,
-        problem,
-        pool,
-        bell,
-        gate,
-        sharing,
-        seat,
-    };
-    let rest = Crowd {
-        rt,
-        alloc,
-        problem,
-        pool,
-        bell,
-        gate,
-        sharing,
-        seats,
-    };
+    let rt = crowd.rt;
+    let hand = crowd.hand(seat);
     let (mut back, seat) = join(
         rt,
         move ||
-            requires { IsSync R.row × IsSync G.row × Every (CanWork rest.pool.now rest.problem.now) rest.seats.items }
-            ensures { EachWorked rest.entry.seats.items result.items × (vec_len result ≡ vec_len rest.entry.seats)
-                × (vec_capacity rest.entry.seats ≤ vec_capacity result) }
-        { work_all(rest) },
+            requires { IsSync R.row × IsSync G.row × Every (CanWork crowd.pool.now crowd.problem.now) crowd.seats.items }
+            ensures { EachWorked crowd.entry.seats.items result.items × (vec_len result ≡ vec_len crowd.entry.seats)
+                × (vec_capacity crowd.entry.seats ≤ vec_capacity result) }
+        { work_all(crowd) },
         move ||
             requires { IsSync G.row × CanWork hand.pool.now hand.problem.now hand.seat }
             ensures { Worked hand.entry.seat result }
@@ -172,6 +170,7 @@ pub(crate) fn work_together<'p, R: Threads + Wait + Sync, G: Gate, O: Outlet>(
         bell: job.bell,
         gate,
         sharing: job.sharing,
+        came_back: job.came_back,
         seats,
     };
     join_beside(

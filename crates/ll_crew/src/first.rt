@@ -20,6 +20,7 @@ use ll_index::Index;
 use ll_laws::{Counts, Event, Problem};
 use ll_order::{OutFault, Outlet};
 use std::alloc::Global;
+use std::sync::atomic::AtomicU64;
 use std::sync::{Arc, Wait};
 use std::thread::Threads;
 
@@ -95,7 +96,10 @@ pub fn crew_first<'p, R: Threads + Wait + Sync, G: Gate, E: Enough>(
         return Err(CrewFault::OutOfMemory);
     };
     let mut until = Until { out, ended: false };
-    give_until(rt, alloc, problem, index, workers, gate, &mut until)
+    let came_back = AtomicU64::new(0);
+    give_until(
+        rt, alloc, problem, index, workers, gate, &came_back, &mut until,
+    )
 }
 
 // The same, with an outlet that hands on what it is given.
@@ -106,6 +110,7 @@ fn give_until<'p, 's, R: Threads + Wait + Sync, G: Gate, E: Enough>(
     index: Arc<Index>,
     workers: u32,
     gate: &G,
+    came_back: &AtomicU64,
     until: &mut Until<'s, E>,
 ) -> Result<Option<Counts>, CrewFault>
     requires workers { (0 < workers) × (workers ≤ 64) }
@@ -132,6 +137,7 @@ fn give_until<'p, 's, R: Threads + Wait + Sync, G: Gate, E: Enough>(
         workers,
         gate,
         Sharing::AfterAnswer,
+        came_back,
         until,
     ) {
         Ok(counts) => Ok(Some(counts)),

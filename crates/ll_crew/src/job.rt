@@ -5,6 +5,7 @@ use ll_laws::Problem;
 use ll_pool::SharedPool;
 use std::alloc::Global;
 use std::snapshot::Snapshot;
+use std::sync::atomic::AtomicU64;
 
 /// When a worker leaves choice points of its piece to others.
 #[derive(Clone, Copy)]
@@ -13,6 +14,8 @@ pub(crate) enum Sharing {
     WhereIdle,
     /// All of them after an answer, which is then reported at once, and the oldest where workers have nothing to do.
     AfterAnswer,
+    /// None: where workers have nothing to do the oldest comes back, as from a pool that has no place for it.
+    Apart,
 }
 
 /// What a worker works with, whatever it claims.
@@ -24,6 +27,8 @@ pub(crate) struct Job<'a, 'p, R, O> {
     pub(crate) pool: &'a SharedPool<Frozen<'p>>,
     pub(crate) bell: &'a Bell,
     pub(crate) sharing: Sharing,
+    /// How many batches came back where workers leave nothing to others.
+    pub(crate) came_back: &'a AtomicU64,
     /// The outlet as the crew was given it.
     pub(crate) start: &'a Snapshot<O>,
 }
@@ -32,8 +37,8 @@ impl<'a, 'p, R, O> Job<'a, 'p, R, O> {
     /// Whether an answer is to be reported at once.
     pub(crate) fn reports_at_once(&self) -> bool {
         match self.sharing {
-            Sharing::WhereIdle => false,
             Sharing::AfterAnswer => true,
+            Sharing::WhereIdle | Sharing::Apart => false,
         }
     }
 }

@@ -2,6 +2,7 @@
 #![tactic(auto)]
 
 mod alone;
+mod apart;
 mod bell;
 mod beside;
 mod crowd;
@@ -12,6 +13,7 @@ mod piece;
 mod whole;
 mod worker;
 
+pub use apart::crew_apart;
 pub use first::crew_first;
 pub use whole::{CrewFault, crew, crew_with};
 pub use worker::work;

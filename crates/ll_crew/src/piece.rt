@@ -11,7 +11,7 @@ ghost use Rattle.ll_crew.specs.Runs.{SharesTo, RunsTo, RunsAlone, RunsOne, RunsA
 ghost use Rattle.ll_crew.specs.Pieces.{IsKeptOf, Stretched, OwesAll, OwesAfter, events_in, cost_in};
 ghost use Rattle.ll_crew.specs.Seats.{IsSeat, Calm};
 
-use crate::job::Job;
+use crate::job::{Job, Sharing};
 use crate::lead::{Told, look, tell};
 use ll_bank::OutOfMemory;
 use ll_core::{Look, PublishFault};
@@ -21,6 +21,7 @@ use ll_laws::{Batch, Event, Report};
 use ll_order::Outlet;
 use ll_pool::Seat;
 use std::alloc::AllocError;
+use std::sync::atomic::Ordering;
 use std::sync::{Arc, Wait};
 
 /// So many steps an engine goes between two looks.
@@ -69,7 +70,8 @@ enum Shared<'p> {
     Back(Arc<Frozen<'p>>),
 }
 
-// Publishes the oldest choice point of the engine, if it has one that is untried. A batch for which the pool has no place comes back.
+// Publishes the oldest choice point of the engine, if it has one that is untried. A batch for which the pool has no place comes back, and
+// so does each where workers search apart.
 fn share_oldest<'p, R: Wait, O>(
     job: &Job<'_, 'p, R, O>,
     seat: &mut Seat<Frozen<'p>>,
@@ -86,6 +88,10 @@ fn share_oldest<'p, R: Wait, O>(
     };
     let alternatives = batch.len();
     let batch = Arc::new(job.alloc, batch)?;
+    if let Sharing::Apart = job.sharing {
+        job.came_back.fetch_add(1, Ordering::Relaxed);
+        return Ok(Shared::Back(batch));
+    }
     match job.pool.publish(job.rt, seat, batch) {
         Ok(()) => {
             job.bell.ring(job.rt, alternatives);

@@ -30,6 +30,7 @@ use ll_order::{OutFault, Outlet, drain};
 use ll_pool::{Seat, SharedPool};
 use std::alloc::Global;
 use std::snapshot::Snapshot;
+use std::sync::atomic::AtomicU64;
 use std::sync::{Arc, Wait};
 use std::thread::Threads;
 use thiserror::Error;
@@ -136,6 +137,7 @@ fn search<'p, R: Threads + Wait + Sync, G: Gate, O: Outlet>(
     pool: SharedPool<Frozen<'p>>,
     gate: &G,
     sharing: Sharing,
+    came_back: &AtomicU64,
     mut first: Seat<Frozen<'p>>,
     others: Vec<Seat<Frozen<'p>>>,
     out: &mut O,
@@ -164,6 +166,7 @@ fn search<'p, R: Threads + Wait + Sync, G: Gate, O: Outlet>(
         pool: &pool,
         bell: &bell,
         sharing,
+        came_back,
         start: &start,
     };
     let (others, done) = work_together(&job, gate, &mut first, &mut told, out, others);
@@ -207,6 +210,7 @@ pub fn crew<'p, R: Threads + Wait + Sync, G: Gate, O: Outlet>(
     let Ok(index) = index_of(alloc, problem) else {
         return Err(CrewFault::OutOfMemory);
     };
+    let came_back = AtomicU64::new(0);
     crew_by(
         rt,
         alloc,
@@ -215,6 +219,7 @@ pub fn crew<'p, R: Threads + Wait + Sync, G: Gate, O: Outlet>(
         workers,
         gate,
         Sharing::WhereIdle,
+        &came_back,
         out,
     )
 }
@@ -243,6 +248,7 @@ pub fn crew_with<'p, R: Threads + Wait + Sync, G: Gate, O: Outlet>(
     let Ok(index) = Arc::try_clone(index) else {
         return Err(CrewFault::OutOfMemory);
     };
+    let came_back = AtomicU64::new(0);
     crew_by(
         rt,
         alloc,
@@ -251,6 +257,7 @@ pub fn crew_with<'p, R: Threads + Wait + Sync, G: Gate, O: Outlet>(
         workers,
         gate,
         Sharing::WhereIdle,
+        &came_back,
         out,
     )
 }
@@ -272,6 +279,7 @@ pub(crate) fn crew_by<'p, R: Threads + Wait + Sync, G: Gate, O: Outlet>(
     workers: u32,
     gate: &G,
     sharing: Sharing,
+    came_back: &AtomicU64,
     out: &mut O,
 ) -> Result<Counts, CrewFault>
     requires workers { (0 < workers) × (workers ≤ 64) }
@@ -301,5 +309,7 @@ pub(crate) fn crew_by<'p, R: Threads + Wait + Sync, G: Gate, O: Outlet>(
     let Ok(others) = seats(alloc, problem, &pool, &mut first) else {
         return Err(CrewFault::OutOfMemory);
     };
-    search(rt, alloc, problem, pool, gate, sharing, first, others, out)
+    search(
+        rt, alloc, problem, pool, gate, sharing, came_back, first, others, out,
+    )
 }

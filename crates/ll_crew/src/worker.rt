@@ -21,6 +21,7 @@ use ll_pool::{Seat, SharedPool};
 use std::alloc::Global;
 use std::snapshot::Snapshot;
 use std::sync::Wait;
+use std::sync::atomic::AtomicU64;
 use std::thread;
 
 /// So often a worker that finds nothing to claim yields and tries again, before it waits for the bell.
@@ -203,6 +204,7 @@ pub fn work<'p, R: Wait, G: Gate>(
     let start = Snapshot::of(&mute);
     let mut told = Told::new(false);
     let bell = Bell::silent();
+    let came_back = AtomicU64::new(0);
     let job = Job {
         rt,
         alloc,
@@ -210,6 +212,7 @@ pub fn work<'p, R: Wait, G: Gate>(
         pool,
         bell: &bell,
         sharing: Sharing::WhereIdle,
+        came_back: &came_back,
         start: &start,
     };
     work_as(&job, gate, seat, &mut told, &mut mute)?;

@@ -27,7 +27,12 @@ join-back-requires-after_bounds g t c κs within =
     let front : Every (CanWork c.args.crowd.pool.now c.args.crowd.problem.now) c.pop.new.self.items =
     every_front (CanWork c.args.crowd.pool.now c.args.crowd.problem.now) c.pop.new.self.items (c.in-Some.seat ∷ []) all in
     let last : Every (CanWork c.args.crowd.pool.now c.args.crowd.problem.now) (c.in-Some.seat ∷ []) =
-    every_back (CanWork c.args.crowd.pool.now c.args.crowd.problem.now) c.pop.new.self.items (c.in-Some.seat ∷ []) all in (
+    every_back (CanWork c.args.crowd.pool.now c.args.crowd.problem.now) c.pop.new.self.items (c.in-Some.seat ∷ []) all in
+    let hand = c.hand-hand.result in let is = c.hand-hand.ensures in
+    let held : CanWork hand.pool.now hand.problem.now hand.seat =
+    subst (CanWork hand.pool.now hand.problem.now) (sym is.seat)
+    (subst (λ p. CanWork hand.pool.now p c.in-Some.seat) (sym is.problem)
+    (subst (λ p. CanWork p c.args.crowd.problem.now c.in-Some.seat) (sym is.pool) last.0)) in (
       (search rules, ((λ a m. m), ((λ a m. m), ((search rules, search rules, front), (search rules, search rules))))),
-      ((search rules, last.0), (search rules, search rules)),
+      ((search rules, held), (search rules, search rules)),
     )

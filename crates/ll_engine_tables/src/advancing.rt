@@ -1,8 +1,13 @@
 //! Choices from three places: what one engine gives that goes from batch to batch, and how deep the batches are that are split off it.
-ghost use Rattle.std.specs.Prelude.{◌≡◌, ◌<◌, length, true, All, IfOk, IfSome, OnOk};
+ghost use Rattle.std.specs.Prelude.{◌≡◌, ◌<◌, [], length, true, All, IfOk, IfSome, OnOk};
 ghost use Rattle.std.specs.Arc.{arc_value};
 ghost use Rattle.ll_freeze.specs.Frozen.{alternatives_in};
 ghost use Rattle.ll_laws.specs.Valid.{IsValid};
+ghost use Rattle.ll_parser.specs.Raw.{ProgramTree};
+ghost use Rattle.ll_parser.specs.Text.{programs};
+ghost use Rattle.ll_parser.specs.Reads.{IsWhole};
+ghost use Rattle.ll_polarity.specs.Faults.{program_faults};
+ghost use Rattle.ll_polarity.specs.Asks.{part_of};
 ghost use Rattle.ll_engine_tables.specs.Batches.{IsSharedOf, IsBatchOf};
 
 use ll_bank::OutOfMemory;
@@ -12,9 +17,10 @@ use ll_laws::{Batch, Event, Problem};
 use ll_lexer::{TextFault, tokens};
 use ll_make::MakeKind;
 use ll_parser::{program, query};
-use ll_polarity::{ask, load};
+use ll_polarity::{Loaded, ask, load};
 use ll_printer::term;
 use std::alloc::Global;
+use std::process::Abort;
 use std::sync::Arc;
 use std::test::Fail;
 
@@ -31,7 +37,18 @@ const EIGHT: &[u8] = b"0::0::0::nil
 1::1::1::nil
 ";
 
-// The problem of choices from three places, with a bound that no branch comes to.
+// The problem of the query `go X`, with a bound that no branch comes to.
+fn asked(alloc: Global, part: Loaded) -> Result<Problem, TextFault>
+    ensures { IfOk result (λ problem. (program : ProgramTree) → IsWhole programs program → program_faults program ≡ [] → part ≡ part_of program
+        → IsValid problem) }
+{
+    let list = tokens(alloc, b"go X")?;
+    let tree = query(alloc, &list)?;
+    let problem = ask(alloc, part, &tree, 100)?;
+    Ok(problem)
+}
+
+// The problem of choices from three places.
 fn choices(alloc: Global) -> Result<Problem, TextFault>
     ensures { IfOk result (λ problem. IsValid problem) }
 {
@@ -42,9 +59,7 @@ fn choices(alloc: Global) -> Result<Problem, TextFault>
     let list = tokens(alloc, &text)?;
     let tree = program(alloc, &list)?;
     let part = load(alloc, &tree)?;
-    let list = tokens(alloc, b"go X")?;
-    let tree = query(alloc, &list)?;
-    let problem = ask(alloc, part, &tree, 100)?;
+    let problem = asked(alloc, part)?;
     Ok(problem)
 }
 
@@ -172,17 +187,25 @@ fn sharing<'p>(alloc: Global, problem: &'p Problem) -> Result<Engine<'p>, OutOfM
     Engine::resume_shared(alloc, problem, start, 0)
 }
 
-// The events of a search by one engine that goes from batch to batch: what is left after its first event is split off, but for what no
-// choice point has.
+// Goes on from batch to batch: what is left after the next event is split off, but for what no choice point has.
+fn go_by_batches(
+    alloc: Global,
+    mut engine: Engine<'_>,
+    events: &mut Vec<Event>,
+) -> Result<(), OutOfMemory> {
+    let _more = next_event(&mut engine, events)?;
+    let batches = split_all(alloc, &mut engine)?;
+    finish(&mut engine, events)?;
+    go_through_all(engine, batches, events)
+}
+
+// The events of a search by one engine that goes from batch to batch.
 fn events_by_batches(alloc: Global, problem: &Problem) -> Result<Vec<Event>, OutOfMemory>
     requires { IsValid problem.now }
 {
     let mut events = Vec::new(alloc);
-    let mut engine = sharing(alloc, problem)?;
-    let _more = next_event(&mut engine, &mut events)?;
-    let batches = split_all(alloc, &mut engine)?;
-    finish(&mut engine, &mut events)?;
-    go_through_all(engine, batches, &mut events)?;
+    let engine = sharing(alloc, problem)?;
+    go_by_batches(alloc, engine, &mut events)?;
     Ok(events)
 }
 
@@ -196,14 +219,24 @@ fn events_alone(alloc: Global, problem: &Problem) -> Result<Vec<Event>, OutOfMem
     Ok(events)
 }
 
+// The events are the eight answers.
+fn assert_eight(
+    rt: &impl Abort,
+    alloc: Global,
+    problem: &Problem,
+    events: &[Event],
+) -> Result<(), OutOfMemory> {
+    let text = text_of(alloc, problem, events)?;
+    assert_eq!(rt; text.as_slice(), EIGHT);
+    Ok(())
+}
+
 #[test]
 fn one_engine_goes_through_every_batch(rt: HostRuntime) -> Result<(), Fail> {
     let alloc = rt.alloc();
     let problem = choices(alloc)?;
-    let alone = text_of(alloc, &problem, &events_alone(alloc, &problem)?)?;
-    assert_eq!(rt; alone.as_slice(), EIGHT);
-    let by_batches = text_of(alloc, &problem, &events_by_batches(alloc, &problem)?)?;
-    assert_eq!(rt; by_batches.as_slice(), EIGHT);
+    assert_eight(&rt, alloc, &problem, &events_alone(alloc, &problem)?)?;
+    assert_eight(&rt, alloc, &problem, &events_by_batches(alloc, &problem)?)?;
     Ok(())
 }
 
@@ -230,13 +263,23 @@ fn depths<'p>(alloc: Global, mut engine: Engine<'p>) -> Result<Vec<u32>, OutOfMe
     Ok(depths)
 }
 
+// The batches that are split off an engine are so deep.
+fn assert_depths(
+    rt: &impl Abort,
+    alloc: Global,
+    engine: Engine<'_>,
+    want: &[u32],
+) -> Result<(), OutOfMemory> {
+    let found = depths(alloc, engine)?;
+    assert_eq!(rt; found.as_slice(), want);
+    Ok(())
+}
+
 #[test]
 fn what_is_split_off_shares_with_one_batch_more(rt: HostRuntime) -> Result<(), Fail> {
     let alloc = rt.alloc();
     let problem = choices(alloc)?;
-    let shared = depths(alloc, sharing(alloc, &problem)?)?;
-    assert_eq!(rt; shared.as_slice(), [1, 2, 3].as_slice());
-    let started = depths(alloc, Engine::start(alloc, &problem)?)?;
-    assert_eq!(rt; started.as_slice(), [0, 1, 2].as_slice());
+    assert_depths(&rt, alloc, sharing(alloc, &problem)?, &[1, 2, 3])?;
+    assert_depths(&rt, alloc, Engine::start(alloc, &problem)?, &[0, 1, 2])?;
     Ok(())
 }

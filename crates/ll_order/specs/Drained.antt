@@ -25,13 +25,16 @@ pub record Drained {N O : Type 0} (alternatives : N → List (Owed Event)) (take
   pub busy : now.busy ≡ 0
   pub later : Later first now
 
--- Some of the events were given to the outlet and counted. The rest are welcome to it still.
-pub record Giving {O : Type 0} (takes : O → Event → O → Type 0) (welcome : O → Event → Type 0) (faults : O
-    → ℕ) (before : O) (first : Counts) (events : List Event) (after : O) (counts : Counts) (done rest : List Event) : Type 0 where
-  pub order : events ≡ done ++ rest
-  pub given : Gives takes before done after
+-- Some of the events were counted.
+pub record Counting (first : Counts) (counts : Counts) (done : List Event) : Type 0 where
   pub answers : counts.answers ≡ cut_count (first.answers + count_by is_answer done)
   pub reached : counts.reached ≡ cut_count (first.reached + count_by is_reached done)
+
+-- Some of the events were given to the outlet. The rest are welcome to it still.
+pub record Giving {O : Type 0} (takes : O → Event → O → Type 0) (welcome : O → Event → Type 0) (faults : O
+    → ℕ) (before : O) (events : List Event) (after : O) (done rest : List Event) : Type 0 where
+  pub order : events ≡ done ++ rest
+  pub given : Gives takes before done after
   pub wanted : Every (welcome after) rest
   pub faults_kept : faults before ≤ faults after
   pub welcome_kept : (e : Event) → welcome before e ↔ welcome after e

@@ -52,11 +52,7 @@ pub fn drain<N: Batch, O: Outlet>(pool: &mut Pool<N>, out: &mut O) -> Result<Cou
 ///
 /// After a refusal, which is the outlet's, a prefix of the events was given, and the next one was refused. `Write` only where the outlet's
 /// count of faults rose.
-pub fn give<O: Outlet>(
-    events: Vec<Event>,
-    out: &mut O,
-    mut counts: Counts,
-) -> Result<Counts, OutFault>
+pub fn give<O: Outlet>(events: Vec<Event>, out: &mut O, counts: Counts) -> Result<Counts, OutFault>
     requires welcome { Every (O.welcome out.old) events.items }
     requires few { (counts.answers ≤ 18446744073709551615) × (counts.reached ≤ 18446744073709551615) }
     ensures given { OnOk result (Gives O.takes out.old events.items out.new) }
@@ -67,14 +63,23 @@ pub fn give<O: Outlet>(
     ensures faults_kept { O.faults out.old ≤ O.faults out.new }
     ensures welcome_kept { (e : Event) → O.welcome out.old e ↔ O.welcome out.new e }
 {
-    for event in events {
-        counts = counted(counts, &event);
-        match out.event(event) {
-            Ok(()) => {}
-            Err(fault) => return Err(fault),
-        }
+    let counts = counted_all(counts, &events);
+    match out.events(events) {
+        Ok(()) => Ok(counts),
+        Err(fault) => Err(fault),
     }
-    Ok(counts)
+}
+
+// The counts with these events more, whose inferences stay.
+fn counted_all(mut counts: Counts, events: &[Event]) -> Counts
+    requires few { (counts.answers ≤ 18446744073709551615) × (counts.reached ≤ 18446744073709551615) }
+    ensures answers { result.answers ≡ cut_count (counts.answers + count_by is_answer events.now) }
+    ensures reached { result.reached ≡ cut_count (counts.reached + count_by is_reached events.now) }
+{
+    for event in events {
+        counts = counted(counts, event);
+    }
+    counts
 }
 
 // The counts with one event more.

@@ -1,6 +1,7 @@
 //! What takes the events of a search.
 ghost use Rattle.std.specs.Prelude.{◌≡◌, ◌≤◌, ◌↔◌, Err, OnOk, OnErr};
-ghost use Rattle.ll_order.specs.Outlets.{Rose};
+ghost use Rattle.ll_laws.specs.Sound.{Every};
+ghost use Rattle.ll_order.specs.Outlets.{Rose, Gives, Refuses};
 ghost use Rattle.ll_order.specs.declared.outlet.OutFault.TheVariants.{Write};
 
 use ll_laws::Event;
@@ -42,4 +43,25 @@ pub trait Outlet {
         ensures write { result ≡ Err Write → Rose (faults self.old) (faults self.new) }
         ensures faults_kept { faults self.old ≤ faults self.new }
         ensures welcome_kept { (e : Event) → welcome self.old e ↔ welcome self.new e };
+
+    /// Takes events that are welcome, one after the other. After a refusal those in front of the event that was refused were taken.
+    /// `Write` only where the count of faults rose.
+    ///
+    /// The body that is given takes each of them by [`event`](Outlet::event). An outlet for which many at a time are less work has its own.
+    fn events(&mut self, events: Vec<Event>) -> Result<(), OutFault>
+        requires { Every (welcome self.old) events.items }
+        ensures taken { OnOk result (Gives takes self.old events.items self.new) }
+        ensures refused { OnErr result (Refuses takes breaks self.old events.items self.new) }
+        ensures write { result ≡ Err Write → Rose (faults self.old) (faults self.new) }
+        ensures faults_kept { faults self.old ≤ faults self.new }
+        ensures welcome_kept { (e : Event) → welcome self.old e ↔ welcome self.new e }
+    {
+        for event in events {
+            match self.event(event) {
+                Ok(()) => {}
+                Err(fault) => return Err(fault),
+            }
+        }
+        Ok(())
+    }
 }

@@ -1,22 +1,24 @@
 -- A search by the caller alone, step by step.
-use Rattle.std.proofs.Common.{◌≡◌, ℕ, ◌+◌, ◌-◌, ◌≤◌, [], ◌∷◌, ◌++◌, refl, sym, ap, ◌∙◌, subst, arith, append_assoc, le_refl, le_trans, inl, inr}
+use Rattle.std.proofs.Common.{◌≡◌, ℕ, Bool, List, ◌+◌, ◌-◌, ◌≤◌, [], ◌++◌, refl, sym, ap, ◌∙◌, subst, arith}
+use Rattle.std.proofs.Common.{append_assoc, append-nil, le_refl, le_trans, inl, inr}
 use Rattle.std.specs.Prelude.{count_by}
 use Rattle.ll_laws.specs.declared.Event.{Event}
 use Rattle.ll_laws.specs.declared.Counts.{Counts}
 use Rattle.ll_laws.specs.Search.{cut_count, is_answer, is_reached}
 use Rattle.ll_laws.specs.Sound.{Every}
 use Rattle.ll_laws.specs.Problem.{ProblemTree, problem_events, problem_cost}
-use Rattle.ll_core.proofs.CallerLemmas.{every_more}
+use Rattle.ll_core.proofs.CallerLemmas.{every_more, every_front, every_back}
 use Rattle.ll_order.specs.Outlets.{Gives, Refuses}
 use Rattle.ll_order.proofs.CallerLemmas.{gives_more, refuses_more, no_count, counts_more}
 use Rattle.ll_engine.specs.Seen.{Owing}
-use Rattle.ll_engine.specs.Steps.{Steps, fresh}
-use Rattle.ll_engine.specs.declared.engine.Step2.TheVariants.{Event as Found}
+use Rattle.ll_engine.specs.Steps.{fresh}
 use Rattle.ll_crew.specs.Crews.{GivesPrefix}
 use Rattle.ll_crew.specs.Leading.{Kept}
 use Rattle.ll_crew.specs.Alone.{IsAlone}
+use Rattle.ll_crew.specs.Pieces.{Stretched}
 
-cost_moves : (made cost more less k : ℕ) → less ≤ cost → more ≡ cut_count (made + (cost - less)) → cut_count (made + cost) ≡ k → cut_count (more + less) ≡ k
+cost_moves : (made cost more less k : ℕ) → less ≤ cost → cut_count more ≡ cut_count (made + (cost - less)) → cut_count (made + cost) ≡ k
+    → cut_count (more + less) ≡ k
 cost_moves made cost more less k h e f = omega arith
 
 module _ {O : Type 0} (takes breaks : O → Event → O → Type 0) (welcome : O → Event → Type 0) (faults : O → ℕ) (start : O) (p : ProblemTree) where
@@ -27,43 +29,58 @@ module _ {O : Type 0} (takes breaks : O → Event → O → Type 0) (welcome : O
     giving = record {
       order = sym (ap (λ (x : Owing). x.events) h);
       given = refl;
-      answers = no_count 0 (omega arith);
-      reached = no_count 0 (omega arith);
       wanted = subst (Every (welcome start)) (sym (ap (λ (x : Owing). x.events) h)) w;
       faults_kept = le_refl _;
       welcome_kept = λ x. (λ k. k, λ k. k);
     };
+    counting = record { answers = no_count 0 (omega arith); reached = no_count 0 (omega arith) };
     cost = ap (λ (x : Owing). cut_count (x.made + x.cost)) h ∙ ap cut_count (let z : 0 + problem_cost p ≡ problem_cost p = omega arith in z);
   }
 
   module _ (old new : Owing) (out : O) (counts : Counts) (a : IsAlone takes welcome faults start p old out counts) where
-    module _ (e : Event) (s : Steps old (Found e) new) where
-      in_order : problem_events p ≡ a.done ++ ((e ∷ []) ++ new.events)
-      in_order = a.giving.order ∙ ap (λ l. a.done ++ l) s.events
+    module _ (ended : Bool) (before es : List Event) (none : before ≡ []) (s : Stretched ended before old es new) where
+      events_now : old.events ≡ es ++ new.events
+      events_now = sym (s.events ∙ ap (λ l. l ++ old.events) none)
 
-      pub alone_goes_on : (out' : O) (counts' : Counts) → Gives takes out (e ∷ []) out'
-          → counts'.answers ≡ cut_count (counts.answers + count_by is_answer (e ∷ []))
-          → counts'.reached ≡ cut_count (counts.reached + count_by is_reached (e ∷ [])) → Kept takes breaks welcome faults out out'
+      in_order : problem_events p ≡ a.done ++ (es ++ new.events)
+      in_order = a.giving.order ∙ ap (λ l. a.done ++ l) events_now
+
+      welcome_still : Every (welcome out) (es ++ new.events)
+      welcome_still = subst (Every (welcome out)) events_now a.giving.wanted
+
+      pub alone_wants : Every (welcome out) es
+      alone_wants = every_front (welcome out) es new.events welcome_still
+
+      pub alone_goes_on : (out' : O) (counts' : Counts) → Gives takes out es out' → counts'.answers ≡ cut_count (counts.answers + count_by is_answer es)
+          → counts'.reached ≡ cut_count (counts.reached + count_by is_reached es) → Kept takes breaks welcome faults out out'
           → IsAlone takes welcome faults start p new out' counts'
       alone_goes_on out' counts' g answers reached k = record {
-        done = a.done ++ e ∷ [];
+        done = a.done ++ es;
         giving = record {
-          order = in_order ∙ sym (append_assoc a.done (e ∷ []) new.events);
-          given = gives_more takes breaks start out out' a.done (e ∷ []) a.giving.given g;
-          answers = counts_more is_answer 0 counts.answers counts'.answers a.done (e ∷ []) a.giving.answers answers;
-          reached = counts_more is_reached 0 counts.reached counts'.reached a.done (e ∷ []) a.giving.reached reached;
-          wanted = every_more (welcome out) (welcome out') new.events (λ x h. (k.same_welcome x).0 h) (subst (Every (welcome out)) s.events a.giving.wanted).1;
+          order = in_order ∙ sym (append_assoc a.done es new.events);
+          given = gives_more takes breaks start out out' a.done es a.giving.given g;
+          wanted = every_more (welcome out) (welcome out') new.events (λ x h. (k.same_welcome x).0 h) (every_back (welcome out) es new.events welcome_still);
           faults_kept = le_trans a.giving.faults_kept k.no_fewer;
           welcome_kept = λ x. (λ h. (k.same_welcome x).0 ((a.giving.welcome_kept x).0 h), λ h. (a.giving.welcome_kept x).1 ((k.same_welcome x).1 h));
+        };
+        counting = record {
+          answers = counts_more is_answer 0 counts.answers counts'.answers a.done es a.counting.answers answers;
+          reached = counts_more is_reached 0 counts.reached counts'.reached a.done es a.counting.reached reached;
         };
         cost = cost_moves old.made old.cost new.made new.cost (cut_count (problem_cost p)) s.cost s.made a.cost;
       }
 
-      pub alone_breaks : (out' : O) → GivesPrefix takes breaks out (e ∷ []) out' → GivesPrefix takes breaks start (problem_events p) out'
+      -- where the engine owes nothing more, all was given
+      pub alone_ends : (out' : O) → Gives takes out es out' → new.events ≡ [] → Gives takes start (problem_events p) out'
+      alone_ends out' g nothing =
+          let all : problem_events p ≡ a.done ++ es = in_order ∙ ap (λ l. a.done ++ l) (ap (λ l. es ++ l) nothing ∙ append-nil es) in
+          subst (λ l. Gives takes start l out') (sym all) (gives_more takes breaks start out out' a.done es a.giving.given g)
+
+      pub alone_breaks : (out' : O) → GivesPrefix takes breaks out es out' → GivesPrefix takes breaks start (problem_events p) out'
       alone_breaks out' (inl (front, back, is, g)) =
           let order : problem_events p ≡ (a.done ++ front) ++ (back ++ new.events) =
           in_order ∙ (ap (λ l. a.done ++ (l ++ new.events)) is
           ∙ (ap (λ l. a.done ++ l) (append_assoc front back new.events) ∙ sym (append_assoc a.done front (back ++ new.events)))) in
           inl (a.done ++ front, back ++ new.events, order, gives_more takes breaks start out out' a.done front a.giving.given g)
       alone_breaks out' (inr r) = inr (subst (λ l. Refuses takes breaks start l out') (sym in_order)
-          (refuses_more takes breaks start out out' a.done (e ∷ []) new.events a.giving.given r))
+          (refuses_more takes breaks start out out' a.done es new.events a.giving.given r))

@@ -1,5 +1,5 @@
 //! A search by the caller alone.
-ghost use Rattle.std.specs.Prelude.{◌≡◌, ◌+◌, ◌≤◌, [], ◌∷◌, Err, IfOk, OnOk, OnErr, count_by};
+ghost use Rattle.std.specs.Prelude.{◌≡◌, ◌+◌, ◌≤◌, Err, IfOk, OnOk, OnErr, count_by};
 ghost use Rattle.std.specs.Arc.{arc_value};
 ghost use Rattle.ll_laws.specs.Problem.{problem_events, problem_cost};
 ghost use Rattle.ll_laws.specs.Search.{cut_count, is_answer, is_reached};
@@ -12,42 +12,38 @@ ghost use Rattle.ll_crew.specs.declared.whole.CrewFault.{CrewFault};
 ghost use Rattle.ll_crew.specs.Crews.{GivesPrefix};
 ghost use Rattle.ll_crew.specs.Leading.{Kept};
 
+use crate::piece::stretch;
 use crate::whole::{CrewFault, fault_of};
-use ll_engine::{Engine, Step2};
+use ll_engine::Engine;
 use ll_index::Index;
 use ll_laws::{Counts, Event, Problem};
 use ll_order::{Outlet, give};
 use std::alloc::Global;
 use std::sync::Arc;
 
-// Gives the outlet an event, which is welcome, and counts it.
-fn give_one<O: Outlet>(
-    alloc: Global,
-    event: Event,
+// Gives the outlet events, which are welcome, and counts them.
+fn give_some<O: Outlet>(
+    events: Vec<Event>,
     counts: Counts,
     out: &mut O,
 ) -> Result<Counts, CrewFault>
-    requires welcome { Every (O.welcome out.old) (event ∷ []) }
+    requires welcome { Every (O.welcome out.old) events.items }
     requires few { (counts.answers ≤ 18446744073709551615) × (counts.reached ≤ 18446744073709551615) }
-    ensures given { OnOk result (Gives O.takes out.old (event ∷ []) out.new) }
-    ensures answers { IfOk result (λ new. new.answers ≡ cut_count (counts.answers + count_by is_answer (event ∷ []))) }
-    ensures reached { IfOk result (λ new. new.reached ≡ cut_count (counts.reached + count_by is_reached (event ∷ []))) }
-    ensures refused { OnErr result (GivesPrefix O.takes O.breaks out.old (event ∷ []) out.new) }
+    ensures given { OnOk result (Gives O.takes out.old events.items out.new) }
+    ensures answers { IfOk result (λ new. new.answers ≡ cut_count (counts.answers + count_by is_answer events.items)) }
+    ensures reached { IfOk result (λ new. new.reached ≡ cut_count (counts.reached + count_by is_reached events.items)) }
+    ensures refused { OnErr result (GivesPrefix O.takes O.breaks out.old events.items out.new) }
     ensures write { result ≡ Err CrewFault.Write → Rose (O.faults out.old) (O.faults out.new) }
     ensures kept { Kept O.takes O.breaks O.welcome O.faults out.old out.new }
 {
-    let mut events = Vec::new(alloc);
-    let Ok(()) = events.push(event) else {
-        return Err(CrewFault::OutOfMemory);
-    };
     match give(events, out, counts) {
         Ok(counts) => Ok(counts),
         Err(fault) => Err(fault_of(fault)),
     }
 }
 
-/// Searches a valid problem by one engine with an index of its clauses, and gives the outlet each event as soon as it is found. Its clauses are those of
-/// [`crew`](crate::crew).
+/// Searches a valid problem by one engine with an index of its clauses, and gives the outlet what was found after every few steps. Its clauses are those
+/// of [`crew`](crate::crew).
 pub(crate) fn search_alone<'p, O: Outlet>(
     alloc: Global,
     problem: &'p Problem,
@@ -69,7 +65,7 @@ pub(crate) fn search_alone<'p, O: Outlet>(
     give_each(alloc, &mut engine, out)
 }
 
-// Gives the outlet each event of a new engine as soon as it is found.
+// Gives the outlet all events of a new engine, those of one stretch of its steps at a time.
 fn give_each<'p, O: Outlet>(
     alloc: Global,
     engine: &mut Engine<'p>,
@@ -88,21 +84,20 @@ fn give_each<'p, O: Outlet>(
         reached: 0,
         inferences: 0,
     };
-    'events: loop {
-        let Ok(step) = engine.step() else {
+    'stretches: loop {
+        let mut events = Vec::new(alloc);
+        let Ok(done) = stretch(engine, &mut events, false) else {
             return Err(CrewFault::OutOfMemory);
         };
-        match step {
-            Step2::Moved => {}
-            Step2::Event(event) => match give_one(alloc, event, counts, out) {
-                Ok(more) => counts = more,
-                Err(fault) => return Err(fault),
-            },
-            Step2::Done => break,
+        match give_some(events, counts, out) {
+            Ok(more) => counts = more,
+            Err(fault) => return Err(fault),
+        }
+        if done {
+            return Ok(Counts {
+                inferences: engine.cost(),
+                ..counts
+            });
         }
     }
-    Ok(Counts {
-        inferences: engine.cost(),
-        ..counts
-    })
 }

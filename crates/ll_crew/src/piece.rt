@@ -29,7 +29,7 @@ const STEPS: u32 = 256;
 
 /// At most `STEPS` steps of an engine, whose events are put behind those that there are, and no step behind an answer that is to be
 /// reported at once. True where the engine is done.
-fn stretch(
+pub(crate) fn stretch(
     engine: &mut Engine<'_>,
     events: &mut Vec<Event>,
     at_once: bool,

@@ -184,8 +184,8 @@ fn search<'p, R: Threads + Wait + Sync, G: Gate, O: Outlet>(
 }
 
 /// Searches a valid problem with 1 to 64 workers, of which the caller is the first, and gives the outlet the events of the search in
-/// order, each as soon as it is known that it is the next. One worker alone starts no thread and shares nothing: it gives each event when
-/// it finds it.
+/// order, each as soon as it is known that it is the next. One worker alone starts no thread and shares nothing: after every 256 steps it
+/// gives what it found.
 ///
 /// `Ok` has the counts of the events and the cost of the search. On a refusal a prefix of the events was given. `Write` only where the
 /// outlet's count of faults rose. A worker for which no thread can be started has its share done by the others.

@@ -1,20 +1,32 @@
-use Rattle.ll_crew.proofs.AloneLemmas.{alone_starts, alone_goes_on, alone_breaks}
+use Rattle.ll_crew.proofs.AloneLemmas.{alone_starts, alone_wants, alone_goes_on, alone_ends, alone_breaks}
 use Rattle.ll_crew.proofs.alone.give_each.Goals as goal
 
-pub events-init : goal.events-init
-events-init g c =
+pub stretches-init : goal.stretches-init
+stretches-init g c =
     alone_starts g.O.Outlet.takes g.O.Outlet.breaks g.O.Outlet.welcome g.O.Outlet.faults c.args.out.now c.args.engine.now.problem c.args.engine.now
     c.requires.starts c.requires.welcome
 
-pub events-preserved : goal.events-preserved
-events-preserved g c =
-    let v = c.in-Ok-give_one.ensures in
-    alone_goes_on g.O.Outlet.takes g.O.Outlet.breaks g.O.Outlet.welcome g.O.Outlet.faults c.args.out.now c.args.engine.now.problem c.events.engine
-    c.step.new.self c.events.out c.events.counts
-    c.events.invariant c.in-Event.event (rw c.in-Event.is at c.in-Ok.ensures.step) c.give_one.new.out c.in-Ok-give_one.more v.given v.answers v.reached v.kept
+pub give_some-requires-clause-welcome : goal.give_some-requires-clause-welcome
+give_some-requires-clause-welcome g c =
+    alone_wants g.O.Outlet.takes g.O.Outlet.breaks g.O.Outlet.welcome g.O.Outlet.faults c.args.out.now c.args.engine.now.problem c.stretches.engine
+    c.stretch.new.engine c.stretches.out c.stretches.counts c.stretches.invariant c.in-Ok.done c.new-events.result.items c.stretch.new.events.items
+    c.new-events.ensures.items c.in-Ok.ensures
+
+pub stretches-preserved : goal.stretches-preserved
+stretches-preserved g c =
+    let v = c.in-Ok-give_some.ensures in
+    alone_goes_on g.O.Outlet.takes g.O.Outlet.breaks g.O.Outlet.welcome g.O.Outlet.faults c.args.out.now c.args.engine.now.problem c.stretches.engine
+    c.stretch.new.engine c.stretches.out c.stretches.counts c.stretches.invariant c.in-Ok.done c.new-events.result.items c.stretch.new.events.items
+    c.new-events.ensures.items c.in-Ok.ensures c.give_some.new.out c.in-Ok-give_some.more v.given v.answers v.reached v.kept
+
+pub returns-then-done-clause-given : goal.returns-then-done-clause-given
+returns-then-done-clause-given g c =
+    alone_ends g.O.Outlet.takes g.O.Outlet.breaks g.O.Outlet.welcome g.O.Outlet.faults c.args.out.now c.args.engine.now.problem c.stretches.engine
+    c.stretch.new.engine c.stretches.out c.stretches.counts c.stretches.invariant c.in-Ok.done c.new-events.result.items c.stretch.new.events.items
+    c.new-events.ensures.items c.in-Ok.ensures c.give_some.new.out c.in-Ok-give_some.ensures.given (c.in-Ok.ensures.ended c.if-done.true).0
 
 pub returns-in-Err-clause-refused : goal.returns-in-Err-clause-refused
 returns-in-Err-clause-refused g c =
-    alone_breaks g.O.Outlet.takes g.O.Outlet.breaks g.O.Outlet.welcome g.O.Outlet.faults c.args.out.now c.args.engine.now.problem c.events.engine
-    c.step.new.self c.events.out c.events.counts
-    c.events.invariant c.in-Event.event (rw c.in-Event.is at c.in-Ok.ensures.step) c.give_one.new.out c.in-Err.ensures.refused
+    alone_breaks g.O.Outlet.takes g.O.Outlet.breaks g.O.Outlet.welcome g.O.Outlet.faults c.args.out.now c.args.engine.now.problem c.stretches.engine
+    c.stretch.new.engine c.stretches.out c.stretches.counts c.stretches.invariant c.in-Ok.done c.new-events.result.items c.stretch.new.events.items
+    c.new-events.ensures.items c.in-Ok.ensures c.give_some.new.out c.in-Err.ensures.refused

@@ -15,3 +15,4 @@ pub mod PrepareLemmas
 pub mod ProvedLemmas
 pub mod RunLemmas
 pub mod SessionLemmas
+pub mod WaitingLemmas

@@ -1,5 +1,5 @@
 -- A run that is on its way: what was written of its events so far.
-use Rattle.std.specs.Prelude.{◌≡◌, ◌≤◌, length, ⊤, ℕ, Bool, true, false, zero, suc, List, [], ◌++◌, Option, Contains}
+use Rattle.std.specs.Prelude.{◌≡◌, ◌≤◌, ◌<◌, length, ⊤, ℕ, Bool, true, false, zero, suc, List, [], ◌++◌, Option, Contains}
 use Rattle.std.specs.Io.KnownBytes.{append_known}
 use Rattle.ll_edge.specs.Counts.{Rose}
 use Rattle.ll_edge.specs.Pieces.{AppendsFront}
@@ -10,7 +10,9 @@ use Rattle.ll_laws.specs.Problem.{ProblemTree, problem_events}
 use Rattle.ll_laws.specs.Output.{answer_text, answers_text}
 use Rattle.ll_laws.specs.ProofText.{derivation_text, proved_answers_text}
 use Rattle.ll_laws.specs.Dealt.{dealt}
+use Rattle.ll_laws.specs.Sound.{Every}
 use Rattle.ll_laws.specs.Valid.{IsValid}
+use Rattle.ll_order.specs.Outlets.{Gives}
 use Rattle.ll_top.specs.declared.refusal.Refusal.{Refusal}
 use Rattle.ll_top.specs.declared.refusal.Refusal.TheVariants.{Text, Unwritable, OutOfMemory}
 
@@ -66,6 +68,17 @@ pub record OutletState : Type 0 where
   pub faults : ℕ
   pub lent : ℕ
 
+-- the same where lines wait behind what its sink tells
+abbrev pub told_with : ProblemTree → Bool → ℕ → Option (List ℕ) → ℕ → ℕ → List ℕ → OutletState
+told_with problem proofs answers sunk faults lent waiting = record {
+  problem = problem;
+  proofs = proofs;
+  answers = answers;
+  written = append_known sunk waiting;
+  faults = faults;
+  lent = lent;
+}
+
 -- it has the same problem and the same sink
 pub record SameOutlet (before after : OutletState) : Type 0 where
   pub problem : after.problem ≡ before.problem
@@ -83,3 +96,43 @@ pub record Writes (before : OutletState) (e : Event) (after : OutletState) : Typ
 pub record BreaksOff (before : OutletState) (e : Event) (after : OutletState) : Type 0 where
   pub same : SameOutlet before after
   pub written : AppendsFront before.written (event_lines before.proofs before.problem before.answers e) after.written
+
+-- what an outlet holds whose lines wait: `written` is what its sink tells, without the lines that wait
+pub record Holding : Type 0 where
+  pub outlet : OutletState
+  pub waiting : List ℕ
+
+abbrev pub holding : ProblemTree → Bool → ℕ → Option (List ℕ) → ℕ → ℕ → List ℕ → Holding
+holding problem proofs answers sunk faults lent waiting = record {
+  outlet = record { problem = problem; proofs = proofs; answers = answers; written = sunk; faults = faults; lent = lent };
+  waiting = waiting;
+}
+
+-- what it shows
+abbrev pub told : Holding → OutletState
+told h = told_with h.outlet.problem h.outlet.proofs h.outlet.answers h.outlet.written h.outlet.faults h.outlet.lent h.waiting
+
+-- The event was counted. Its lines wait behind those that waited, but for the first of all these, which were written.
+pub record Waits (before : Holding) (e : Event) (after : Holding) : Type 0 where
+  pub same : SameOutlet before.outlet after.outlet
+  pub answers : after.outlet.answers ≡ counted before.outlet.answers e
+  pub flushed : List ℕ
+  pub written : after.outlet.written ≡ append_known before.outlet.written flushed
+  pub order : flushed ++ after.waiting ≡ before.waiting ++ event_lines before.outlet.proofs before.outlet.problem before.outlet.answers e
+
+-- of these lines only a prefix was written, and none wait
+pub record CutsOff (before : Holding) (lines : List ℕ) (after : Holding) : Type 0 where
+  pub same : SameOutlet before.outlet after.outlet
+  pub none : after.waiting ≡ []
+  pub written : AppendsFront before.outlet.written lines after.outlet.written
+
+-- Some of the events, of which there are some, were taken, and the rest are events of the problem. Before the first of them no lines waited.
+pub record Taking {W : Type 0} (hold : W → Holding) (before : W) (events : List Event) (done rest : List Event) (now : W) : Type 0 where
+  pub some : 0 < length events
+  pub none : (hold before).waiting ≡ []
+  pub order : events ≡ done ++ rest
+  pub given : Gives (λ x e y. Writes (told (hold x)) e (told (hold y))) before done now
+  pub wanted : Every (IsWelcome (hold before).outlet.problem) rest
+  pub flushed : List ℕ
+  pub written : (hold now).outlet.written ≡ append_known (hold before).outlet.written flushed
+  pub lines : flushed ++ (hold now).waiting ≡ all_lines (hold before).outlet.proofs (hold before).outlet.problem (hold before).outlet.answers done

@@ -1,5 +1,5 @@
 // A run of which only the first answers are wanted.
-ghost use Rattle.std.specs.Prelude.{◌≡◌, ◌≤◌, ◌<◌, ◌↔◌, Some, None, IfOk, IfErr, IfSome, OnOk, OnErr, count_by};
+ghost use Rattle.std.specs.Prelude.{◌≡◌, ◌≤◌, ◌<◌, ◌↔◌, [], Some, None, IfOk, IfErr, IfSome, OnOk, OnErr, count_by};
 ghost use Rattle.std.specs.Io.KnownBytes.{append_known};
 ghost use Rattle.ll_edge.specs.Counts.{Rose};
 ghost use Rattle.ll_edge.specs.Pieces.{AppendsFront};
@@ -46,7 +46,16 @@ pub fn run_first<R: Threads + Wait + Sync, O: Sink, G: Gate>(
     ensures prefix { OnErr result (AppendsFront (O.written sink.old) (text_of_run (Some wanted) proofs problem.now) (O.written sink.new)) }
 {
     let mut lines = Vec::new(team.alloc);
-    match write_front(team, problem, proofs, wanted, &mut lines, sink)? {
+    let mut waiting = Vec::new(team.alloc);
+    match write_front(
+        team,
+        problem,
+        proofs,
+        wanted,
+        &mut lines,
+        &mut waiting,
+        sink,
+    )? {
         Some(counts) => write_summary(&counts, &mut lines, sink),
         None => {
             write_stop(wanted, sink)?;
@@ -56,15 +65,18 @@ pub fn run_first<R: Threads + Wait + Sync, O: Sink, G: Gate>(
 }
 
 // Writes the lines of the events up to the answers that are wanted, each as it comes. `None` where there are as many, and otherwise the
-// counts of all events. After a refusal a prefix of the lines was written. It leaves anything in the room for lines.
+// counts of all events. After a refusal a prefix of the lines was written. It leaves anything in the room for lines, and no lines
+// that wait.
 fn write_front<R: Threads + Wait + Sync, O: Sink, G: Gate>(
     team: &Team<'_, R, G>,
     problem: &Problem,
     proofs: bool,
     wanted: u32,
     lines: &mut Vec<u8>,
+    waiting: &mut Vec<u8>,
     sink: &mut O,
 ) -> Result<Option<Counts>, Refusal>
+    requires none { waiting.old.items ≡ [] }
     requires valid { IsValid problem.now }
     requires wanted { 0 < wanted }
 
@@ -83,6 +95,7 @@ fn write_front<R: Threads + Wait + Sync, O: Sink, G: Gate>(
             proofs,
             sink,
             lines,
+            waiting,
             answers: 0,
         },
         u64::from(wanted),
@@ -90,7 +103,7 @@ fn write_front<R: Threads + Wait + Sync, O: Sink, G: Gate>(
     give_front(team, problem, &mut out)
 }
 
-// Gives the events up to the answers that are wanted to an outlet that took none yet.
+// Gives the events up to the answers that are wanted to an outlet that took none yet. No lines wait in it, before and after.
 fn give_front<'p, 's, R: Threads + Wait + Sync, O: Sink, G: Gate>(
     team: &Team<'_, R, G>,
     problem: &'p Problem,
@@ -99,8 +112,10 @@ fn give_front<'p, 's, R: Threads + Wait + Sync, O: Sink, G: Gate>(
     requires valid { IsValid problem.now }
     requires problem { out.old.out.problem.now ≡ problem.now }
     requires answers { (out.old.answers ≡ 0) × (out.old.out.answers ≡ 0) }
+    requires none { out.old.out.waiting.now.items ≡ [] }
 
     ensures same_reference { out.new.out.sink.ghost_name ≡ out.old.out.sink.ghost_name }
+    ensures none { out.new.out.waiting.now.items ≡ [] }
     ensures faults_kept { O.faults out.old.out.sink.now ≤ O.faults out.new.out.sink.now }
     ensures stops { IfOk result (λ o. (o ≡ None) ↔ (out.old.limit ≤ count_by is_answer (problem_events problem.entry.now))) }
     ensures counts { IfOk result (λ o. IfSome o (λ counts. CountsOf counts (problem_events problem.entry.now) (problem_cost problem.entry.now))) }

@@ -1,5 +1,5 @@
 // A run of a problem: its answers, written as they come, and the last line.
-ghost use Rattle.std.specs.Prelude.{◌≡◌, ◌≤◌, IfOk, IfErr, OnOk, OnErr};
+ghost use Rattle.std.specs.Prelude.{◌≡◌, ◌≤◌, [], IfOk, IfErr, OnOk, OnErr};
 ghost use Rattle.std.specs.Io.KnownBytes.{append_known};
 ghost use Rattle.std.specs.Arc.{arc_value};
 ghost use Rattle.ll_edge.specs.Pieces.{AppendsFront};
@@ -73,12 +73,14 @@ pub fn run_with<R: Threads + Wait + Sync, O: Sink, G: Gate>(
     ensures prefix { OnErr result (AppendsFront (O.written sink.old) (whole_text proofs problem.now) (O.written sink.new)) }
 {
     let mut lines = Vec::new(team.alloc);
-    let counts = write_events(team, problem, index, proofs, &mut lines, sink)?;
+    let mut waiting = Vec::new(team.alloc);
+    let counts = write_events(team, problem, index, proofs, &mut lines, &mut waiting, sink)?;
     write_summary(&counts, &mut lines, sink)
 }
 
 /// Writes the last line of a whole search with these counts, and answers what was found. After a refusal a prefix of the line was written.
-/// It leaves anything in the room for lines.
+/// It leaves anything in the room for lines, and no lines
+// that wait.
 pub fn write_summary<O: Sink>(
     counts: &Counts,
     lines: &mut Vec<u8>,
@@ -99,15 +101,18 @@ pub fn write_summary<O: Sink>(
 }
 
 // Writes the lines of all events of the problem, each as it comes, and tells how many they are. After a refusal a prefix of the lines was
-// written. It leaves anything in the room for lines.
+// written. It leaves anything in the room for lines, and no lines
+// that wait.
 fn write_events<R: Threads + Wait + Sync, O: Sink, G: Gate>(
     team: &Team<'_, R, G>,
     problem: &Problem,
     index: &Arc<Index>,
     proofs: bool,
     lines: &mut Vec<u8>,
+    waiting: &mut Vec<u8>,
     sink: &mut O,
 ) -> Result<Counts, Refusal>
+    requires none { waiting.old.items ≡ [] }
     requires valid { IsValid problem.now }
     requires index { HasIndex problem.now.clauses (arc_value index.now) }
 
@@ -123,12 +128,13 @@ fn write_events<R: Threads + Wait + Sync, O: Sink, G: Gate>(
         proofs,
         sink,
         lines,
+        waiting,
         answers: 0,
     };
     give_events(team, problem, index, &mut out)
 }
 
-// Gives all events of the problem to an outlet that took none yet.
+// Gives all events of the problem to an outlet that took none yet. No lines wait in it, before and after.
 fn give_events<'p, 's, R: Threads + Wait + Sync, O: Sink, G: Gate>(
     team: &Team<'_, R, G>,
     problem: &'p Problem,
@@ -139,8 +145,10 @@ fn give_events<'p, 's, R: Threads + Wait + Sync, O: Sink, G: Gate>(
     requires index { HasIndex problem.now.clauses (arc_value index.now) }
     requires problem { out.old.problem.now ≡ problem.now }
     requires answers { out.old.answers ≡ 0 }
+    requires none { out.old.waiting.now.items ≡ [] }
 
     ensures same_reference { out.new.sink.ghost_name ≡ out.old.sink.ghost_name }
+    ensures none { out.new.waiting.now.items ≡ [] }
     ensures faults_kept { O.faults out.old.sink.now ≤ O.faults out.new.sink.now }
     ensures counts { IfOk result (λ counts. CountsOf counts (problem_events problem.entry.now) (problem_cost problem.entry.now)) }
     ensures lines { OnOk result (O.written out.new.sink.now ≡ append_known (O.written out.old.sink.now)

@@ -55,7 +55,7 @@ proved_answers_text-cut p k (Answer a ∷ es) =
 proved_answers_text-cut p k (Reached ∷ es) = proved_answers_text-cut p k es
 
 -- the lines of an event, and the text of the answers after it
-event_then : (proofs : Bool) (p : ProblemTree) (k : ℕ) (e : Event) (es : List Event)
+pub event_then : (proofs : Bool) (p : ProblemTree) (k : ℕ) (e : Event) (es : List Event)
     → event_lines proofs p k e ++ all_lines proofs p (counted k e) es ≡ all_lines proofs p k (e ∷ es)
 event_then false p k (Answer a) es = ap (λ xs. answer_text p (suc k) a ++ xs) (answers_text-cut p (suc k) es)
 event_then true p k (Answer a) es =
@@ -70,7 +70,7 @@ pub whole-lines : (proofs : Bool) (p : ProblemTree) → all_lines proofs p 0 (pr
 whole-lines false p = refl
 whole-lines true p = refl
 
-no-lines : (proofs : Bool) (p : ProblemTree) (k : ℕ) → all_lines proofs p k [] ≡ []
+pub no-lines : (proofs : Bool) (p : ProblemTree) (k : ℕ) → all_lines proofs p k [] ≡ []
 no-lines false p k = refl
 no-lines true p k = refl
 
@@ -117,7 +117,7 @@ module _ {W : Type 0} (takes breaks : W → Event → W → Type 0) (state : W �
   lines_from x es = all_lines (state x).proofs (state x).problem (state x).answers es
 
   -- the lines of the first event, and of those behind it
-  lines-then : (x : W) (e : Event) (y : W) (es : List Event) → takes x e y → lines_of x e ++ lines_from y es ≡ lines_from x (e ∷ es)
+  pub lines-then : (x : W) (e : Event) (y : W) (es : List Event) → takes x e y → lines_of x e ++ lines_from y es ≡ lines_from x (e ∷ es)
   lines-then x e y es h =
       let w = writes x e y h in
       let s = state x in
@@ -133,7 +133,7 @@ module _ {W : Type 0} (takes breaks : W → Event → W → Type 0) (state : W �
     event_then (state x).proofs (state x).problem (state x).answers e es,
   )
 
-  same-on : (a b c : OutletState) → SameOutlet a b → SameOutlet b c → SameOutlet a c
+  pub same-on : (a b c : OutletState) → SameOutlet a b → SameOutlet b c → SameOutlet a c
   same-on a b c h k =
       record {
         problem = k.problem ∙ h.problem;

@@ -15,7 +15,7 @@ use Rattle.ll_bank.specs.declared.FormNode.TheVariants.{Top as TopView, One as O
 use Rattle.ll_bank.specs.declared.FormNode.TheVariants.{Plus as PlusView, Bang as BangView, Lolli as LolliView, Imp as ImpView, Forall as ForallView}
 use Rattle.ll_bank.specs.declared.FormNode.TheVariants.{Exists as ExistsView, Use as UseView, Is as IsView, Less as LessView, Most as MostView}
 use Rattle.ll_bank.specs.Term.{Con, Env, close, close_head, applies_heads}
-use Rattle.ll_bank.specs.Form.{close_form, form_applies_heads}
+use Rattle.ll_bank.specs.Form.{Form, close_form, form_applies_heads}
 use Rattle.ll_bank.specs.Nodes.{Nodes, FormulaNode, ShowsForm, AppNode, AllInTerms, places, node_of_term, node_of, term_tree, form_tree, term_trees, form_of}
 use Rattle.ll_bank.specs.Nodes.{HasTerm, HasForm, HasPartsBelow, IsTermView, IsFormView, Extends}
 use Rattle.ll_bank.specs.Opened.{Spot, term_parts, form_parts, ArePartsOf, term_size, form_size, term_size_at, form_size_at, term_parts_at, form_parts_at}
@@ -285,6 +285,31 @@ module _ (bank : Nodes) (env : Env) (at n : ℕ) (images : List FormAt)
         subst (λ xs. ShowsForm bank (get_or xs 0 d).0 (close_form (under env m) (form_tree bank f))) (sym r.2) r.3.1,
         subst (λ xs. ShowsForm bank (get_or xs 1 d).0 (close_form (under env m) (form_tree bank g))) (sym r.2) r.4.1,
       )
+
+  -- there are as many images as formulas under it
+  pub first_inside : (m : ℕ) → length (form_parts node n) ≡ suc m → 0 < length images
+  first_inside m e = let l = images_length (λ k (x : FormAt). IsFormImage bank env k x.0) (form_parts node n) images seen_images in omega arith
+
+  pub second_inside : (m : ℕ) → length (form_parts node n) ≡ suc (suc m) → 1 < length images
+  second_inside m e = let l = images_length (λ k (x : FormAt). IsFormImage bank env k x.0) (form_parts node n) images seen_images in omega arith
+
+  pub two_inside : (f g m : ℕ) (d : FormAt) → form_parts node n ≡ (f, m) ∷ (g, m) ∷ [] → HasForm bank (get_or images 0 d).0 × HasForm bank (get_or images 1 d).0
+  two_inside f g m d e = let i = two_images f g m d e in (i.0.inside, i.1.inside)
+
+  -- the formula over the images is the image of the formula
+  pub joins_one : (sign : Form → Form) (f m : ℕ) (d : FormAt) → form_parts node n ≡ (f, m) ∷ [] → form_tree bank at ≡ sign (form_tree bank f)
+      → ((u : Form) → close_form (under env n) (sign u) ≡ sign (close_form (under env m) u))
+      → sign (form_tree bank (get_or images 0 d).0) ≡ close_form (under env n) (form_tree bank at)
+  joins_one sign f m d e t closes =
+      ap sign (one_image f m d e).tree ∙ sym (ap (close_form (under env n)) t ∙ closes (form_tree bank f))
+
+  pub joins_two : (sign : Form → Form → Form) (f g : ℕ) (d : FormAt) → form_parts node n ≡ (f, n) ∷ (g, n) ∷ []
+      → form_tree bank at ≡ sign (form_tree bank f) (form_tree bank g)
+      → ((u v : Form) → close_form (under env n) (sign u v) ≡ sign (close_form (under env n) u) (close_form (under env n) v))
+      → sign (form_tree bank (get_or images 0 d).0) (form_tree bank (get_or images 1 d).0) ≡ close_form (under env n) (form_tree bank at)
+  joins_two sign f g d e t closes =
+      let i = two_images f g n d e in
+      (λ j. sign (i.0.tree j) (i.1.tree j)) ∙ sym (ap (close_form (under env n)) t ∙ closes (form_tree bank f) (form_tree bank g))
 
 -- a term without arguments has no parts
 pub no_arguments : (bank : Nodes) (at n : ℕ) (h : Head) (args : List At) → slice_get bank.terms at ≡ Some (AppNode h (places args)) → length args ≡ 0

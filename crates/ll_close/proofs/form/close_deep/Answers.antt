@@ -1,18 +1,27 @@
-use Rattle.std.proofs.Common.{◌-◌, ◌++◌, ◌∷◌, [], sym, length, take, map, ap, ◌∙◌, arith, rules}
+use Rattle.std.proofs.Common.{◌≡◌, ℕ, ◌+◌, ◌<◌, ◌≤◌, ◌-◌, List, ◌++◌, ◌∷◌, [], sym, length, take, map, ap, ◌∙◌, arith, rules}
 use Rattle.std.specs.Prelude.{reverse}
 use Rattle.std.specs.HashMap.{get}
 use Rattle.ll_bank.specs.declared.FormAt.{FormAt}
 use Rattle.ll_bank.specs.Nodes.{form_tree}
 use Rattle.ll_bank.specs.Opened.{Spot, form_parts_at, form_size_at}
-use Rattle.ll_bank.proofs.CallerLemmas.{Extends-refl, Extends-trans, form_size-some}
+use Rattle.ll_bank.proofs.CallerLemmas.{Extends-refl, Extends-trans, AllInTerms-extends, form_size-some}
 use Rattle.ll_close.specs.Closing.{env_of, same_spot, IsTermImage, IsFormImage, IsGoodForm}
 use Rattle.ll_close.specs.Stacks.{visit, ready}
 use Rattle.ll_close.proofs.Known.{images_add, images_none, form_image_extends, form_images_extend}
-use Rattle.ll_close.proofs.Stacks.{closing_begins, closing_builds, closing_found, closing_expands, closing_ends, take_none}
+use Rattle.ll_close.proofs.Stacks.{closing_begins, closing_builds, closing_found, closing_expands, closing_ends, take_none, ends_with_none}
 use Rattle.ll_close.proofs.Stacks.{work_pops, work_expands}
 use Rattle.ll_close.proofs.Parts.{form_parts_first}
 use Rattle.ll_close.proofs.Steps.{form_turn, form_left, images_now, images_then}
 use Rattle.ll_close.proofs.form.close_deep.Goals as goal
+
+at_root : (n : ℕ) → n + 0 ≤ n
+at_root n = omega arith
+
+level_fits : (n root place : ℕ) → n ≤ root → place ≤ 18446744073709551615 → place ≡ root → n ≤ 18446744073709551615
+level_fits n root place l fits is = omega arith
+
+one_left : {made : List FormAt} {x : FormAt} (n : ℕ) → n ≡ length made → made ≡ x ∷ [] → 0 < n
+one_left n q e = let l = ap length e in omega arith
 
 pub returns-in_err-push_part-clause-keeps : goal.returns-in_err-push_part-clause-keeps
 returns-in_err-push_part-clause-keeps c =
@@ -30,7 +39,7 @@ loop-task-init c =
           c.new-made.result.items c.new-tasks.result.items c.push_part.new.tasks.items
           c.new-made.ensures.items c.new-tasks.ensures.items
           (c.in_ok-push_part.ensures ∙ ap (λ p. visit (p, 0) ∷ reverse c.new-tasks.result.items) c.place_of.ensures.is)
-          (record { inside = c.requires.inside; heads = c.requires.heads; level = omega arith });
+          (record { inside = c.requires.inside; heads = c.requires.heads; level = at_root c.args.form.0 });
     }
 
 pub build_form-requires-clause-heads : goal.build_form-requires-clause-heads
@@ -164,7 +173,7 @@ pub push_form-requires-clause-level : goal.push_form-requires-clause-level
 push_form-requires-clause-level c =
     let f = form_turn c.args.values.now c.pop.new.self.items c.in-Some.task c.loop-task.invariant.keeps c.requires.values c.in-Some.ensures.items
     c.loop-task.invariant.closing in
-    let l = f.good.level in let p = c.place_of.ensures.fits in let s = c.place_of.ensures.is in omega arith
+    level_fits _ c.args.form.0 c.place_of.result f.good.level c.place_of.ensures.fits c.place_of.ensures.is
 
 pub returns-in_err-image-clause-keeps : goal.returns-in_err-image-clause-keeps
 returns-in_err-image-clause-keeps c =
@@ -220,3 +229,61 @@ loop-task-preserved-in-Continue-branch-7 c =
           c.push-then-is_single.new.self.items c.if-task.false
           (c.in_ok-push-3.ensures.items ∙ ap (λ z. z ++ c.in_ok-image-2.image ∷ []) same);
     }
+
+pub build_form-requires-clause-inside : goal.build_form-requires-clause-inside
+build_form-requires-clause-inside c =
+    let f = form_turn c.args.values.now c.pop.new.self.items c.in-Some.task c.loop-task.invariant.keeps c.requires.values c.in-Some.ensures.items
+    c.loop-task.invariant.closing in
+    f.inside
+
+pub build_form-requires-clause-values : goal.build_form-requires-clause-values
+build_form-requires-clause-values c =
+    AllInTerms-extends c.loop-task.invariant.keeps c.args.values.now c.requires.values
+
+pub build_form-requires-then-is_single-clause-inside : goal.build_form-requires-then-is_single-clause-inside
+build_form-requires-then-is_single-clause-inside c =
+    let f = form_turn c.args.values.now c.pop.new.self.items c.in-Some.task c.loop-task.invariant.keeps c.requires.values c.in-Some.ensures.items
+    c.loop-task.invariant.closing in
+    f.inside
+
+pub build_form-requires-then-is_single-clause-values : goal.build_form-requires-then-is_single-clause-values
+build_form-requires-then-is_single-clause-values c =
+    AllInTerms-extends c.loop-task.invariant.keeps c.args.values.now c.requires.values
+
+pub build_form-requires-then-is_single-clause-parts : goal.build_form-requires-then-is_single-clause-parts
+build_form-requires-then-is_single-clause-parts c =
+    let now = c.loop-task.bank in
+    ends_with_none (λ k (x : FormAt). IsFormImage now (env_of now c.args.values.now) k x.0)
+    (form_parts_at now (c.in-Some.task.place, c.in-Some.task.level)) c.loop-task.made.items (c.is_single.ensures c.if-is_single.true)
+
+pub is_single-requires : goal.is_single-requires
+is_single-requires c =
+    let f = form_turn c.args.values.now c.pop.new.self.items c.in-Some.task c.loop-task.invariant.keeps c.requires.values c.in-Some.ensures.items
+    c.loop-task.invariant.closing in
+    f.inside
+
+pub loop-task-smaller-in-Continue-branch-4 : goal.loop-task-smaller-in-Continue-branch-4
+loop-task-smaller-in-Continue-branch-4 c =
+    work_pops (form_size_at c.args.bank.now) c.loop-task.tasks.items c.pop.new.self.items c.in-Some.task c.in-Some.ensures.items
+    (form_size-some (form_tree c.args.bank.now c.in-Some.task.place))
+
+pub returns-in_err-push-2-clause-keeps : goal.returns-in_err-push-2-clause-keeps
+returns-in_err-push-2-clause-keeps c =
+    c.loop-task.invariant.keeps
+
+pub returns-in_err-push_form-clause-keeps : goal.returns-in_err-push_form-clause-keeps
+returns-in_err-push_form-clause-keeps c =
+    c.loop-task.invariant.keeps
+
+pub returns-clause-keeps : goal.returns-clause-keeps
+returns-clause-keeps c =
+    c.loop-task.invariant.keeps
+
+pub index-requires : goal.index-requires
+index-requires c =
+    let first = c.args.bank.now in
+    let now = c.loop-task.bank in
+    let env = env_of first c.args.values.now in
+    let left = closing_ends (form_parts_at first) (IsGoodForm first (env, c.args.form.0)) (c.args.form.0, 0) (λ q (x : FormAt). IsFormImage now env q x.0)
+    c.loop-task.made.items c.loop-task.tasks.items (let h = c.in_default.ensures.cases.0 in search rules) c.loop-task.invariant.closing in
+    one_left {x = left.0} _ c.loop-task.made.ok.0 left.1

@@ -1,201 +1,709 @@
-use Rattle.std.proofs.Common.{◌≡◌, ap, sym, subst, ◌∙◌, refl, map, All, arith, true, ◌+◌, suc}
-use Rattle.std.specs.Prelude.{IfOk}
+use Rattle.std.proofs.Common.{◌≡◌, ap, sym, subst, ◌∙◌, refl, map, All, true, ◌+◌, add-one}
+use Rattle.std.specs.Prelude.{IfOk, OnOk, Result, Ok, Err}
 use Rattle.std.specs.HashMap.{get}
 use Rattle.std.specs.List.{list_all}
 use Rattle.std.proofs.lemmas.Bool.{and_parts}
-use Rattle.std.proofs.lemmas.Result.{IfOk-weaker}
+use Rattle.std.specs.declared.alloc.AllocError.{AllocError}
 use Rattle.ll_bank.specs.declared.At.{At}
+use Rattle.ll_bank.specs.declared.FormAt.{FormAt}
 use Rattle.ll_bank.specs.declared.FormNode.TheVariants.{With as WithView, Tensor as TensorView, Plus as PlusView, Bang as BangView, Lolli as LolliView}
 use Rattle.ll_bank.specs.declared.FormNode.TheVariants.{Imp as ImpView, Forall as ForallView, Exists as ExistsView, Use as UseView}
 use Rattle.ll_bank.specs.Term.{close, applies_heads}
-use Rattle.ll_bank.specs.Form.{With, Tensor, Plus, Bang, Lolli, Imp, Forall, Exists, Use, close_form, form_applies_heads}
-use Rattle.ll_bank.specs.Nodes.{term_tree, term_trees, form_tree, node_of, ShowsForm}
-use Rattle.ll_bank.specs.Opened.{AreImages}
-use Rattle.ll_bank.proofs.CallerLemmas.{Extends-refl, form_tree-extends, load_heads}
-use Rattle.ll_close.specs.Closing.{env_of, under, same_spot, IsTermImage}
+use Rattle.ll_bank.specs.Form.{Atom, With, Tensor, Plus, Bang, Lolli, Imp, Forall, Exists, Use, Num, Is, Less, Most, close_form, form_applies_heads}
+use Rattle.ll_bank.specs.Nodes.{term_tree, term_trees, form_tree, node_of, AllInTerms, ShowsForm}
+use Rattle.ll_bank.proofs.CallerLemmas.{Extends-refl, Extends-trans, HasForm-extends, form_tree-extends, load_heads}
+use Rattle.ll_close.specs.Closing.{env_of, under, same_spot}
 use Rattle.ll_close.proofs.Known.{term_images_extend}
-use Rattle.ll_close.proofs.Parts.{one_image, two_images}
+use Rattle.ll_close.proofs.Parts.{one_image, two_inside, first_inside, second_inside, joins_one, joins_two}
 use Rattle.ll_close.proofs.form.closed_node.Goals as goal
+
+on_ok : {P : Type 0} (r : Result FormAt AllocError) → P → OnOk r P
+on_ok (Ok x) p = p
+on_ok (Err e) p = tt
+
+pub form_at-requires : goal.form_at-requires
+form_at-requires c =
+    c.requires.inside
+
+pub returns-in-Top-clause-shows : goal.returns-in-Top-clause-shows
+returns-in-Top-clause-shows c =
+    let e = under (env_of c.args.bank.now c.args.values.now) c.args.task.level in
+    record {
+      inside = c.requires.inside;
+      tree = c.in-Top.ensures.shown.tree ∙ sym (ap (close_form e) c.in-Top.ensures.shown.tree);
+    }
+
+pub returns-in-Top-clause-terms : goal.returns-in-Top-clause-terms
+returns-in-Top-clause-terms c =
+    c.requires.terms
 
 pub returns-in-Top-clause-keeps : goal.returns-in-Top-clause-keeps
 returns-in-Top-clause-keeps c =
     Extends-refl c.args.bank.now
 
+pub returns-in-One-clause-shows : goal.returns-in-One-clause-shows
+returns-in-One-clause-shows c =
+    let e = under (env_of c.args.bank.now c.args.values.now) c.args.task.level in
+    record {
+      inside = c.requires.inside;
+      tree = c.in-One.ensures.shown.tree ∙ sym (ap (close_form e) c.in-One.ensures.shown.tree);
+    }
+
+pub returns-in-One-clause-terms : goal.returns-in-One-clause-terms
+returns-in-One-clause-terms c =
+    c.requires.terms
+
 pub returns-in-One-clause-keeps : goal.returns-in-One-clause-keeps
 returns-in-One-clause-keeps c =
     Extends-refl c.args.bank.now
+
+pub bounds-parts-0 : goal.bounds-parts-0
+bounds-parts-0 c =
+    let bank = c.args.bank.now in
+    let env = env_of bank c.args.values.now in
+    first_inside bank env c.args.task.place c.args.task.level c.args.parts.now c.requires.parts
+    (node_of (WithView c.in-With.field-0 c.in-With.field-1)) c.in-With.ensures.node 1 refl
+
+pub bounds-parts-1 : goal.bounds-parts-1
+bounds-parts-1 c =
+    let bank = c.args.bank.now in
+    let env = env_of bank c.args.values.now in
+    second_inside bank env c.args.task.place c.args.task.level c.args.parts.now c.requires.parts
+    (node_of (WithView c.in-With.field-0 c.in-With.field-1)) c.in-With.ensures.node 0 refl
+
+pub share_form-requires-in-With-clause-inside : goal.share_form-requires-in-With-clause-inside
+share_form-requires-in-With-clause-inside c =
+    c.requires.inside
+
+pub share_form-requires-in-With-clause-parts : goal.share_form-requires-in-With-clause-parts
+share_form-requires-in-With-clause-parts c =
+    let bank = c.args.bank.now in
+    let env = env_of bank c.args.values.now in
+    two_inside bank env c.args.task.place c.args.task.level c.args.parts.now c.requires.parts
+    (node_of (WithView c.in-With.field-0 c.in-With.field-1)) c.in-With.ensures.node
+    c.in-With.field-0.0 c.in-With.field-1.0 c.args.task.level (record { 0 = 0 }) refl
+
+pub returns-in-With-clause-shows : goal.returns-in-With-clause-shows
+returns-in-With-clause-shows c =
+    let bank = c.args.bank.now in
+    let env = env_of bank c.args.values.now in
+    subst (λ u. IfOk c.share_form-in-With.result (λ image. ShowsForm c.share_form-in-With.new.bank image.0 u))
+    (joins_two bank env c.args.task.place c.args.task.level c.args.parts.now c.requires.parts
+    (node_of (WithView c.in-With.field-0 c.in-With.field-1)) c.in-With.ensures.node With c.in-With.field-0.0 c.in-With.field-1.0 (record { 0 = 0 }) refl
+    c.in-With.ensures.shown.tree (λ u v. refl))
+    c.share_form-in-With.ensures.shows
+
+pub returns-in-With-clause-terms : goal.returns-in-With-clause-terms
+returns-in-With-clause-terms c =
+    let bank = c.args.bank.now in
+    let env = env_of bank c.args.values.now in
+    on_ok c.share_form-in-With.result
+    (term_images_extend bank c.share_form-in-With.new.bank c.share_form-in-With.ensures.keeps env (get same_spot c.args.terms.now.places)
+    c.requires.terms)
+
+pub returns-in-With-clause-keeps : goal.returns-in-With-clause-keeps
+returns-in-With-clause-keeps c =
+    c.share_form-in-With.ensures.keeps
+
+pub bounds-parts-0-in-Tensor : goal.bounds-parts-0-in-Tensor
+bounds-parts-0-in-Tensor c =
+    let bank = c.args.bank.now in
+    let env = env_of bank c.args.values.now in
+    first_inside bank env c.args.task.place c.args.task.level c.args.parts.now c.requires.parts
+    (node_of (TensorView c.in-Tensor.field-0 c.in-Tensor.field-1)) c.in-Tensor.ensures.node 1 refl
+
+pub bounds-parts-1-in-Tensor : goal.bounds-parts-1-in-Tensor
+bounds-parts-1-in-Tensor c =
+    let bank = c.args.bank.now in
+    let env = env_of bank c.args.values.now in
+    second_inside bank env c.args.task.place c.args.task.level c.args.parts.now c.requires.parts
+    (node_of (TensorView c.in-Tensor.field-0 c.in-Tensor.field-1)) c.in-Tensor.ensures.node 0 refl
+
+pub share_form-requires-in-Tensor-clause-inside : goal.share_form-requires-in-Tensor-clause-inside
+share_form-requires-in-Tensor-clause-inside c =
+    c.requires.inside
+
+pub share_form-requires-in-Tensor-clause-parts : goal.share_form-requires-in-Tensor-clause-parts
+share_form-requires-in-Tensor-clause-parts c =
+    let bank = c.args.bank.now in
+    let env = env_of bank c.args.values.now in
+    two_inside bank env c.args.task.place c.args.task.level c.args.parts.now c.requires.parts
+    (node_of (TensorView c.in-Tensor.field-0 c.in-Tensor.field-1)) c.in-Tensor.ensures.node
+    c.in-Tensor.field-0.0 c.in-Tensor.field-1.0 c.args.task.level (record { 0 = 0 }) refl
+
+pub returns-in-Tensor-clause-shows : goal.returns-in-Tensor-clause-shows
+returns-in-Tensor-clause-shows c =
+    let bank = c.args.bank.now in
+    let env = env_of bank c.args.values.now in
+    subst (λ u. IfOk c.share_form-in-Tensor.result (λ image. ShowsForm c.share_form-in-Tensor.new.bank image.0 u))
+    (joins_two bank env c.args.task.place c.args.task.level c.args.parts.now c.requires.parts
+    (node_of (TensorView c.in-Tensor.field-0 c.in-Tensor.field-1)) c.in-Tensor.ensures.node
+    Tensor c.in-Tensor.field-0.0 c.in-Tensor.field-1.0 (record { 0 = 0 }) refl
+    c.in-Tensor.ensures.shown.tree (λ u v. refl))
+    c.share_form-in-Tensor.ensures.shows
+
+pub returns-in-Tensor-clause-terms : goal.returns-in-Tensor-clause-terms
+returns-in-Tensor-clause-terms c =
+    let bank = c.args.bank.now in
+    let env = env_of bank c.args.values.now in
+    on_ok c.share_form-in-Tensor.result
+    (term_images_extend bank c.share_form-in-Tensor.new.bank c.share_form-in-Tensor.ensures.keeps env (get same_spot c.args.terms.now.places)
+    c.requires.terms)
+
+pub returns-in-Tensor-clause-keeps : goal.returns-in-Tensor-clause-keeps
+returns-in-Tensor-clause-keeps c =
+    c.share_form-in-Tensor.ensures.keeps
+
+pub bounds-parts-0-in-Plus : goal.bounds-parts-0-in-Plus
+bounds-parts-0-in-Plus c =
+    let bank = c.args.bank.now in
+    let env = env_of bank c.args.values.now in
+    first_inside bank env c.args.task.place c.args.task.level c.args.parts.now c.requires.parts
+    (node_of (PlusView c.in-Plus.field-0 c.in-Plus.field-1)) c.in-Plus.ensures.node 1 refl
+
+pub bounds-parts-1-in-Plus : goal.bounds-parts-1-in-Plus
+bounds-parts-1-in-Plus c =
+    let bank = c.args.bank.now in
+    let env = env_of bank c.args.values.now in
+    second_inside bank env c.args.task.place c.args.task.level c.args.parts.now c.requires.parts
+    (node_of (PlusView c.in-Plus.field-0 c.in-Plus.field-1)) c.in-Plus.ensures.node 0 refl
+
+pub share_form-requires-in-Plus-clause-inside : goal.share_form-requires-in-Plus-clause-inside
+share_form-requires-in-Plus-clause-inside c =
+    c.requires.inside
+
+pub share_form-requires-in-Plus-clause-parts : goal.share_form-requires-in-Plus-clause-parts
+share_form-requires-in-Plus-clause-parts c =
+    let bank = c.args.bank.now in
+    let env = env_of bank c.args.values.now in
+    two_inside bank env c.args.task.place c.args.task.level c.args.parts.now c.requires.parts
+    (node_of (PlusView c.in-Plus.field-0 c.in-Plus.field-1)) c.in-Plus.ensures.node
+    c.in-Plus.field-0.0 c.in-Plus.field-1.0 c.args.task.level (record { 0 = 0 }) refl
+
+pub returns-in-Plus-clause-shows : goal.returns-in-Plus-clause-shows
+returns-in-Plus-clause-shows c =
+    let bank = c.args.bank.now in
+    let env = env_of bank c.args.values.now in
+    subst (λ u. IfOk c.share_form-in-Plus.result (λ image. ShowsForm c.share_form-in-Plus.new.bank image.0 u))
+    (joins_two bank env c.args.task.place c.args.task.level c.args.parts.now c.requires.parts
+    (node_of (PlusView c.in-Plus.field-0 c.in-Plus.field-1)) c.in-Plus.ensures.node Plus c.in-Plus.field-0.0 c.in-Plus.field-1.0 (record { 0 = 0 }) refl
+    c.in-Plus.ensures.shown.tree (λ u v. refl))
+    c.share_form-in-Plus.ensures.shows
+
+pub returns-in-Plus-clause-terms : goal.returns-in-Plus-clause-terms
+returns-in-Plus-clause-terms c =
+    let bank = c.args.bank.now in
+    let env = env_of bank c.args.values.now in
+    on_ok c.share_form-in-Plus.result
+    (term_images_extend bank c.share_form-in-Plus.new.bank c.share_form-in-Plus.ensures.keeps env (get same_spot c.args.terms.now.places)
+    c.requires.terms)
+
+pub returns-in-Plus-clause-keeps : goal.returns-in-Plus-clause-keeps
+returns-in-Plus-clause-keeps c =
+    c.share_form-in-Plus.ensures.keeps
+
+pub bounds-parts-0-in-Lolli : goal.bounds-parts-0-in-Lolli
+bounds-parts-0-in-Lolli c =
+    let bank = c.args.bank.now in
+    let env = env_of bank c.args.values.now in
+    first_inside bank env c.args.task.place c.args.task.level c.args.parts.now c.requires.parts
+    (node_of (LolliView c.in-Lolli.field-0 c.in-Lolli.field-1)) c.in-Lolli.ensures.node 1 refl
+
+pub bounds-parts-1-in-Lolli : goal.bounds-parts-1-in-Lolli
+bounds-parts-1-in-Lolli c =
+    let bank = c.args.bank.now in
+    let env = env_of bank c.args.values.now in
+    second_inside bank env c.args.task.place c.args.task.level c.args.parts.now c.requires.parts
+    (node_of (LolliView c.in-Lolli.field-0 c.in-Lolli.field-1)) c.in-Lolli.ensures.node 0 refl
+
+pub share_form-requires-in-Lolli-clause-inside : goal.share_form-requires-in-Lolli-clause-inside
+share_form-requires-in-Lolli-clause-inside c =
+    c.requires.inside
+
+pub share_form-requires-in-Lolli-clause-parts : goal.share_form-requires-in-Lolli-clause-parts
+share_form-requires-in-Lolli-clause-parts c =
+    let bank = c.args.bank.now in
+    let env = env_of bank c.args.values.now in
+    two_inside bank env c.args.task.place c.args.task.level c.args.parts.now c.requires.parts
+    (node_of (LolliView c.in-Lolli.field-0 c.in-Lolli.field-1)) c.in-Lolli.ensures.node
+    c.in-Lolli.field-0.0 c.in-Lolli.field-1.0 c.args.task.level (record { 0 = 0 }) refl
+
+pub returns-in-Lolli-clause-shows : goal.returns-in-Lolli-clause-shows
+returns-in-Lolli-clause-shows c =
+    let bank = c.args.bank.now in
+    let env = env_of bank c.args.values.now in
+    subst (λ u. IfOk c.share_form-in-Lolli.result (λ image. ShowsForm c.share_form-in-Lolli.new.bank image.0 u))
+    (joins_two bank env c.args.task.place c.args.task.level c.args.parts.now c.requires.parts
+    (node_of (LolliView c.in-Lolli.field-0 c.in-Lolli.field-1)) c.in-Lolli.ensures.node Lolli c.in-Lolli.field-0.0 c.in-Lolli.field-1.0 (record { 0 = 0 }) refl
+    c.in-Lolli.ensures.shown.tree (λ u v. refl))
+    c.share_form-in-Lolli.ensures.shows
+
+pub returns-in-Lolli-clause-terms : goal.returns-in-Lolli-clause-terms
+returns-in-Lolli-clause-terms c =
+    let bank = c.args.bank.now in
+    let env = env_of bank c.args.values.now in
+    on_ok c.share_form-in-Lolli.result
+    (term_images_extend bank c.share_form-in-Lolli.new.bank c.share_form-in-Lolli.ensures.keeps env (get same_spot c.args.terms.now.places)
+    c.requires.terms)
+
+pub returns-in-Lolli-clause-keeps : goal.returns-in-Lolli-clause-keeps
+returns-in-Lolli-clause-keeps c =
+    c.share_form-in-Lolli.ensures.keeps
+
+pub bounds-parts-0-in-Imp : goal.bounds-parts-0-in-Imp
+bounds-parts-0-in-Imp c =
+    let bank = c.args.bank.now in
+    let env = env_of bank c.args.values.now in
+    first_inside bank env c.args.task.place c.args.task.level c.args.parts.now c.requires.parts
+    (node_of (ImpView c.in-Imp.field-0 c.in-Imp.field-1)) c.in-Imp.ensures.node 1 refl
+
+pub bounds-parts-1-in-Imp : goal.bounds-parts-1-in-Imp
+bounds-parts-1-in-Imp c =
+    let bank = c.args.bank.now in
+    let env = env_of bank c.args.values.now in
+    second_inside bank env c.args.task.place c.args.task.level c.args.parts.now c.requires.parts
+    (node_of (ImpView c.in-Imp.field-0 c.in-Imp.field-1)) c.in-Imp.ensures.node 0 refl
+
+pub share_form-requires-in-Imp-clause-inside : goal.share_form-requires-in-Imp-clause-inside
+share_form-requires-in-Imp-clause-inside c =
+    c.requires.inside
+
+pub share_form-requires-in-Imp-clause-parts : goal.share_form-requires-in-Imp-clause-parts
+share_form-requires-in-Imp-clause-parts c =
+    let bank = c.args.bank.now in
+    let env = env_of bank c.args.values.now in
+    two_inside bank env c.args.task.place c.args.task.level c.args.parts.now c.requires.parts
+    (node_of (ImpView c.in-Imp.field-0 c.in-Imp.field-1)) c.in-Imp.ensures.node c.in-Imp.field-0.0 c.in-Imp.field-1.0 c.args.task.level (record { 0 = 0 }) refl
+
+pub returns-in-Imp-clause-shows : goal.returns-in-Imp-clause-shows
+returns-in-Imp-clause-shows c =
+    let bank = c.args.bank.now in
+    let env = env_of bank c.args.values.now in
+    subst (λ u. IfOk c.share_form-in-Imp.result (λ image. ShowsForm c.share_form-in-Imp.new.bank image.0 u))
+    (joins_two bank env c.args.task.place c.args.task.level c.args.parts.now c.requires.parts
+    (node_of (ImpView c.in-Imp.field-0 c.in-Imp.field-1)) c.in-Imp.ensures.node Imp c.in-Imp.field-0.0 c.in-Imp.field-1.0 (record { 0 = 0 }) refl
+    c.in-Imp.ensures.shown.tree (λ u v. refl))
+    c.share_form-in-Imp.ensures.shows
+
+pub returns-in-Imp-clause-terms : goal.returns-in-Imp-clause-terms
+returns-in-Imp-clause-terms c =
+    let bank = c.args.bank.now in
+    let env = env_of bank c.args.values.now in
+    on_ok c.share_form-in-Imp.result
+    (term_images_extend bank c.share_form-in-Imp.new.bank c.share_form-in-Imp.ensures.keeps env (get same_spot c.args.terms.now.places)
+    c.requires.terms)
+
+pub returns-in-Imp-clause-keeps : goal.returns-in-Imp-clause-keeps
+returns-in-Imp-clause-keeps c =
+    c.share_form-in-Imp.ensures.keeps
+
+pub bounds-parts-0-in-Bang : goal.bounds-parts-0-in-Bang
+bounds-parts-0-in-Bang c =
+    let bank = c.args.bank.now in
+    let env = env_of bank c.args.values.now in
+    first_inside bank env c.args.task.place c.args.task.level c.args.parts.now c.requires.parts
+    (node_of (BangView c.in-Bang.field-0)) c.in-Bang.ensures.node 0 refl
+
+pub share_form-requires-in-Bang-clause-inside : goal.share_form-requires-in-Bang-clause-inside
+share_form-requires-in-Bang-clause-inside c =
+    c.requires.inside
+
+pub share_form-requires-in-Bang-clause-parts : goal.share_form-requires-in-Bang-clause-parts
+share_form-requires-in-Bang-clause-parts c =
+    let bank = c.args.bank.now in
+    let env = env_of bank c.args.values.now in
+    (one_image bank env c.args.task.place c.args.task.level c.args.parts.now c.requires.parts
+    (node_of (BangView c.in-Bang.field-0)) c.in-Bang.ensures.node c.in-Bang.field-0.0 c.args.task.level (record { 0 = 0 }) refl).inside
+
+pub returns-in-Bang-clause-shows : goal.returns-in-Bang-clause-shows
+returns-in-Bang-clause-shows c =
+    let bank = c.args.bank.now in
+    let env = env_of bank c.args.values.now in
+    subst (λ u. IfOk c.share_form-in-Bang.result (λ image. ShowsForm c.share_form-in-Bang.new.bank image.0 u))
+    (joins_one bank env c.args.task.place c.args.task.level c.args.parts.now c.requires.parts
+    (node_of (BangView c.in-Bang.field-0)) c.in-Bang.ensures.node Bang c.in-Bang.field-0.0 c.args.task.level (record { 0 = 0 }) refl
+    c.in-Bang.ensures.shown.tree (λ u. refl))
+    c.share_form-in-Bang.ensures.shows
+
+pub returns-in-Bang-clause-terms : goal.returns-in-Bang-clause-terms
+returns-in-Bang-clause-terms c =
+    let bank = c.args.bank.now in
+    let env = env_of bank c.args.values.now in
+    on_ok c.share_form-in-Bang.result
+    (term_images_extend bank c.share_form-in-Bang.new.bank c.share_form-in-Bang.ensures.keeps env (get same_spot c.args.terms.now.places)
+    c.requires.terms)
+
+pub returns-in-Bang-clause-keeps : goal.returns-in-Bang-clause-keeps
+returns-in-Bang-clause-keeps c =
+    c.share_form-in-Bang.ensures.keeps
+
+pub bounds-parts-0-in-Forall : goal.bounds-parts-0-in-Forall
+bounds-parts-0-in-Forall c =
+    let bank = c.args.bank.now in
+    let env = env_of bank c.args.values.now in
+    first_inside bank env c.args.task.place c.args.task.level c.args.parts.now c.requires.parts
+    (node_of (ForallView c.in-Forall.field-0)) c.in-Forall.ensures.node 0 refl
+
+pub share_form-requires-in-Forall-clause-inside : goal.share_form-requires-in-Forall-clause-inside
+share_form-requires-in-Forall-clause-inside c =
+    c.requires.inside
+
+pub share_form-requires-in-Forall-clause-parts : goal.share_form-requires-in-Forall-clause-parts
+share_form-requires-in-Forall-clause-parts c =
+    let bank = c.args.bank.now in
+    let env = env_of bank c.args.values.now in
+    (one_image bank env c.args.task.place c.args.task.level c.args.parts.now c.requires.parts
+    (node_of (ForallView c.in-Forall.field-0)) c.in-Forall.ensures.node c.in-Forall.field-0.0 (c.args.task.level + 1) (record { 0 = 0 }) refl).inside
+
+pub returns-in-Forall-clause-shows : goal.returns-in-Forall-clause-shows
+returns-in-Forall-clause-shows c =
+    let bank = c.args.bank.now in
+    let env = env_of bank c.args.values.now in
+    subst (λ u. IfOk c.share_form-in-Forall.result (λ image. ShowsForm c.share_form-in-Forall.new.bank image.0 u))
+    (joins_one bank env c.args.task.place c.args.task.level c.args.parts.now c.requires.parts
+    (node_of (ForallView c.in-Forall.field-0)) c.in-Forall.ensures.node Forall c.in-Forall.field-0.0 (c.args.task.level + 1) (record { 0 = 0 }) refl
+    c.in-Forall.ensures.shown.tree (λ u. ap (λ m. Forall (close_form (under env m) u)) (sym (add-one c.args.task.level))))
+    c.share_form-in-Forall.ensures.shows
+
+pub returns-in-Forall-clause-terms : goal.returns-in-Forall-clause-terms
+returns-in-Forall-clause-terms c =
+    let bank = c.args.bank.now in
+    let env = env_of bank c.args.values.now in
+    on_ok c.share_form-in-Forall.result
+    (term_images_extend bank c.share_form-in-Forall.new.bank c.share_form-in-Forall.ensures.keeps env (get same_spot c.args.terms.now.places)
+    c.requires.terms)
+
+pub returns-in-Forall-clause-keeps : goal.returns-in-Forall-clause-keeps
+returns-in-Forall-clause-keeps c =
+    c.share_form-in-Forall.ensures.keeps
+
+pub bounds-parts-0-in-Exists : goal.bounds-parts-0-in-Exists
+bounds-parts-0-in-Exists c =
+    let bank = c.args.bank.now in
+    let env = env_of bank c.args.values.now in
+    first_inside bank env c.args.task.place c.args.task.level c.args.parts.now c.requires.parts
+    (node_of (ExistsView c.in-Exists.field-0)) c.in-Exists.ensures.node 0 refl
+
+pub share_form-requires-in-Exists-clause-inside : goal.share_form-requires-in-Exists-clause-inside
+share_form-requires-in-Exists-clause-inside c =
+    c.requires.inside
+
+pub share_form-requires-in-Exists-clause-parts : goal.share_form-requires-in-Exists-clause-parts
+share_form-requires-in-Exists-clause-parts c =
+    let bank = c.args.bank.now in
+    let env = env_of bank c.args.values.now in
+    (one_image bank env c.args.task.place c.args.task.level c.args.parts.now c.requires.parts
+    (node_of (ExistsView c.in-Exists.field-0)) c.in-Exists.ensures.node c.in-Exists.field-0.0 (c.args.task.level + 1) (record { 0 = 0 }) refl).inside
+
+pub returns-in-Exists-clause-shows : goal.returns-in-Exists-clause-shows
+returns-in-Exists-clause-shows c =
+    let bank = c.args.bank.now in
+    let env = env_of bank c.args.values.now in
+    subst (λ u. IfOk c.share_form-in-Exists.result (λ image. ShowsForm c.share_form-in-Exists.new.bank image.0 u))
+    (joins_one bank env c.args.task.place c.args.task.level c.args.parts.now c.requires.parts
+    (node_of (ExistsView c.in-Exists.field-0)) c.in-Exists.ensures.node Exists c.in-Exists.field-0.0 (c.args.task.level + 1) (record { 0 = 0 }) refl
+    c.in-Exists.ensures.shown.tree (λ u. ap (λ m. Exists (close_form (under env m) u)) (sym (add-one c.args.task.level))))
+    c.share_form-in-Exists.ensures.shows
+
+pub returns-in-Exists-clause-terms : goal.returns-in-Exists-clause-terms
+returns-in-Exists-clause-terms c =
+    let bank = c.args.bank.now in
+    let env = env_of bank c.args.values.now in
+    on_ok c.share_form-in-Exists.result
+    (term_images_extend bank c.share_form-in-Exists.new.bank c.share_form-in-Exists.ensures.keeps env (get same_spot c.args.terms.now.places)
+    c.requires.terms)
+
+pub returns-in-Exists-clause-keeps : goal.returns-in-Exists-clause-keeps
+returns-in-Exists-clause-keeps c =
+    c.share_form-in-Exists.ensures.keeps
+
+pub closed_term-requires-clause-inside : goal.closed_term-requires-clause-inside
+closed_term-requires-clause-inside c =
+    c.in-Atom.ensures.shown.parts
+
+pub closed_term-requires-clause-values : goal.closed_term-requires-clause-values
+closed_term-requires-clause-values c =
+    c.requires.values
+
+pub closed_term-requires-clause-heads : goal.closed_term-requires-clause-heads
+closed_term-requires-clause-heads c =
+    let e = under (env_of c.args.bank.now c.args.values.now) c.args.task.level in
+    sym (ap (λ x. form_applies_heads (close_form e x)) c.in-Atom.ensures.shown.tree) ∙ c.requires.heads
+
+pub closed_term-requires-clause-images : goal.closed_term-requires-clause-images
+closed_term-requires-clause-images c =
+    c.requires.terms
+
+pub returns-in_err-atom-in-Atom-clause-keeps : goal.returns-in_err-atom-in-Atom-clause-keeps
+returns-in_err-atom-in-Atom-clause-keeps c =
+    c.closed_term.ensures.keeps
+
+pub share_form-requires-clause-inside : goal.share_form-requires-clause-inside
+share_form-requires-clause-inside c =
+    HasForm-extends c.closed_term.ensures.keeps c.args.task.place c.requires.inside
+
+pub share_form-requires-clause-parts : goal.share_form-requires-clause-parts
+share_form-requires-clause-parts c =
+    c.in_ok-atom-in-Atom.ensures.shows.inside
+
+pub returns-in_ok-atom-in-Atom-clause-shows : goal.returns-in_ok-atom-in-Atom-clause-shows
+returns-in_ok-atom-in-Atom-clause-shows c =
+    let e = under (env_of c.args.bank.now c.args.values.now) c.args.task.level in
+    subst (λ u. IfOk c.share_form.result (λ image. ShowsForm c.share_form.new.bank image.0 u))
+    (ap Atom c.in_ok-atom-in-Atom.ensures.shows.tree ∙ sym (ap (close_form e) c.in-Atom.ensures.shown.tree))
+    c.share_form.ensures.shows
+
+pub returns-in_ok-atom-in-Atom-clause-terms : goal.returns-in_ok-atom-in-Atom-clause-terms
+returns-in_ok-atom-in-Atom-clause-terms c =
+    let env = env_of c.args.bank.now c.args.values.now in
+    on_ok c.share_form.result
+    (term_images_extend c.closed_term.new.bank c.share_form.new.bank c.share_form.ensures.keeps env (get same_spot c.closed_term.new.images.places)
+    c.in_ok-atom-in-Atom.ensures.images)
+
+pub returns-in_ok-atom-in-Atom-clause-keeps : goal.returns-in_ok-atom-in-Atom-clause-keeps
+returns-in_ok-atom-in-Atom-clause-keeps c =
+    Extends-trans c.closed_term.ensures.keeps c.share_form.ensures.keeps
+
+pub closed_two-requires-clause-left : goal.closed_two-requires-clause-left
+closed_two-requires-clause-left c =
+    c.in-Is.ensures.shown.parts.0
+
+pub closed_two-requires-clause-right : goal.closed_two-requires-clause-right
+closed_two-requires-clause-right c =
+    c.in-Is.ensures.shown.parts.1
+
+pub closed_two-requires-clause-values : goal.closed_two-requires-clause-values
+closed_two-requires-clause-values c =
+    c.requires.values
+
+pub closed_two-requires-clause-left_heads : goal.closed_two-requires-clause-left_heads
+closed_two-requires-clause-left_heads c =
+    let bank = c.args.bank.now in
+    let e = under (env_of bank c.args.values.now) c.args.task.level in
+    (and_parts (applies_heads (close e (term_tree bank c.in-Is.left.0)))
+    (applies_heads (close e (term_tree bank c.in-Is.right.0)))
+    (sym (ap (λ x. form_applies_heads (close_form e x)) c.in-Is.ensures.shown.tree) ∙ c.requires.heads)).0
+
+pub closed_two-requires-clause-right_heads : goal.closed_two-requires-clause-right_heads
+closed_two-requires-clause-right_heads c =
+    let bank = c.args.bank.now in
+    let e = under (env_of bank c.args.values.now) c.args.task.level in
+    (and_parts (applies_heads (close e (term_tree bank c.in-Is.left.0)))
+    (applies_heads (close e (term_tree bank c.in-Is.right.0)))
+    (sym (ap (λ x. form_applies_heads (close_form e x)) c.in-Is.ensures.shown.tree) ∙ c.requires.heads)).1
+
+pub closed_two-requires-clause-terms : goal.closed_two-requires-clause-terms
+closed_two-requires-clause-terms c =
+    c.requires.terms
+
+pub returns-in_err-left-in-Is-clause-keeps : goal.returns-in_err-left-in-Is-clause-keeps
+returns-in_err-left-in-Is-clause-keeps c =
+    c.closed_two.ensures.keeps
+
+pub share_form-requires-in-Is-clause-inside : goal.share_form-requires-in-Is-clause-inside
+share_form-requires-in-Is-clause-inside c =
+    HasForm-extends c.closed_two.ensures.keeps c.args.task.place c.requires.inside
+
+pub share_form-requires-in-Is-clause-parts : goal.share_form-requires-in-Is-clause-parts
+share_form-requires-in-Is-clause-parts c =
+    (c.in_ok-left-in-Is.ensures.left.inside, c.in_ok-left-in-Is.ensures.right.inside)
+
+pub returns-in_ok-left-in-Is-clause-shows : goal.returns-in_ok-left-in-Is-clause-shows
+returns-in_ok-left-in-Is-clause-shows c =
+    let e = under (env_of c.args.bank.now c.args.values.now) c.args.task.level in
+    subst (λ u. IfOk c.share_form-in-Is.result (λ image. ShowsForm c.share_form-in-Is.new.bank image.0 u))
+    ((λ i. Num Is (c.in_ok-left-in-Is.ensures.left.tree i) (c.in_ok-left-in-Is.ensures.right.tree i))
+    ∙ sym (ap (close_form e) c.in-Is.ensures.shown.tree))
+    c.share_form-in-Is.ensures.shows
+
+pub returns-in_ok-left-in-Is-clause-terms : goal.returns-in_ok-left-in-Is-clause-terms
+returns-in_ok-left-in-Is-clause-terms c =
+    let env = env_of c.args.bank.now c.args.values.now in
+    on_ok c.share_form-in-Is.result
+    (term_images_extend c.closed_two.new.bank c.share_form-in-Is.new.bank c.share_form-in-Is.ensures.keeps env
+    (get same_spot c.closed_two.new.terms.places) c.in_ok-left-in-Is.ensures.terms)
+
+pub returns-in_ok-left-in-Is-clause-keeps : goal.returns-in_ok-left-in-Is-clause-keeps
+returns-in_ok-left-in-Is-clause-keeps c =
+    Extends-trans c.closed_two.ensures.keeps c.share_form-in-Is.ensures.keeps
+
+pub closed_two-requires-in-Less-clause-left : goal.closed_two-requires-in-Less-clause-left
+closed_two-requires-in-Less-clause-left c =
+    c.in-Less.ensures.shown.parts.0
+
+pub closed_two-requires-in-Less-clause-right : goal.closed_two-requires-in-Less-clause-right
+closed_two-requires-in-Less-clause-right c =
+    c.in-Less.ensures.shown.parts.1
+
+pub closed_two-requires-in-Less-clause-values : goal.closed_two-requires-in-Less-clause-values
+closed_two-requires-in-Less-clause-values c =
+    c.requires.values
+
+pub closed_two-requires-in-Less-clause-left_heads : goal.closed_two-requires-in-Less-clause-left_heads
+closed_two-requires-in-Less-clause-left_heads c =
+    let bank = c.args.bank.now in
+    let e = under (env_of bank c.args.values.now) c.args.task.level in
+    (and_parts (applies_heads (close e (term_tree bank c.in-Less.left.0)))
+    (applies_heads (close e (term_tree bank c.in-Less.right.0)))
+    (sym (ap (λ x. form_applies_heads (close_form e x)) c.in-Less.ensures.shown.tree) ∙ c.requires.heads)).0
+
+pub closed_two-requires-in-Less-clause-right_heads : goal.closed_two-requires-in-Less-clause-right_heads
+closed_two-requires-in-Less-clause-right_heads c =
+    let bank = c.args.bank.now in
+    let e = under (env_of bank c.args.values.now) c.args.task.level in
+    (and_parts (applies_heads (close e (term_tree bank c.in-Less.left.0)))
+    (applies_heads (close e (term_tree bank c.in-Less.right.0)))
+    (sym (ap (λ x. form_applies_heads (close_form e x)) c.in-Less.ensures.shown.tree) ∙ c.requires.heads)).1
+
+pub closed_two-requires-in-Less-clause-terms : goal.closed_two-requires-in-Less-clause-terms
+closed_two-requires-in-Less-clause-terms c =
+    c.requires.terms
+
+pub returns-in_err-left-in-Less-clause-keeps : goal.returns-in_err-left-in-Less-clause-keeps
+returns-in_err-left-in-Less-clause-keeps c =
+    c.closed_two-in-Less.ensures.keeps
+
+pub share_form-requires-in-Less-clause-inside : goal.share_form-requires-in-Less-clause-inside
+share_form-requires-in-Less-clause-inside c =
+    HasForm-extends c.closed_two-in-Less.ensures.keeps c.args.task.place c.requires.inside
+
+pub share_form-requires-in-Less-clause-parts : goal.share_form-requires-in-Less-clause-parts
+share_form-requires-in-Less-clause-parts c =
+    (c.in_ok-left-in-Less.ensures.left.inside, c.in_ok-left-in-Less.ensures.right.inside)
+
+pub returns-in_ok-left-in-Less-clause-shows : goal.returns-in_ok-left-in-Less-clause-shows
+returns-in_ok-left-in-Less-clause-shows c =
+    let e = under (env_of c.args.bank.now c.args.values.now) c.args.task.level in
+    subst (λ u. IfOk c.share_form-in-Less.result (λ image. ShowsForm c.share_form-in-Less.new.bank image.0 u))
+    ((λ i. Num Less (c.in_ok-left-in-Less.ensures.left.tree i) (c.in_ok-left-in-Less.ensures.right.tree i))
+    ∙ sym (ap (close_form e) c.in-Less.ensures.shown.tree))
+    c.share_form-in-Less.ensures.shows
+
+pub returns-in_ok-left-in-Less-clause-terms : goal.returns-in_ok-left-in-Less-clause-terms
+returns-in_ok-left-in-Less-clause-terms c =
+    let env = env_of c.args.bank.now c.args.values.now in
+    on_ok c.share_form-in-Less.result
+    (term_images_extend c.closed_two-in-Less.new.bank c.share_form-in-Less.new.bank c.share_form-in-Less.ensures.keeps env
+    (get same_spot c.closed_two-in-Less.new.terms.places) c.in_ok-left-in-Less.ensures.terms)
+
+pub returns-in_ok-left-in-Less-clause-keeps : goal.returns-in_ok-left-in-Less-clause-keeps
+returns-in_ok-left-in-Less-clause-keeps c =
+    Extends-trans c.closed_two-in-Less.ensures.keeps c.share_form-in-Less.ensures.keeps
+
+pub closed_two-requires-in-Most-clause-left : goal.closed_two-requires-in-Most-clause-left
+closed_two-requires-in-Most-clause-left c =
+    c.in-Most.ensures.shown.parts.0
+
+pub closed_two-requires-in-Most-clause-right : goal.closed_two-requires-in-Most-clause-right
+closed_two-requires-in-Most-clause-right c =
+    c.in-Most.ensures.shown.parts.1
+
+pub closed_two-requires-in-Most-clause-values : goal.closed_two-requires-in-Most-clause-values
+closed_two-requires-in-Most-clause-values c =
+    c.requires.values
+
+pub closed_two-requires-in-Most-clause-left_heads : goal.closed_two-requires-in-Most-clause-left_heads
+closed_two-requires-in-Most-clause-left_heads c =
+    let bank = c.args.bank.now in
+    let e = under (env_of bank c.args.values.now) c.args.task.level in
+    (and_parts (applies_heads (close e (term_tree bank c.in-Most.left.0)))
+    (applies_heads (close e (term_tree bank c.in-Most.right.0)))
+    (sym (ap (λ x. form_applies_heads (close_form e x)) c.in-Most.ensures.shown.tree) ∙ c.requires.heads)).0
+
+pub closed_two-requires-in-Most-clause-right_heads : goal.closed_two-requires-in-Most-clause-right_heads
+closed_two-requires-in-Most-clause-right_heads c =
+    let bank = c.args.bank.now in
+    let e = under (env_of bank c.args.values.now) c.args.task.level in
+    (and_parts (applies_heads (close e (term_tree bank c.in-Most.left.0)))
+    (applies_heads (close e (term_tree bank c.in-Most.right.0)))
+    (sym (ap (λ x. form_applies_heads (close_form e x)) c.in-Most.ensures.shown.tree) ∙ c.requires.heads)).1
+
+pub closed_two-requires-in-Most-clause-terms : goal.closed_two-requires-in-Most-clause-terms
+closed_two-requires-in-Most-clause-terms c =
+    c.requires.terms
+
+pub returns-in_err-left-in-Most-clause-keeps : goal.returns-in_err-left-in-Most-clause-keeps
+returns-in_err-left-in-Most-clause-keeps c =
+    c.closed_two-in-Most.ensures.keeps
+
+pub share_form-requires-in-Most-clause-inside : goal.share_form-requires-in-Most-clause-inside
+share_form-requires-in-Most-clause-inside c =
+    HasForm-extends c.closed_two-in-Most.ensures.keeps c.args.task.place c.requires.inside
+
+pub share_form-requires-in-Most-clause-parts : goal.share_form-requires-in-Most-clause-parts
+share_form-requires-in-Most-clause-parts c =
+    (c.in_ok-left-in-Most.ensures.left.inside, c.in_ok-left-in-Most.ensures.right.inside)
+
+pub returns-in_ok-left-in-Most-clause-shows : goal.returns-in_ok-left-in-Most-clause-shows
+returns-in_ok-left-in-Most-clause-shows c =
+    let e = under (env_of c.args.bank.now c.args.values.now) c.args.task.level in
+    subst (λ u. IfOk c.share_form-in-Most.result (λ image. ShowsForm c.share_form-in-Most.new.bank image.0 u))
+    ((λ i. Num Most (c.in_ok-left-in-Most.ensures.left.tree i) (c.in_ok-left-in-Most.ensures.right.tree i))
+    ∙ sym (ap (close_form e) c.in-Most.ensures.shown.tree))
+    c.share_form-in-Most.ensures.shows
+
+pub returns-in_ok-left-in-Most-clause-terms : goal.returns-in_ok-left-in-Most-clause-terms
+returns-in_ok-left-in-Most-clause-terms c =
+    let env = env_of c.args.bank.now c.args.values.now in
+    on_ok c.share_form-in-Most.result
+    (term_images_extend c.closed_two-in-Most.new.bank c.share_form-in-Most.new.bank c.share_form-in-Most.ensures.keeps env
+    (get same_spot c.closed_two-in-Most.new.terms.places) c.in_ok-left-in-Most.ensures.terms)
+
+pub returns-in_ok-left-in-Most-clause-keeps : goal.returns-in_ok-left-in-Most-clause-keeps
+returns-in_ok-left-in-Most-clause-keeps c =
+    Extends-trans c.closed_two-in-Most.ensures.keeps c.share_form-in-Most.ensures.keeps
+
+pub bounds-parts-0-in-Use : goal.bounds-parts-0-in-Use
+bounds-parts-0-in-Use c =
+    let bank = c.args.bank.now in
+    let env = env_of bank c.args.values.now in
+    first_inside bank env c.args.task.place c.args.task.level c.args.parts.now c.requires.parts
+    (node_of (UseView c.in-Use.module c.in-Use.args c.in-Use.field-2)) c.in-Use.ensures.node 0 refl
 
 pub returns-in_err-args-in-Use-clause-keeps : goal.returns-in_err-args-in-Use-clause-keeps
 returns-in_err-args-in-Use-clause-keeps c =
     Extends-refl c.args.bank.now
 
-pub returns-in-With-clause-shows : goal.returns-in-With-clause-shows
-returns-in-With-clause-shows c =
-    let t = two_images c.args.bank.now (env_of c.args.bank.now c.args.values.now) c.args.task.place c.args.task.level c.args.parts.now c.requires.parts
-    (node_of (WithView c.in-With.field-0 c.in-With.field-1)) c.in-With.ensures.node c.in-With.field-0.0 c.in-With.field-1.0 c.args.task.level
-    (record { 0 = 0 }) refl in
-    subst (λ u. IfOk c.share_form-in-With.result (λ image. ShowsForm c.share_form-in-With.new.bank image.0 u))
-    ((λ i. With (t.0.tree i) (t.1.tree i)) ∙ sym (ap (close_form (under (env_of c.args.bank.now c.args.values.now) c.args.task.level))
-    c.in-With.ensures.shown.tree)) c.share_form-in-With.ensures.shows
+pub closed_terms-requires-clause-inside : goal.closed_terms-requires-clause-inside
+closed_terms-requires-clause-inside c =
+    subst (AllInTerms c.args.bank.now) (sym (c.deref.ensures.value ∙ c.in_ok-args-in-Use.ensures.items)) c.in-Use.ensures.shown.parts.0
 
-pub returns-in-Tensor-clause-shows : goal.returns-in-Tensor-clause-shows
-returns-in-Tensor-clause-shows c =
-    let t = two_images c.args.bank.now (env_of c.args.bank.now c.args.values.now) c.args.task.place c.args.task.level c.args.parts.now c.requires.parts
-    (node_of (TensorView c.in-Tensor.field-0 c.in-Tensor.field-1)) c.in-Tensor.ensures.node c.in-Tensor.field-0.0 c.in-Tensor.field-1.0 c.args.task.level
-    (record { 0 = 0 }) refl in
-    subst (λ u. IfOk c.share_form-in-Tensor.result (λ image. ShowsForm c.share_form-in-Tensor.new.bank image.0 u))
-    ((λ i. Tensor (t.0.tree i) (t.1.tree i)) ∙ sym (ap (close_form (under (env_of c.args.bank.now c.args.values.now) c.args.task.level))
-    c.in-Tensor.ensures.shown.tree)) c.share_form-in-Tensor.ensures.shows
+pub closed_terms-requires-clause-values : goal.closed_terms-requires-clause-values
+closed_terms-requires-clause-values c =
+    c.requires.values
 
-pub returns-in-Plus-clause-shows : goal.returns-in-Plus-clause-shows
-returns-in-Plus-clause-shows c =
-    let t = two_images c.args.bank.now (env_of c.args.bank.now c.args.values.now) c.args.task.place c.args.task.level c.args.parts.now c.requires.parts
-    (node_of (PlusView c.in-Plus.field-0 c.in-Plus.field-1)) c.in-Plus.ensures.node c.in-Plus.field-0.0 c.in-Plus.field-1.0 c.args.task.level
-    (record { 0 = 0 }) refl in
-    subst (λ u. IfOk c.share_form-in-Plus.result (λ image. ShowsForm c.share_form-in-Plus.new.bank image.0 u))
-    ((λ i. Plus (t.0.tree i) (t.1.tree i)) ∙ sym (ap (close_form (under (env_of c.args.bank.now c.args.values.now) c.args.task.level))
-    c.in-Plus.ensures.shown.tree)) c.share_form-in-Plus.ensures.shows
+pub closed_terms-requires-clause-terms : goal.closed_terms-requires-clause-terms
+closed_terms-requires-clause-terms c =
+    c.requires.terms
 
-pub returns-in-Lolli-clause-shows : goal.returns-in-Lolli-clause-shows
-returns-in-Lolli-clause-shows c =
-    let t = two_images c.args.bank.now (env_of c.args.bank.now c.args.values.now) c.args.task.place c.args.task.level c.args.parts.now c.requires.parts
-    (node_of (LolliView c.in-Lolli.field-0 c.in-Lolli.field-1)) c.in-Lolli.ensures.node c.in-Lolli.field-0.0 c.in-Lolli.field-1.0 c.args.task.level
-    (record { 0 = 0 }) refl in
-    subst (λ u. IfOk c.share_form-in-Lolli.result (λ image. ShowsForm c.share_form-in-Lolli.new.bank image.0 u))
-    ((λ i. Lolli (t.0.tree i) (t.1.tree i)) ∙ sym (ap (close_form (under (env_of c.args.bank.now c.args.values.now) c.args.task.level))
-    c.in-Lolli.ensures.shown.tree)) c.share_form-in-Lolli.ensures.shows
+pub returns-in_err-args-in-Use-2-clause-keeps : goal.returns-in_err-args-in-Use-2-clause-keeps
+returns-in_err-args-in-Use-2-clause-keeps c =
+    c.closed_terms.ensures.keeps
 
-pub returns-in-Imp-clause-shows : goal.returns-in-Imp-clause-shows
-returns-in-Imp-clause-shows c =
-    let t = two_images c.args.bank.now (env_of c.args.bank.now c.args.values.now) c.args.task.place c.args.task.level c.args.parts.now c.requires.parts
-    (node_of (ImpView c.in-Imp.field-0 c.in-Imp.field-1)) c.in-Imp.ensures.node c.in-Imp.field-0.0 c.in-Imp.field-1.0 c.args.task.level (record { 0 = 0 })
-    refl in
-    subst (λ u. IfOk c.share_form-in-Imp.result (λ image. ShowsForm c.share_form-in-Imp.new.bank image.0 u))
-    ((λ i. Imp (t.0.tree i) (t.1.tree i)) ∙ sym (ap (close_form (under (env_of c.args.bank.now c.args.values.now) c.args.task.level))
-    c.in-Imp.ensures.shown.tree)) c.share_form-in-Imp.ensures.shows
+pub share_form-requires-in-Use-clause-inside : goal.share_form-requires-in-Use-clause-inside
+share_form-requires-in-Use-clause-inside c =
+    HasForm-extends c.closed_terms.ensures.keeps c.args.task.place c.requires.inside
 
-pub returns-in-Bang-clause-shows : goal.returns-in-Bang-clause-shows
-returns-in-Bang-clause-shows c =
-    let t = one_image c.args.bank.now (env_of c.args.bank.now c.args.values.now) c.args.task.place c.args.task.level c.args.parts.now c.requires.parts
-    (node_of (BangView c.in-Bang.field-0)) c.in-Bang.ensures.node c.in-Bang.field-0.0 c.args.task.level (record { 0 = 0 }) refl in
-    subst (λ u. IfOk c.share_form-in-Bang.result (λ image. ShowsForm c.share_form-in-Bang.new.bank image.0 u))
-    (ap Bang t.tree ∙ sym (ap (close_form (under (env_of c.args.bank.now c.args.values.now) c.args.task.level)) c.in-Bang.ensures.shown.tree))
-    c.share_form-in-Bang.ensures.shows
-
-pub returns-in-Forall-clause-shows : goal.returns-in-Forall-clause-shows
-returns-in-Forall-clause-shows c =
-    let t = one_image c.args.bank.now (env_of c.args.bank.now c.args.values.now) c.args.task.place c.args.task.level c.args.parts.now c.requires.parts
-    (node_of (ForallView c.in-Forall.field-0)) c.in-Forall.ensures.node c.in-Forall.field-0.0 (c.args.task.level + 1) (record { 0 = 0 }) refl in
-    subst (λ u. IfOk c.share_form-in-Forall.result (λ image. ShowsForm c.share_form-in-Forall.new.bank image.0 u))
-    (ap Forall (t.tree ∙ ap (λ m. close_form (under (env_of c.args.bank.now c.args.values.now) m) (form_tree c.args.bank.now c.in-Forall.field-0.0))
-    (let q : c.args.task.level + 1 ≡ suc c.args.task.level = omega arith in q))
-    ∙ sym (ap (close_form (under (env_of c.args.bank.now c.args.values.now) c.args.task.level)) c.in-Forall.ensures.shown.tree))
-    c.share_form-in-Forall.ensures.shows
-
-pub returns-in-Exists-clause-shows : goal.returns-in-Exists-clause-shows
-returns-in-Exists-clause-shows c =
-    let t = one_image c.args.bank.now (env_of c.args.bank.now c.args.values.now) c.args.task.place c.args.task.level c.args.parts.now c.requires.parts
-    (node_of (ExistsView c.in-Exists.field-0)) c.in-Exists.ensures.node c.in-Exists.field-0.0 (c.args.task.level + 1) (record { 0 = 0 }) refl in
-    subst (λ u. IfOk c.share_form-in-Exists.result (λ image. ShowsForm c.share_form-in-Exists.new.bank image.0 u))
-    (ap Exists (t.tree ∙ ap (λ m. close_form (under (env_of c.args.bank.now c.args.values.now) m) (form_tree c.args.bank.now c.in-Exists.field-0.0))
-    (let q : c.args.task.level + 1 ≡ suc c.args.task.level = omega arith in q))
-    ∙ sym (ap (close_form (under (env_of c.args.bank.now c.args.values.now) c.args.task.level)) c.in-Exists.ensures.shown.tree))
-    c.share_form-in-Exists.ensures.shows
-
-pub returns-in-With-clause-terms : goal.returns-in-With-clause-terms
-returns-in-With-clause-terms c =
-    IfOk-weaker c.share_form-in-With.result (λ image. ShowsForm c.share_form-in-With.new.bank image.0 _)
-    (λ _. AreImages (IsTermImage c.share_form-in-With.new.bank (env_of c.args.bank.now c.args.values.now)) (get same_spot c.args.terms.now.places))
-    (λ x s. term_images_extend c.args.bank.now c.share_form-in-With.new.bank c.share_form-in-With.ensures.keeps (env_of c.args.bank.now c.args.values.now)
-    (get same_spot c.args.terms.now.places) c.requires.terms) c.share_form-in-With.ensures.shows
-
-pub returns-in-Tensor-clause-terms : goal.returns-in-Tensor-clause-terms
-returns-in-Tensor-clause-terms c =
-    IfOk-weaker c.share_form-in-Tensor.result (λ image. ShowsForm c.share_form-in-Tensor.new.bank image.0 _)
-    (λ _. AreImages (IsTermImage c.share_form-in-Tensor.new.bank (env_of c.args.bank.now c.args.values.now)) (get same_spot c.args.terms.now.places))
-    (λ x s. term_images_extend c.args.bank.now c.share_form-in-Tensor.new.bank c.share_form-in-Tensor.ensures.keeps (env_of c.args.bank.now c.args.values.now)
-    (get same_spot c.args.terms.now.places) c.requires.terms) c.share_form-in-Tensor.ensures.shows
-
-pub returns-in-Plus-clause-terms : goal.returns-in-Plus-clause-terms
-returns-in-Plus-clause-terms c =
-    IfOk-weaker c.share_form-in-Plus.result (λ image. ShowsForm c.share_form-in-Plus.new.bank image.0 _)
-    (λ _. AreImages (IsTermImage c.share_form-in-Plus.new.bank (env_of c.args.bank.now c.args.values.now)) (get same_spot c.args.terms.now.places))
-    (λ x s. term_images_extend c.args.bank.now c.share_form-in-Plus.new.bank c.share_form-in-Plus.ensures.keeps (env_of c.args.bank.now c.args.values.now)
-    (get same_spot c.args.terms.now.places) c.requires.terms) c.share_form-in-Plus.ensures.shows
-
-pub returns-in-Lolli-clause-terms : goal.returns-in-Lolli-clause-terms
-returns-in-Lolli-clause-terms c =
-    IfOk-weaker c.share_form-in-Lolli.result (λ image. ShowsForm c.share_form-in-Lolli.new.bank image.0 _)
-    (λ _. AreImages (IsTermImage c.share_form-in-Lolli.new.bank (env_of c.args.bank.now c.args.values.now)) (get same_spot c.args.terms.now.places))
-    (λ x s. term_images_extend c.args.bank.now c.share_form-in-Lolli.new.bank c.share_form-in-Lolli.ensures.keeps (env_of c.args.bank.now c.args.values.now)
-    (get same_spot c.args.terms.now.places) c.requires.terms) c.share_form-in-Lolli.ensures.shows
-
-pub returns-in-Imp-clause-terms : goal.returns-in-Imp-clause-terms
-returns-in-Imp-clause-terms c =
-    IfOk-weaker c.share_form-in-Imp.result (λ image. ShowsForm c.share_form-in-Imp.new.bank image.0 _)
-    (λ _. AreImages (IsTermImage c.share_form-in-Imp.new.bank (env_of c.args.bank.now c.args.values.now)) (get same_spot c.args.terms.now.places))
-    (λ x s. term_images_extend c.args.bank.now c.share_form-in-Imp.new.bank c.share_form-in-Imp.ensures.keeps (env_of c.args.bank.now c.args.values.now)
-    (get same_spot c.args.terms.now.places) c.requires.terms) c.share_form-in-Imp.ensures.shows
-
-pub returns-in-Bang-clause-terms : goal.returns-in-Bang-clause-terms
-returns-in-Bang-clause-terms c =
-    IfOk-weaker c.share_form-in-Bang.result (λ image. ShowsForm c.share_form-in-Bang.new.bank image.0 _)
-    (λ _. AreImages (IsTermImage c.share_form-in-Bang.new.bank (env_of c.args.bank.now c.args.values.now)) (get same_spot c.args.terms.now.places))
-    (λ x s. term_images_extend c.args.bank.now c.share_form-in-Bang.new.bank c.share_form-in-Bang.ensures.keeps (env_of c.args.bank.now c.args.values.now)
-    (get same_spot c.args.terms.now.places) c.requires.terms) c.share_form-in-Bang.ensures.shows
-
-pub returns-in-Forall-clause-terms : goal.returns-in-Forall-clause-terms
-returns-in-Forall-clause-terms c =
-    IfOk-weaker c.share_form-in-Forall.result (λ image. ShowsForm c.share_form-in-Forall.new.bank image.0 _)
-    (λ _. AreImages (IsTermImage c.share_form-in-Forall.new.bank (env_of c.args.bank.now c.args.values.now)) (get same_spot c.args.terms.now.places))
-    (λ x s. term_images_extend c.args.bank.now c.share_form-in-Forall.new.bank c.share_form-in-Forall.ensures.keeps (env_of c.args.bank.now c.args.values.now)
-    (get same_spot c.args.terms.now.places) c.requires.terms) c.share_form-in-Forall.ensures.shows
-
-pub returns-in-Exists-clause-terms : goal.returns-in-Exists-clause-terms
-returns-in-Exists-clause-terms c =
-    IfOk-weaker c.share_form-in-Exists.result (λ image. ShowsForm c.share_form-in-Exists.new.bank image.0 _)
-    (λ _. AreImages (IsTermImage c.share_form-in-Exists.new.bank (env_of c.args.bank.now c.args.values.now)) (get same_spot c.args.terms.now.places))
-    (λ x s. term_images_extend c.args.bank.now c.share_form-in-Exists.new.bank c.share_form-in-Exists.ensures.keeps (env_of c.args.bank.now c.args.values.now)
-    (get same_spot c.args.terms.now.places) c.requires.terms) c.share_form-in-Exists.ensures.shows
-
-pub returns-in_ok-atom-in-Atom-clause-terms : goal.returns-in_ok-atom-in-Atom-clause-terms
-returns-in_ok-atom-in-Atom-clause-terms c =
-    IfOk-weaker c.share_form.result (λ image. ShowsForm c.share_form.new.bank image.0 _)
-    (λ _. AreImages (IsTermImage c.share_form.new.bank (env_of c.args.bank.now c.args.values.now)) (get same_spot c.closed_term.new.images.places))
-    (λ x s. term_images_extend c.closed_term.new.bank c.share_form.new.bank c.share_form.ensures.keeps (env_of c.args.bank.now c.args.values.now)
-    (get same_spot c.closed_term.new.images.places) c.in_ok-atom-in-Atom.ensures.images) c.share_form.ensures.shows
-
-pub returns-in_ok-left-in-Is-clause-terms : goal.returns-in_ok-left-in-Is-clause-terms
-returns-in_ok-left-in-Is-clause-terms c =
-    IfOk-weaker c.share_form-in-Is.result (λ image. ShowsForm c.share_form-in-Is.new.bank image.0 _)
-    (λ _. AreImages (IsTermImage c.share_form-in-Is.new.bank (env_of c.args.bank.now c.args.values.now)) (get same_spot c.closed_two.new.terms.places))
-    (λ x s. term_images_extend c.closed_two.new.bank c.share_form-in-Is.new.bank c.share_form-in-Is.ensures.keeps (env_of c.args.bank.now c.args.values.now)
-    (get same_spot c.closed_two.new.terms.places) c.in_ok-left-in-Is.ensures.terms) c.share_form-in-Is.ensures.shows
-
-pub returns-in_ok-left-in-Less-clause-terms : goal.returns-in_ok-left-in-Less-clause-terms
-returns-in_ok-left-in-Less-clause-terms c =
-    IfOk-weaker c.share_form-in-Less.result (λ image. ShowsForm c.share_form-in-Less.new.bank image.0 _)
-    (λ _. AreImages (IsTermImage c.share_form-in-Less.new.bank (env_of c.args.bank.now c.args.values.now))
-    (get same_spot c.closed_two-in-Less.new.terms.places))
-    (λ x s. term_images_extend c.closed_two-in-Less.new.bank c.share_form-in-Less.new.bank c.share_form-in-Less.ensures.keeps
-    (env_of c.args.bank.now c.args.values.now) (get same_spot c.closed_two-in-Less.new.terms.places) c.in_ok-left-in-Less.ensures.terms)
-    c.share_form-in-Less.ensures.shows
-
-pub returns-in_ok-left-in-Most-clause-terms : goal.returns-in_ok-left-in-Most-clause-terms
-returns-in_ok-left-in-Most-clause-terms c =
-    IfOk-weaker c.share_form-in-Most.result (λ image. ShowsForm c.share_form-in-Most.new.bank image.0 _)
-    (λ _. AreImages (IsTermImage c.share_form-in-Most.new.bank (env_of c.args.bank.now c.args.values.now))
-    (get same_spot c.closed_two-in-Most.new.terms.places))
-    (λ x s. term_images_extend c.closed_two-in-Most.new.bank c.share_form-in-Most.new.bank c.share_form-in-Most.ensures.keeps
-    (env_of c.args.bank.now c.args.values.now) (get same_spot c.closed_two-in-Most.new.terms.places) c.in_ok-left-in-Most.ensures.terms)
-    c.share_form-in-Most.ensures.shows
+pub share_form-requires-in-Use-clause-parts : goal.share_form-requires-in-Use-clause-parts
+share_form-requires-in-Use-clause-parts c =
+    let bank = c.args.bank.now in
+    let env = env_of bank c.args.values.now in (
+      subst (AllInTerms c.closed_terms.new.bank) (sym c.deref-in-Use.ensures.value) c.in_ok-args-in-Use-2.ensures.places,
+      HasForm-extends c.closed_terms.ensures.keeps _ (one_image bank env c.args.task.place c.args.task.level c.args.parts.now c.requires.parts
+          (node_of (UseView c.in-Use.module c.in-Use.args c.in-Use.field-2)) c.in-Use.ensures.node
+          c.in-Use.field-2.0 c.args.task.level (record { 0 = 0 }) refl).inside,
+    )
 
 pub returns-in_ok-args-in-Use-2-clause-terms : goal.returns-in_ok-args-in-Use-2-clause-terms
 returns-in_ok-args-in-Use-2-clause-terms c =
-    IfOk-weaker c.share_form-in-Use.result (λ image. ShowsForm c.share_form-in-Use.new.bank image.0 _)
-    (λ _. AreImages (IsTermImage c.share_form-in-Use.new.bank (env_of c.args.bank.now c.args.values.now)) (get same_spot c.closed_terms.new.terms.places))
-    (λ x s. term_images_extend c.closed_terms.new.bank c.share_form-in-Use.new.bank c.share_form-in-Use.ensures.keeps (env_of c.args.bank.now c.args.values.now)
-    (get same_spot c.closed_terms.new.terms.places) c.in_ok-args-in-Use-2.ensures.terms) c.share_form-in-Use.ensures.shows
+    let env = env_of c.args.bank.now c.args.values.now in
+    on_ok c.share_form-in-Use.result
+    (term_images_extend c.closed_terms.new.bank c.share_form-in-Use.new.bank c.share_form-in-Use.ensures.keeps env
+    (get same_spot c.closed_terms.new.terms.places) c.in_ok-args-in-Use-2.ensures.terms)
+
+pub returns-in_ok-args-in-Use-2-clause-keeps : goal.returns-in_ok-args-in-Use-2-clause-keeps
+returns-in_ok-args-in-Use-2-clause-keeps c =
+    Extends-trans c.closed_terms.ensures.keeps c.share_form-in-Use.ensures.keeps
 
 pub closed_terms-requires-clause-heads : goal.closed_terms-requires-clause-heads
 closed_terms-requires-clause-heads c =

@@ -1,18 +1,21 @@
-use Rattle.std.proofs.Common.{◌-◌, ◌++◌, ◌∷◌, [], sym, length, take, map, ap, ◌∙◌, rules}
+use Rattle.std.proofs.Common.{◌≡◌, ℕ, ◌<◌, ◌-◌, List, ◌++◌, ◌∷◌, [], sym, length, take, map, ap, ◌∙◌, arith, rules}
 use Rattle.std.specs.Prelude.{reverse}
 use Rattle.std.specs.HashMap.{get}
 use Rattle.ll_bank.specs.declared.At.{At}
 use Rattle.ll_bank.specs.Nodes.{term_tree}
 use Rattle.ll_bank.specs.Opened.{Spot, term_parts_at, term_size_at}
-use Rattle.ll_bank.proofs.CallerLemmas.{Extends-refl, Extends-trans, term_size-some}
+use Rattle.ll_bank.proofs.CallerLemmas.{Extends-refl, Extends-trans, HasTerm-extends, AllInTerms-extends, term_size-some}
 use Rattle.ll_close.specs.Closing.{env_of, same_spot, IsTermImage, IsGoodTerm}
 use Rattle.ll_close.specs.Stacks.{visit, ready}
 use Rattle.ll_close.proofs.Known.{images_add, term_image_extends, term_images_extend}
-use Rattle.ll_close.proofs.Stacks.{closing_begins, closing_builds, closing_found, closing_expands, closing_ends, take_none}
+use Rattle.ll_close.proofs.Stacks.{closing_begins, closing_builds, closing_found, closing_expands, closing_ends, take_none, ends_with_none}
 use Rattle.ll_close.proofs.Stacks.{work_pops, work_expands}
 use Rattle.ll_close.proofs.Parts.{term_parts_first}
 use Rattle.ll_close.proofs.Steps.{term_turn, term_left}
 use Rattle.ll_close.proofs.term.closed_deep.Goals as goal
+
+one_left : {made : List At} {x : At} (n : ℕ) → n ≡ length made → made ≡ x ∷ [] → 0 < n
+one_left n q e = let l = ap length e in omega arith
 
 pub returns-in_err-push_part-clause-keeps : goal.returns-in_err-push_part-clause-keeps
 returns-in_err-push_part-clause-keeps c =
@@ -186,3 +189,75 @@ loop-task-preserved-in-Continue-branch-7 c =
           c.push-then-is_leaf.new.self.items c.if-task.false
           (c.in_ok-push-3.ensures.items ∙ ap (λ z. z ++ c.in_ok-image-2.image ∷ []) same);
     }
+
+pub build_term-requires-clause-inside : goal.build_term-requires-clause-inside
+build_term-requires-clause-inside c =
+    let f = term_turn c.args.values.now c.pop.new.self.items c.in-Some.task c.loop-task.invariant.keeps c.requires.values c.in-Some.ensures.items
+    c.loop-task.invariant.closing in
+    HasTerm-extends c.loop-task.invariant.keeps c.in-Some.task.place f.good.0
+
+pub build_term-requires-clause-values : goal.build_term-requires-clause-values
+build_term-requires-clause-values c =
+    AllInTerms-extends c.loop-task.invariant.keeps c.args.values.now c.requires.values
+
+pub build_term-requires-then-is_leaf-clause-inside : goal.build_term-requires-then-is_leaf-clause-inside
+build_term-requires-then-is_leaf-clause-inside c =
+    let f = term_turn c.args.values.now c.pop.new.self.items c.in-Some.task c.loop-task.invariant.keeps c.requires.values c.in-Some.ensures.items
+    c.loop-task.invariant.closing in
+    HasTerm-extends c.loop-task.invariant.keeps c.in-Some.task.place f.good.0
+
+pub build_term-requires-then-is_leaf-clause-values : goal.build_term-requires-then-is_leaf-clause-values
+build_term-requires-then-is_leaf-clause-values c =
+    AllInTerms-extends c.loop-task.invariant.keeps c.args.values.now c.requires.values
+
+pub build_term-requires-then-is_leaf-clause-parts : goal.build_term-requires-then-is_leaf-clause-parts
+build_term-requires-then-is_leaf-clause-parts c =
+    let now = c.loop-task.bank in
+    ends_with_none (λ k (x : At). IsTermImage now (env_of now c.args.values.now) k x.0)
+    (term_parts_at now (c.in-Some.task.place, c.in-Some.task.level)) c.loop-task.made.items (c.is_leaf.ensures c.if-is_leaf.true)
+
+pub is_leaf-requires : goal.is_leaf-requires
+is_leaf-requires c =
+    let f = term_turn c.args.values.now c.pop.new.self.items c.in-Some.task c.loop-task.invariant.keeps c.requires.values c.in-Some.ensures.items
+    c.loop-task.invariant.closing in
+    HasTerm-extends c.loop-task.invariant.keeps c.in-Some.task.place f.good.0
+
+pub push_term-requires : goal.push_term-requires
+push_term-requires c =
+    let f = term_turn c.args.values.now c.pop.new.self.items c.in-Some.task c.loop-task.invariant.keeps c.requires.values c.in-Some.ensures.items
+    c.loop-task.invariant.closing in
+    HasTerm-extends c.loop-task.invariant.keeps c.in-Some.task.place f.good.0
+
+pub loop-task-smaller-in-Continue-branch-4 : goal.loop-task-smaller-in-Continue-branch-4
+loop-task-smaller-in-Continue-branch-4 c =
+    work_pops (term_size_at c.args.bank.now) c.loop-task.tasks.items c.pop.new.self.items c.in-Some.task c.in-Some.ensures.items
+    (term_size-some (term_tree c.args.bank.now c.in-Some.task.place))
+
+pub returns-in_err-image-clause-keeps : goal.returns-in_err-image-clause-keeps
+returns-in_err-image-clause-keeps c =
+    Extends-trans c.loop-task.invariant.keeps c.build_term.ensures.keeps
+
+pub returns-in_err-push-2-clause-keeps : goal.returns-in_err-push-2-clause-keeps
+returns-in_err-push-2-clause-keeps c =
+    c.loop-task.invariant.keeps
+
+pub returns-in_err-push_term-clause-keeps : goal.returns-in_err-push_term-clause-keeps
+returns-in_err-push_term-clause-keeps c =
+    c.loop-task.invariant.keeps
+
+pub returns-clause-keeps : goal.returns-clause-keeps
+returns-clause-keeps c =
+    c.loop-task.invariant.keeps
+
+pub returns-clause-images : goal.returns-clause-images
+returns-clause-images c =
+    c.loop-task.invariant.images
+
+pub index-requires : goal.index-requires
+index-requires c =
+    let first = c.args.bank.now in
+    let now = c.loop-task.bank in
+    let env = env_of first c.args.values.now in
+    let left = closing_ends (term_parts_at first) (IsGoodTerm first env) (c.args.at.0, c.args.level) (λ q (x : At). IsTermImage now env q x.0)
+    c.loop-task.made.items c.loop-task.tasks.items (let h = c.in_default.ensures.cases.0 in search rules) c.loop-task.invariant.closing in
+    one_left {x = left.0} _ c.loop-task.made.ok.0 left.1

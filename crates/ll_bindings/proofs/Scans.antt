@@ -320,6 +320,10 @@ known-at places p at k b q = step (nat_eq p.0 at.0) refl
 
 -- ---- the weight of what is left
 
+pub weight-pops : (nodes : Nodes) (s : ℕ → Term) (fs : List Frame) (f : Frame) → frames_weight nodes s fs < frames_weight nodes s (fs ++ f ∷ [])
+weight-pops nodes s fs f =
+    let w : Frame → ℕ = λ h. 1 + rest_weight s (term_tree nodes h.at.0) h.next in let q = sum_by_push w fs f in omega arith
+
 pub weight-known : (nodes : Nodes) (s : ℕ → Term) (fs : List Frame) (f g : Frame) → f.next < length (args_in (term_tree nodes f.at.0)) → g.at ≡ f.at
     → g.next ≡ f.next + 1
     → frames_weight nodes s (fs ++ g ∷ []) < frames_weight nodes s (fs ++ f ∷ [])

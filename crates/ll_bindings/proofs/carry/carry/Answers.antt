@@ -4,7 +4,7 @@ use Rattle.ll_bank.specs.Nodes.{term_tree}
 use Rattle.ll_bank.proofs.CallerLemmas.{Extends-refl, Extends-trans}
 use Rattle.ll_bindings.specs.Bindings.{found}
 use Rattle.ll_bindings.specs.Carried.{listed}
-use Rattle.ll_bindings.proofs.Scans.{weight-known, weight-opens}
+use Rattle.ll_bindings.proofs.Scans.{weight-pops, weight-known, weight-opens}
 use Rattle.ll_bindings.proofs.Copies.{copies-extends, copies-add, copy-top, copy-known, copy-opens, copy-closes, copy-own, copy-starts}
 use Rattle.ll_bindings.proofs.Carrying.{carry-argument, carry-reached, carried-copy}
 use Rattle.ll_bindings.proofs.carry.carry.Goals as goal
@@ -125,3 +125,63 @@ loop-frame-preserved g c =
           c.loop-frame.frames.items c.pop.new.self.items c.in-Some.frame
           c.in_ok-last-in-None.ensures.keeps c.loop-frame.invariant.copied c.in-Some.ensures.items c.in_ok-last-in-None.ensures.made made);
     }
+
+pub argument-requires : goal.argument-requires
+argument-requires g c =
+    let first = c.args.bank.now in
+    let t = g.T.Bindings.table c.args.table.now in
+    let whole = sub (found first t) (term_tree first c.args.start.0) in
+    let top = copy-top first t whole c.requires.table c.loop-frame.other c.loop-frame.made.items c.loop-frame.last c.loop-frame.frames.items
+    c.pop.new.self.items c.in-Some.frame c.loop-frame.invariant.copied c.in-Some.ensures.items in
+    top.end.place.inside
+
+pub close-requires-clause-inside : goal.close-requires-clause-inside
+close-requires-clause-inside g c =
+    let first = c.args.bank.now in
+    let t = g.T.Bindings.table c.args.table.now in
+    let whole = sub (found first t) (term_tree first c.args.start.0) in
+    let top = copy-top first t whole c.requires.table c.loop-frame.other c.loop-frame.made.items c.loop-frame.last c.loop-frame.frames.items
+    c.pop.new.self.items c.in-Some.frame c.loop-frame.invariant.copied c.in-Some.ensures.items in
+    top.end.place.inside
+
+pub loop-frame-smaller : goal.loop-frame-smaller
+loop-frame-smaller g c =
+    let first = c.args.bank.now in
+    let t = g.T.Bindings.table c.args.table.now in
+    rw c.in-Some.ensures.items (weight-pops first (found first t) c.pop.new.self.items c.in-Some.frame)
+
+pub returns-in_err-push-in-Some-argument-clause-keeps : goal.returns-in_err-push-in-Some-argument-clause-keeps
+returns-in_err-push-in-Some-argument-clause-keeps g c =
+    c.loop-frame.invariant.keeps
+
+pub returns-in_err-push-in-Some-copy_at-clause-keeps : goal.returns-in_err-push-in-Some-copy_at-clause-keeps
+returns-in_err-push-in-Some-copy_at-clause-keeps g c =
+    c.loop-frame.invariant.keeps
+
+pub returns-in_err-push-in-None-copy_at-clause-keeps : goal.returns-in_err-push-in-None-copy_at-clause-keeps
+returns-in_err-push-in-None-copy_at-clause-keeps g c =
+    c.loop-frame.invariant.keeps
+
+pub returns-in_err-last-in-None-clause-keeps : goal.returns-in_err-last-in-None-clause-keeps
+returns-in_err-last-in-None-clause-keeps g c =
+    Extends-trans c.loop-frame.invariant.keeps c.close.ensures.keeps
+
+pub returns-in_err-remember-in-None-clause-keeps : goal.returns-in_err-remember-in-None-clause-keeps
+returns-in_err-remember-in-None-clause-keeps g c =
+    Extends-trans c.loop-frame.invariant.keeps c.in_ok-last-in-None.ensures.keeps
+
+pub returns-in_err-push-in-None-clause-keeps : goal.returns-in_err-push-in-None-clause-keeps
+returns-in_err-push-in-None-clause-keeps g c =
+    Extends-trans c.loop-frame.invariant.keeps c.in_ok-last-in-None.ensures.keeps
+
+pub returns-clause-known : goal.returns-clause-known
+returns-clause-known g c =
+    c.loop-frame.invariant.known
+
+pub returns-clause-keeps : goal.returns-clause-keeps
+returns-clause-keeps g c =
+    c.loop-frame.invariant.keeps
+
+pub walk-end-requires-clause-table : goal.walk-end-requires-clause-table
+walk-end-requires-clause-table g c =
+    c.requires.table

@@ -1,4 +1,4 @@
-use Rattle.std.proofs.Common.{◌≡◌, ℕ, sym, ◌<◌, ◌≤◌, ◌+◌, ◌∙◌, suc, List, [], ◌∷◌, length, drop, get_or, refl, subst, arith}
+use Rattle.std.proofs.Common.{◌≡◌, ℕ, add-one, sym, ◌<◌, ◌≤◌, ◌+◌, ◌∙◌, suc, List, [], ◌∷◌, length, drop, get_or, refl, subst, arith}
 use Rattle.std.proofs.lemmas.List.{get_or_default}
 use Rattle.ll_bank.specs.declared.At.{At}
 use Rattle.ll_bank.specs.Term.{Term}
@@ -9,6 +9,12 @@ use Rattle.ll_bindings.proofs.Settling.{keeps-same, keeps-then, next-refused, ne
 use Rattle.ll_bindings.proofs.FreshLemmas.{fresh-first}
 use Rattle.ll_bindings.proofs.Solving.{solves-start, solves-none}
 use Rattle.ll_bindings.proofs.equate.solve.Goals as goal
+
+across : (i n m : ℕ) → i < n → n ≡ m → i < m
+across i n m l e = omega arith
+
+past : (i n m : ℕ) → n ≤ i → n ≡ m → m ≤ i
+past i n m l e = omega arith
 
 pub loop-index-init : goal.loop-index-init
 loop-index-init g c = record {
@@ -28,12 +34,12 @@ returns-then-not-branch-clause-solved g c =
     let none : At = record { 0 = 0 } in
     let a = get_or c.args.left.now c.loop-index.index none in
     let b = get_or c.args.right.now c.loop-index.index none in
-    let below : c.loop-index.index < length c.args.left.now = omega (arith, c.loop-index-test.true, c.loop-index.auto.index-end) in
+    let below : c.loop-index.index < length c.args.left.now = c.loop-index-test.true in
     next-refused c.args.bank.now old (g.T.Bindings.table c.loop-index.table) (g.T.Bindings.table c.make_equal.new.table) (spare old)
     (wanted c.args.bank.now old (term_trees c.args.bank.now c.args.left.now) (term_trees c.args.bank.now c.args.right.now)) c.args.left.now c.args.right.now
     c.loop-index.index a b
     below c.requires.pairs (get_or_default c.args.left.now c.loop-index.index none a below)
-    (get_or_default c.args.right.now c.loop-index.index none b (let q = c.requires.pairs in omega arith)) c.loop-index.invariant.solves
+    (get_or_default c.args.right.now c.loop-index.index none b (across c.loop-index.index _ _ below c.requires.pairs)) c.loop-index.invariant.solves
     (subst (Settles c.args.bank.now (g.T.Bindings.table c.loop-index.table) (g.T.Bindings.table c.make_equal.new.table) (term_tree c.args.bank.now a.0 ∷ [])
     (term_tree c.args.bank.now b.0 ∷ [])) c.if-not-branch.true
     c.in_ok-make_equal.ensures.settles)
@@ -44,8 +50,8 @@ loop-index-preserved g c =
     let none : At = record { 0 = 0 } in
     let a = get_or c.args.left.now c.loop-index.index none in
     let b = get_or c.args.right.now c.loop-index.index none in
-    let below : c.loop-index.index < length c.args.left.now = omega (arith, c.loop-index-test.true, c.loop-index.auto.index-end) in
-    let next : c.loop-index.index + 1 ≡ suc c.loop-index.index = omega arith in
+    let below : c.loop-index.index < length c.args.left.now = c.loop-index-test.true in
+    let next = add-one c.loop-index.index in
     let h = subst (Settles c.args.bank.now (g.T.Bindings.table c.loop-index.table) (g.T.Bindings.table c.make_equal.new.table)
     (term_tree c.args.bank.now a.0 ∷ []) (term_tree c.args.bank.now b.0 ∷ [])) c.if-not-branch.false
     c.in_ok-make_equal.ensures.settles in
@@ -66,14 +72,14 @@ loop-index-preserved g c =
           (wanted c.args.bank.now old (term_trees c.args.bank.now c.args.left.now) (term_trees c.args.bank.now c.args.right.now)) c.args.left.now
           c.args.right.now c.loop-index.index (c.loop-index.index + 1)
           a b below c.requires.pairs (get_or_default c.args.left.now c.loop-index.index none a below)
-          (get_or_default c.args.right.now c.loop-index.index none b (let q = c.requires.pairs in omega arith)) next c.loop-index.invariant.solves h;
+          (get_or_default c.args.right.now c.loop-index.index none b (across c.loop-index.index _ _ below c.requires.pairs))
+          next c.loop-index.invariant.solves h;
     }
 
 pub returns-clause-solved : goal.returns-clause-solved
 returns-clause-solved g c =
     let old = g.T.Bindings.table c.args.table.now in
-    let end : length c.args.left.now ≤ c.loop-index.index = omega (arith, c.loop-index-test.false, c.loop-index.auto.index-end) in
-    let q = c.requires.pairs in
+    let end : length c.args.left.now ≤ c.loop-index.index = c.loop-index-test.false in
     record {
       is = solves-none c.args.bank.now (g.T.Bindings.table c.loop-index.table) (spare old)
           (wanted c.args.bank.now old (term_trees c.args.bank.now c.args.left.now) (term_trees c.args.bank.now c.args.right.now))
@@ -83,7 +89,7 @@ returns-clause-solved g c =
           (subst (λ (us : List Term). Solves c.args.bank.now (g.T.Bindings.table c.loop-index.table) (spare old)
           (wanted c.args.bank.now old (term_trees c.args.bank.now c.args.left.now) (term_trees c.args.bank.now c.args.right.now))
           (drop c.loop-index.index (term_trees c.args.bank.now c.args.left.now)) us)
-          (trees-none c.args.bank.now c.args.right.now c.loop-index.index (omega arith)) c.loop-index.invariant.solves));
+          (trees-none c.args.bank.now c.args.right.now c.loop-index.index (past c.loop-index.index _ _ end c.requires.pairs)) c.loop-index.invariant.solves));
       table = c.loop-index.invariant.table;
       same_count = c.loop-index.invariant.count;
     }
@@ -92,7 +98,7 @@ pub make_equal-requires-clause-fresh : goal.make_equal-requires-clause-fresh
 make_equal-requires-clause-fresh g c =
     let none : At = record { 0 = 0 } in
     let a = get_or c.args.left.now c.loop-index.index none in
-    let below : c.loop-index.index < length c.args.left.now = omega (arith, c.loop-index-test.true, c.loop-index.auto.index-end) in
+    let below : c.loop-index.index < length c.args.left.now = c.loop-index-test.true in
     fresh-first c.args.bank.now (g.T.Bindings.table c.loop-index.table) c.loop-index.work.fresh (term_tree c.args.bank.now a.0)
     (drop (suc c.loop-index.index) (term_trees c.args.bank.now c.args.left.now))
     (subst (λ (us : List Term). AreFresh c.args.bank.now (g.T.Bindings.table c.loop-index.table) c.loop-index.work.fresh us)

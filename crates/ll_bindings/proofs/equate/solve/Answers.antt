@@ -2,7 +2,8 @@ use Rattle.std.proofs.Common.{◌≡◌, ℕ, add-one, sym, ◌<◌, ◌≤◌, 
 use Rattle.std.proofs.lemmas.List.{get_or_default}
 use Rattle.ll_bank.specs.declared.At.{At}
 use Rattle.ll_bank.specs.Term.{Term}
-use Rattle.ll_bank.specs.Nodes.{term_tree, term_trees}
+use Rattle.ll_bank.specs.Nodes.{Nodes, term_tree, term_trees}
+use Rattle.ll_bindings.specs.Bindings.{Table, IsPlaceOf, KeepsCells}
 use Rattle.ll_bindings.specs.Fresh.{AreFresh}
 use Rattle.ll_bindings.specs.Solving.{Solves, Settles, wanted, spare}
 use Rattle.ll_bindings.proofs.Settling.{keeps-same, keeps-then, next-refused, next-settled, trees-drop, trees-none}
@@ -15,6 +16,9 @@ across i n m l e = omega arith
 
 past : (i n m : ℕ) → n ≤ i → n ≡ m → m ≤ i
 past i n m l e = omega arith
+
+place_now : (nodes : Nodes) (old new : Table) (at : ℕ) → KeepsCells nodes old new → IsPlaceOf nodes old at → IsPlaceOf nodes new at
+place_now nodes old new at k p = record { inside = p.inside; vars = k.terms (term_tree nodes at) p.vars }
 
 pub loop-index-init : goal.loop-index-init
 loop-index-init g c = record {
@@ -104,3 +108,45 @@ make_equal-requires-clause-fresh g c =
     (subst (λ (us : List Term). AreFresh c.args.bank.now (g.T.Bindings.table c.loop-index.table) c.loop-index.work.fresh us)
     (trees-drop c.args.bank.now c.args.left.now c.loop-index.index a below (get_or_default c.args.left.now c.loop-index.index none a below))
     c.loop-index.invariant.fresh)
+
+pub bounds-left-index : goal.bounds-left-index
+bounds-left-index g c =
+    c.loop-index-test.true
+
+pub bounds-right-index : goal.bounds-right-index
+bounds-right-index g c =
+    across c.loop-index.index _ _ c.loop-index-test.true c.requires.pairs
+
+pub make_equal-requires-clause-table : goal.make_equal-requires-clause-table
+make_equal-requires-clause-table g c =
+    c.loop-index.invariant.table
+
+pub make_equal-requires-clause-classes : goal.make_equal-requires-clause-classes
+make_equal-requires-clause-classes g c =
+    c.loop-index.invariant.classes
+
+pub make_equal-requires-clause-left : goal.make_equal-requires-clause-left
+make_equal-requires-clause-left g c =
+    place_now c.args.bank.now (g.T.Bindings.table c.args.table.now) (g.T.Bindings.table c.loop-index.table) _ c.loop-index.invariant.cells
+    (c.requires.left c.loop-index.index (record { 0 = 0 }) c.loop-index-test.true)
+
+pub make_equal-requires-clause-right : goal.make_equal-requires-clause-right
+make_equal-requires-clause-right g c =
+    place_now c.args.bank.now (g.T.Bindings.table c.args.table.now) (g.T.Bindings.table c.loop-index.table) _ c.loop-index.invariant.cells
+    (c.requires.right c.loop-index.index (record { 0 = 0 }) (across c.loop-index.index _ _ c.loop-index-test.true c.requires.pairs))
+
+pub returns-clause-grows : goal.returns-clause-grows
+returns-clause-grows g c =
+    c.loop-index.invariant.grows
+
+pub returns-clause-cells : goal.returns-clause-cells
+returns-clause-cells g c =
+    λ _. c.loop-index.invariant.cells
+
+pub returns-in_err-make_equal-clause-grows : goal.returns-in_err-make_equal-clause-grows
+returns-in_err-make_equal-clause-grows g c =
+    g.met.T.Bindings.again c.args.table.now c.loop-index.table c.make_equal.new.table c.loop-index.invariant.grows c.make_equal.ensures.grows
+
+pub returns-then-not-branch-clause-grows : goal.returns-then-not-branch-clause-grows
+returns-then-not-branch-clause-grows g c =
+    g.met.T.Bindings.again c.args.table.now c.loop-index.table c.make_equal.new.table c.loop-index.invariant.grows c.make_equal.ensures.grows

@@ -1,6 +1,6 @@
 -- Images of places: what stands in a map from places to places, as it grows.
 use Rattle.std.proofs.Common.{◌≡◌, ℕ, ◌+◌, ◌<◌, ◌≤◌, cond, List, [], ◌∷◌, ◌++◌, length, map, All, get_or, take, refl, ap, sym, subst, ◌∙◌, inl, inr, arith}
-use Rattle.std.proofs.Common.{Option, Some}
+use Rattle.std.proofs.Common.{Option, Some, None, Bor, option_copied, true≢false}
 use Rattle.std.specs.Prelude.{IsSome, slice_get}
 use Rattle.std.specs.Ordering.{nat_cmp}
 use Rattle.std.specs.List.{Contains, slice_index}
@@ -135,3 +135,8 @@ pub image_shows : {X T : Type 0} (shows : X → T → Type 0) (lookup : ℕ → 
     → lookup at ≡ Some image → shows image tree
 image_shows {X} shows lookup at tree image h e =
     let same : h.0 ≡ image = (let s : Some h.0 ≡ Some image = sym h.1.0 ∙ e in cc) in subst (λ (w : X). shows w tree) same h.1.1
+
+-- a value that is read from a map that has one is there
+pub some_copied : {X : Type 0} (o : Option (Bor X)) (p : Option X) → option_copied o ≡ p → IsSome p → IsSome o
+some_copied None p e h = absurd (true≢false (sym (subst IsSome (sym e) h)))
+some_copied (Some x) p e h = refl

@@ -1,11 +1,12 @@
 //! The body of a quantifier with a term in place of its bound place.
-ghost use Rattle.std.specs.Prelude.{◌≡◌, ◌<◌, ◌≤◌, ◌+◌, ◌++◌, ◌∷◌, [], ℕ, true, length, map, All, IfOk, OnOk, IsSome, Some};
+ghost use Rattle.std.specs.Prelude.{◌≡◌, ◌<◌, ◌≤◌, ◌+◌, ◌++◌, ◌∷◌, List, [], ℕ, true, length, map, All, IfOk, OnOk, IsSome, Some};
 ghost use Rattle.std.specs.BTreeMap.{get};
-ghost use Rattle.ll_bank.specs.Term.{close, close_head, place, app as app_term, apply, applies_heads};
+ghost use Rattle.ll_bank.specs.Term.{Term, close, close_head, place, app as app_term, apply, applies_heads};
 ghost use Rattle.ll_bank.specs.Form.{close_form, instantiate, form_applies_heads};
 ghost use Rattle.ll_bank.specs.Nodes.{term_tree, form_tree, term_trees, form_of, HasTerm, HasForm, AllInTerms, HasParts, ShowsTerm, ShowsForm, Extends};
+ghost use Rattle.ll_bank.specs.Nodes.{Nodes, UseNode, node_of, HasPartsBelow};
 ghost use Rattle.ll_bank.specs.Opened.{Spot, by_spot, opened, visit, IsIn, IsKnown, AreImages, IsTermImage, IsFormImage, ShowsImage, ShowsFormImage};
-ghost use Rattle.ll_bank.specs.Opened.{IsTermGood, IsFormGood, ArePartsOf, term_parts_at, form_parts_at, term_size_at, form_size_at};
+ghost use Rattle.ll_bank.specs.Opened.{IsTermGood, IsFormGood, ArePartsOf, form_parts, term_parts_at, form_parts_at, term_size_at, form_size_at};
 
 use crate::{At, Bank, FormAt, FormNode, Head, OutOfMemory, TermView};
 use std::alloc::Global;
@@ -145,47 +146,15 @@ fn opened_form(
     let level = task.level;
     let at = FormAt(task.place);
     match bank.form_at(at) {
-        FormNode::Top => Ok(at),
-        FormNode::One => Ok(at),
         FormNode::Atom(atom) => {
             let atom = open_term(bank, atom, level, value, terms)?;
             share_form(bank, at, FormNode::Atom(atom))
         }
-        FormNode::With(f, g) => {
-            let (f, g) = (form_image(forms, f, level), form_image(forms, g, level));
-            share_form(bank, at, FormNode::With(f, g))
-        }
-        FormNode::Tensor(f, g) => {
-            let (f, g) = (form_image(forms, f, level), form_image(forms, g, level));
-            share_form(bank, at, FormNode::Tensor(f, g))
-        }
-        FormNode::Plus(f, g) => {
-            let (f, g) = (form_image(forms, f, level), form_image(forms, g, level));
-            share_form(bank, at, FormNode::Plus(f, g))
-        }
-        FormNode::Bang(f) => share_form(bank, at, FormNode::Bang(form_image(forms, f, level))),
-        FormNode::Lolli(f, g) => {
-            let (f, g) = (form_image(forms, f, level), form_image(forms, g, level));
-            share_form(bank, at, FormNode::Lolli(f, g))
-        }
-        FormNode::Imp(f, g) => {
-            let (f, g) = (form_image(forms, f, level), form_image(forms, g, level));
-            share_form(bank, at, FormNode::Imp(f, g))
-        }
-        FormNode::Forall(f) => {
-            share_form(bank, at, FormNode::Forall(form_image(forms, f, level + 1)))
-        }
-        FormNode::Exists(f) => {
-            share_form(bank, at, FormNode::Exists(form_image(forms, f, level + 1)))
-        }
         FormNode::Use(module, args, f) => {
+            let f = form_image(forms, f, level);
             let args = Vec::from_slice(bank.alloc(), args)?;
             let args = open_terms(bank, &args, level, value, terms)?;
-            share_form(
-                bank,
-                at,
-                FormNode::Use(module, &args, form_image(forms, f, level)),
-            )
+            share_form(bank, at, FormNode::Use(module, &args, f))
         }
         FormNode::Is(left, right) => {
             let (left, right) = open_two(bank, left, right, level, value, terms)?;
@@ -199,6 +168,45 @@ fn opened_form(
             let (left, right) = open_two(bank, left, right, level, value, terms)?;
             share_form(bank, at, FormNode::Most(left, right))
         }
+        node => {
+            let image = over_images(node, task, forms);
+            share_form(bank, at, image)
+        }
+    }
+}
+
+/// The node over the images of the formulas under it. It is one without terms.
+fn over_images(node: FormNode<'_>, task: Task, forms: &FormImages) -> FormNode<'static>
+    requires plain { HasPartsBelow 0 task.place node }
+    requires no_load { (m : ℕ) (args : List ℕ) (f : ℕ) → node_of node ≡ UseNode m args f → ⊥ }
+    requires level { task.place + task.level ≤ 18446744073709551615 }
+    requires parts { (k : Spot) → IsIn k (form_parts (node_of node) task.level) → IsKnown (get by_spot forms.now) k }
+    ensures { (bank : Nodes) (t : Term) → AreImages (IsFormImage bank t) (get by_spot forms.now)
+        → HasParts bank result × (form_of bank result ≡ close_form (opened t task.level) (form_of bank node.entry)) }
+{
+    let level = task.level;
+    match node {
+        FormNode::Top => FormNode::Top,
+        FormNode::One => FormNode::One,
+        FormNode::With(f, g) => {
+            FormNode::With(form_image(forms, f, level), form_image(forms, g, level))
+        }
+        FormNode::Tensor(f, g) => {
+            FormNode::Tensor(form_image(forms, f, level), form_image(forms, g, level))
+        }
+        FormNode::Plus(f, g) => {
+            FormNode::Plus(form_image(forms, f, level), form_image(forms, g, level))
+        }
+        FormNode::Bang(f) => FormNode::Bang(form_image(forms, f, level)),
+        FormNode::Lolli(f, g) => {
+            FormNode::Lolli(form_image(forms, f, level), form_image(forms, g, level))
+        }
+        FormNode::Imp(f, g) => {
+            FormNode::Imp(form_image(forms, f, level), form_image(forms, g, level))
+        }
+        FormNode::Forall(f) => FormNode::Forall(form_image(forms, f, level + 1)),
+        FormNode::Exists(f) => FormNode::Exists(form_image(forms, f, level + 1)),
+        _ => unreachable!(),
     }
 }
 

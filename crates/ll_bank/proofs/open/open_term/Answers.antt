@@ -1,5 +1,6 @@
 use Rattle.std.proofs.Common.{◌≡◌, ap, sym, subst, ◌∙◌, refl, ◌++◌, ◌∷◌, map, true}
 use Rattle.std.specs.BTreeMap.{get}
+use Rattle.std.proofs.lemmas.Result.{IfOk-from_err}
 use Rattle.ll_bank.specs.Term.{close, applies_heads}
 use Rattle.ll_bank.specs.Nodes.{term_tree}
 use Rattle.ll_bank.specs.Opened.{by_spot, opened, visit, term_parts_at, IsTermGood, IsTermImage, AreImages, term_size_at, IsIn, IsKnown, ShowsImage}
@@ -135,3 +136,78 @@ pub returns-clause-shows : goal.returns-clause-shows
 returns-clause-shows c =
     term_image_first c.args.bank.now c.loop-task.bank c.loop-task.invariant.keeps (term_tree c.args.bank.now c.args.value.0) (c.args.term.0, c.args.level)
     c.term_image.result c.requires.inside (c.loop-task.invariant.images (c.args.term.0, c.args.level) c.term_image.result c.term_image.ensures)
+
+pub returns-in_err-push-clause-shows : goal.returns-in_err-push-clause-shows
+returns-in_err-push-clause-shows c =
+    IfOk-from_err c.from_residual.result _ c.from_residual.ensures.0
+
+pub returns-in_err-push-clause-images : goal.returns-in_err-push-clause-images
+returns-in_err-push-clause-images c =
+    IfOk-from_err c.from_residual.result _ c.from_residual.ensures.0
+
+pub returns-in_err-image-clause-shows : goal.returns-in_err-image-clause-shows
+returns-in_err-image-clause-shows c =
+    IfOk-from_err c.from_residual-in_err-image.result _ c.from_residual-in_err-image.ensures.0
+
+pub returns-in_err-image-clause-images : goal.returns-in_err-image-clause-images
+returns-in_err-image-clause-images c =
+    IfOk-from_err c.from_residual-in_err-image.result _ c.from_residual-in_err-image.ensures.0
+
+pub returns-in_err-insert-clause-shows : goal.returns-in_err-insert-clause-shows
+returns-in_err-insert-clause-shows c =
+    IfOk-from_err c.from_residual-in_err-insert.result _ c.from_residual-in_err-insert.ensures.0
+
+pub returns-in_err-insert-clause-images : goal.returns-in_err-insert-clause-images
+returns-in_err-insert-clause-images c =
+    IfOk-from_err c.from_residual-in_err-insert.result _ c.from_residual-in_err-insert.ensures.0
+
+pub returns-in_err-push_term-clause-shows : goal.returns-in_err-push_term-clause-shows
+returns-in_err-push_term-clause-shows c =
+    IfOk-from_err c.from_residual-in_err-push_term.result _ c.from_residual-in_err-push_term.ensures.0
+
+pub returns-in_err-push_term-clause-images : goal.returns-in_err-push_term-clause-images
+returns-in_err-push_term-clause-images c =
+    IfOk-from_err c.from_residual-in_err-push_term.result _ c.from_residual-in_err-push_term.ensures.0
+
+pub returns-in_err-image-clause-keeps : goal.returns-in_err-image-clause-keeps
+returns-in_err-image-clause-keeps c =
+    Extends-trans c.loop-task.invariant.keeps c.opened_term.ensures.keeps
+
+pub returns-in_err-insert-clause-keeps : goal.returns-in_err-insert-clause-keeps
+returns-in_err-insert-clause-keeps c =
+    Extends-trans c.loop-task.invariant.keeps c.opened_term.ensures.keeps
+
+pub returns-in_err-push_term-clause-keeps : goal.returns-in_err-push_term-clause-keeps
+returns-in_err-push_term-clause-keeps c =
+    c.loop-task.invariant.keeps
+
+pub opened_term-requires-clause-inside : goal.opened_term-requires-clause-inside
+opened_term-requires-clause-inside c =
+    HasTerm-extends c.loop-task.invariant.keeps c.in-Some.task.place
+    (opening_good (term_parts_at c.args.bank.now) (IsTermGood c.args.bank.now (term_tree c.args.bank.now c.args.value.0)) (c.args.term.0, c.args.level)
+    (IsKnown (get by_spot c.loop-task.images)) c.loop-task.tasks.items c.pop.new.self.items c.in-Some.task c.in-Some.ensures.items
+    c.loop-task.invariant.opening).0
+
+pub opened_term-requires-clause-value : goal.opened_term-requires-clause-value
+opened_term-requires-clause-value c =
+    HasTerm-extends c.loop-task.invariant.keeps c.args.value.0 c.requires.value
+
+pub push_term-requires : goal.push_term-requires
+push_term-requires c =
+    HasTerm-extends c.loop-task.invariant.keeps c.in-Some.task.place
+    (opening_good (term_parts_at c.args.bank.now) (IsTermGood c.args.bank.now (term_tree c.args.bank.now c.args.value.0)) (c.args.term.0, c.args.level)
+    (IsKnown (get by_spot c.loop-task.images)) c.loop-task.tasks.items c.pop.new.self.items c.in-Some.task c.in-Some.ensures.items
+    c.loop-task.invariant.opening).0
+
+pub loop-task-smaller-in_ok-insert : goal.loop-task-smaller-in_ok-insert
+loop-task-smaller-in_ok-insert c =
+    work_pops (term_size_at c.args.bank.now) c.loop-task.tasks.items c.pop.new.self.items c.in-Some.task c.in-Some.ensures.items
+    (term_size-some (term_tree c.args.bank.now c.in-Some.task.place))
+
+pub returns-clause-images : goal.returns-clause-images
+returns-clause-images c =
+    c.loop-task.invariant.images
+
+pub returns-clause-keeps : goal.returns-clause-keeps
+returns-clause-keeps c =
+    c.loop-task.invariant.keeps

@@ -51,8 +51,9 @@ returns-in_err-image-clause-keeps c =
 
 pub loop-term-preserved : goal.loop-term-preserved
 loop-term-preserved c =
-    let more = terms_more c.args.bank.now c.loop-term.bank c.open_term.new.bank c.open_term.ensures.keeps (term_tree c.args.bank.now c.args.value.0) c.args.level
-    c.args.terms.now c.loop-term.made.items c.push.new.self.items c.loop-term.term-index (record { 0 = 0 }) c.in_ok-image.image c.loop-term-test.true
+    let more = terms_more c.args.bank.now c.loop-term.bank c.open_term.new.bank c.open_term.ensures.keeps (term_tree c.args.bank.now c.args.value.0)
+    c.args.level c.args.terms.now c.loop-term.made.items c.push.new.self.items c.loop-term.term-index (record { 0 = 0 }) c.in_ok-image.image
+    c.loop-term-test.true
     c.loop-term.invariant.places c.loop-term.invariant.shows
     (subst (λ u. ShowsTerm c.open_term.new.bank c.in_ok-image.image.0 (close (opened (term_tree c.args.bank.now c.args.value.0) c.args.level) u))
     (term_tree-extends c.loop-term.invariant.keeps (get_or c.args.terms.now c.loop-term.term-index (record { 0 = 0 })).0

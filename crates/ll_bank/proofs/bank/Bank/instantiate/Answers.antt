@@ -1,5 +1,6 @@
 use Rattle.std.proofs.Common.{◌≡◌, ap, sym, subst, ◌∙◌, refl, ◌++◌, ◌∷◌, [], map, arith, true}
 use Rattle.std.specs.BTreeMap.{get}
+use Rattle.std.proofs.lemmas.Result.{IfOk-from_err}
 use Rattle.ll_bank.specs.Form.{close_form, form_applies_heads}
 use Rattle.ll_bank.specs.Nodes.{term_tree, form_tree}
 use Rattle.ll_bank.specs.Opened.{by_spot, opened, visit, form_parts_at, IsFormGood, IsTermImage, IsFormImage, AreImages, form_size_at, IsIn, IsKnown}
@@ -197,3 +198,40 @@ pub returns-clause-shows : goal.returns-clause-shows
 returns-clause-shows c =
     form_image_first c.args.self.now c.loop-task.self c.loop-task.invariant.keeps (term_tree c.args.self.now c.args.value.0) (c.args.form.0, 0)
     c.form_image.result c.requires.body (c.loop-task.invariant.forms (c.args.form.0, 0) c.form_image.result c.form_image.ensures)
+
+pub returns-in_err-push-clause-shows : goal.returns-in_err-push-clause-shows
+returns-in_err-push-clause-shows c =
+    IfOk-from_err c.from_residual.result _ c.from_residual.ensures.0
+
+pub returns-in_err-image-clause-shows : goal.returns-in_err-image-clause-shows
+returns-in_err-image-clause-shows c =
+    IfOk-from_err c.from_residual-in_err-image.result _ c.from_residual-in_err-image.ensures.0
+
+pub returns-in_err-insert-clause-shows : goal.returns-in_err-insert-clause-shows
+returns-in_err-insert-clause-shows c =
+    IfOk-from_err c.from_residual-in_err-insert.result _ c.from_residual-in_err-insert.ensures.0
+
+pub returns-in_err-push_form-clause-shows : goal.returns-in_err-push_form-clause-shows
+returns-in_err-push_form-clause-shows c =
+    IfOk-from_err c.from_residual-in_err-push_form.result _ c.from_residual-in_err-push_form.ensures.0
+
+pub returns-in_err-image-clause-keeps : goal.returns-in_err-image-clause-keeps
+returns-in_err-image-clause-keeps c =
+    Extends-trans c.loop-task.invariant.keeps c.opened_form.ensures.keeps
+
+pub returns-in_err-insert-clause-keeps : goal.returns-in_err-insert-clause-keeps
+returns-in_err-insert-clause-keeps c =
+    Extends-trans c.loop-task.invariant.keeps c.opened_form.ensures.keeps
+
+pub returns-in_err-push_form-clause-keeps : goal.returns-in_err-push_form-clause-keeps
+returns-in_err-push_form-clause-keeps c =
+    c.loop-task.invariant.keeps
+
+pub loop-task-smaller-in_ok-insert : goal.loop-task-smaller-in_ok-insert
+loop-task-smaller-in_ok-insert c =
+    work_pops (form_size_at c.args.self.now) c.loop-task.tasks.items c.pop.new.self.items c.in-Some.task c.in-Some.ensures.items
+    (form_size-some (form_tree c.args.self.now c.in-Some.task.place))
+
+pub returns-clause-keeps : goal.returns-clause-keeps
+returns-clause-keeps c =
+    c.loop-task.invariant.keeps

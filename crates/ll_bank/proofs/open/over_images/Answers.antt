@@ -80,9 +80,11 @@ form_image-requires-in-Tensor-2 c = known c.args.node (TensorView c.in-Tensor.f 
 pub returns-in-Tensor : goal.returns-in-Tensor
 returns-in-Tensor c = λ bank t images.
     let f = (images (c.in-Tensor.f.0, c.args.task.level) c.form_image-in-Tensor.result c.form_image-in-Tensor.ensures).1 in
-    let g = (images (c.in-Tensor.g.0, c.args.task.level) c.form_image-in-Tensor-2.result c.form_image-in-Tensor-2.ensures).1 in
-    ((f.inside, g.inside), (λ i. Tensor (f.tree i) (g.tree i))
-    ∙ sym (ap (λ v. close_form (opened t c.args.task.level) (form_of bank v)) c.in-Tensor.is))
+    let g = (images (c.in-Tensor.g.0, c.args.task.level) c.form_image-in-Tensor-2.result c.form_image-in-Tensor-2.ensures).1 in (
+      (f.inside, g.inside),
+      (λ i. Tensor (f.tree i) (g.tree i))
+          ∙ sym (ap (λ v. close_form (opened t c.args.task.level) (form_of bank v)) c.in-Tensor.is),
+    )
 
 pub form_image-requires-in-Plus : goal.form_image-requires-in-Plus
 form_image-requires-in-Plus c = known c.args.node (PlusView c.in-Plus.f c.in-Plus.g) c.args.task.level (get by_spot c.args.forms.now)
@@ -109,9 +111,11 @@ form_image-requires-in-Lolli-2 c = known c.args.node (LolliView c.in-Lolli.f c.i
 pub returns-in-Lolli : goal.returns-in-Lolli
 returns-in-Lolli c = λ bank t images.
     let f = (images (c.in-Lolli.f.0, c.args.task.level) c.form_image-in-Lolli.result c.form_image-in-Lolli.ensures).1 in
-    let g = (images (c.in-Lolli.g.0, c.args.task.level) c.form_image-in-Lolli-2.result c.form_image-in-Lolli-2.ensures).1 in
-    ((f.inside, g.inside), (λ i. Lolli (f.tree i) (g.tree i))
-    ∙ sym (ap (λ v. close_form (opened t c.args.task.level) (form_of bank v)) c.in-Lolli.is))
+    let g = (images (c.in-Lolli.g.0, c.args.task.level) c.form_image-in-Lolli-2.result c.form_image-in-Lolli-2.ensures).1 in (
+      (f.inside, g.inside),
+      (λ i. Lolli (f.tree i) (g.tree i))
+          ∙ sym (ap (λ v. close_form (opened t c.args.task.level) (form_of bank v)) c.in-Lolli.is),
+    )
 
 pub form_image-requires-in-Imp : goal.form_image-requires-in-Imp
 form_image-requires-in-Imp c = known c.args.node (ImpView c.in-Imp.f c.in-Imp.g) c.args.task.level (get by_spot c.args.forms.now)
@@ -147,9 +151,11 @@ form_image-requires-in-Forall c = known c.args.node (ForallView c.in-Forall.f) c
 
 pub returns-in-Forall : goal.returns-in-Forall
 returns-in-Forall c = λ bank t images.
-    let f = (images (c.in-Forall.f.0, c.args.task.level + 1) c.form_image-in-Forall.result c.form_image-in-Forall.ensures).1 in
-    (f.inside, ap Forall (shows_inner bank t c.args.task.level c.in-Forall.f.0 c.form_image-in-Forall.result f).tree
-    ∙ sym (ap (λ v. close_form (opened t c.args.task.level) (form_of bank v)) c.in-Forall.is))
+    let f = (images (c.in-Forall.f.0, c.args.task.level + 1) c.form_image-in-Forall.result c.form_image-in-Forall.ensures).1 in (
+      f.inside,
+      ap Forall (shows_inner bank t c.args.task.level c.in-Forall.f.0 c.form_image-in-Forall.result f).tree
+          ∙ sym (ap (λ v. close_form (opened t c.args.task.level) (form_of bank v)) c.in-Forall.is),
+    )
 
 pub overflow_add-level-in-Exists : goal.overflow_add-level-in-Exists
 overflow_add-level-in-Exists c =
@@ -162,6 +168,8 @@ form_image-requires-in-Exists c = known c.args.node (ExistsView c.in-Exists.f) c
 
 pub returns-in-Exists : goal.returns-in-Exists
 returns-in-Exists c = λ bank t images.
-    let f = (images (c.in-Exists.f.0, c.args.task.level + 1) c.form_image-in-Exists.result c.form_image-in-Exists.ensures).1 in
-    (f.inside, ap Exists (shows_inner bank t c.args.task.level c.in-Exists.f.0 c.form_image-in-Exists.result f).tree
-    ∙ sym (ap (λ v. close_form (opened t c.args.task.level) (form_of bank v)) c.in-Exists.is))
+    let f = (images (c.in-Exists.f.0, c.args.task.level + 1) c.form_image-in-Exists.result c.form_image-in-Exists.ensures).1 in (
+      f.inside,
+      ap Exists (shows_inner bank t c.args.task.level c.in-Exists.f.0 c.form_image-in-Exists.result f).tree
+          ∙ sym (ap (λ v. close_form (opened t c.args.task.level) (form_of bank v)) c.in-Exists.is),
+    )

@@ -3,7 +3,7 @@ use Rattle.std.proofs.lemmas.List.{append-nil}
 use Rattle.std.proofs.lemmas.Result.{on_ok_weaker, IfOk-from_err}
 use Rattle.ll_bank.specs.declared.FormNode.TheVariants.{Top as TopView, One as OneView, Atom as AtomView, With as WithView, Tensor as TensorView}
 use Rattle.ll_bank.specs.declared.FormNode.TheVariants.{Plus as PlusView, Bang as BangView, Lolli as LolliView, Imp as ImpView, Forall as ForallView}
-use Rattle.ll_bank.specs.declared.FormNode.TheVariants.{Exists as ExistsView, Use as UseView}
+use Rattle.ll_bank.specs.declared.FormNode.TheVariants.{Exists as ExistsView, Use as UseView, Is as IsView, Less as LessView, Most as MostView}
 use Rattle.ll_bank.specs.Nodes.{node_of}
 use Rattle.ll_bank.specs.Opened.{form_parts, form_parts_at, IsFormGood, ArePartsOf, form_size_at}
 use Rattle.ll_bank.proofs.OpenLemmas.{pushed, form_node_seen, form_parts_small}
@@ -163,3 +163,42 @@ pub returns-in-Use-clause-parts : goal.returns-in-Use-clause-parts
 returns-in-Use-clause-parts c =
     on_ok_weaker c.push_one-in-Use.result (λ _. form_parts_small c.args.bank.now c.args.task.place c.args.task.level
     (UseView c.in-Use.field-0 c.in-Use.field-1 c.in-Use.f) c.in-Use.ensures.node c.in-Use.ensures.shown) c.push_one-in-Use.ensures
+
+pub returns-in-Is-clause-pushed : goal.returns-in-Is-clause-pushed
+returns-in-Is-clause-pushed c =
+    pushed (form_parts_at c.args.bank.now (c.args.task.place, c.args.task.level))
+    (form_parts (node_of (IsView c.in-Is.field-0 c.in-Is.field-1)) c.args.task.level)
+    c.args.tasks.now.items c.push.new.self.items c.push.new.self.items (record { place = c.args.task.place; level = c.args.task.level; ready = true })
+    (ap (λ node. form_parts node c.args.task.level) (form_node_seen c.args.bank.now c.args.task.place (node_of (IsView c.in-Is.field-0 c.in-Is.field-1))
+    c.in-Is.ensures.node)) c.in_ok-push.ensures.items (sym (append-nil c.push.new.self.items))
+
+pub returns-in-Is-clause-parts : goal.returns-in-Is-clause-parts
+returns-in-Is-clause-parts c =
+    form_parts_small c.args.bank.now c.args.task.place c.args.task.level (IsView c.in-Is.field-0 c.in-Is.field-1) c.in-Is.ensures.node
+    c.in-Is.ensures.shown
+
+pub returns-in-Less-clause-pushed : goal.returns-in-Less-clause-pushed
+returns-in-Less-clause-pushed c =
+    pushed (form_parts_at c.args.bank.now (c.args.task.place, c.args.task.level))
+    (form_parts (node_of (LessView c.in-Less.field-0 c.in-Less.field-1)) c.args.task.level)
+    c.args.tasks.now.items c.push.new.self.items c.push.new.self.items (record { place = c.args.task.place; level = c.args.task.level; ready = true })
+    (ap (λ node. form_parts node c.args.task.level) (form_node_seen c.args.bank.now c.args.task.place (node_of (LessView c.in-Less.field-0 c.in-Less.field-1))
+    c.in-Less.ensures.node)) c.in_ok-push.ensures.items (sym (append-nil c.push.new.self.items))
+
+pub returns-in-Less-clause-parts : goal.returns-in-Less-clause-parts
+returns-in-Less-clause-parts c =
+    form_parts_small c.args.bank.now c.args.task.place c.args.task.level (LessView c.in-Less.field-0 c.in-Less.field-1) c.in-Less.ensures.node
+    c.in-Less.ensures.shown
+
+pub returns-in-Most-clause-pushed : goal.returns-in-Most-clause-pushed
+returns-in-Most-clause-pushed c =
+    pushed (form_parts_at c.args.bank.now (c.args.task.place, c.args.task.level))
+    (form_parts (node_of (MostView c.in-Most.field-0 c.in-Most.field-1)) c.args.task.level)
+    c.args.tasks.now.items c.push.new.self.items c.push.new.self.items (record { place = c.args.task.place; level = c.args.task.level; ready = true })
+    (ap (λ node. form_parts node c.args.task.level) (form_node_seen c.args.bank.now c.args.task.place (node_of (MostView c.in-Most.field-0 c.in-Most.field-1))
+    c.in-Most.ensures.node)) c.in_ok-push.ensures.items (sym (append-nil c.push.new.self.items))
+
+pub returns-in-Most-clause-parts : goal.returns-in-Most-clause-parts
+returns-in-Most-clause-parts c =
+    form_parts_small c.args.bank.now c.args.task.place c.args.task.level (MostView c.in-Most.field-0 c.in-Most.field-1) c.in-Most.ensures.node
+    c.in-Most.ensures.shown

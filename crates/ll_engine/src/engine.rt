@@ -10,6 +10,8 @@ ghost use Rattle.ll_engine.specs.Pointed.{spine_of, IsSound};
 ghost use Rattle.ll_engine.specs.Turned.{Turned, has_none};
 ghost use Rattle.ll_engine.specs.Moves.{found_of, made_of, running_of};
 ghost use Rattle.ll_engine.specs.Steps.{Steps, fresh};
+ghost use Rattle.ll_engine.specs.Owed.{owing};
+ghost use Rattle.ll_engine.specs.Healthy.{Healthy};
 ghost use Rattle.ll_engine.specs.Resumes.{Resumes, resumed};
 ghost use Rattle.ll_engine.specs.Splits.{Splits};
 
@@ -123,6 +125,22 @@ impl<'p> Model for Engine<'p> {
     ghost invariant = { λ e. e.spent ≡ false → (IsSound e.running e.spine × Healthy e.splits e.running (spine_of e.spine)) };
 }
 
+// The engine of a machine as it began: nothing was split off, and no inference made.
+fn begun<'p>(spine: Spine<'p>) -> Engine<'p>
+    requires sound { IsSound spine.began spine }
+    requires healthy { Healthy 0 spine.began (spine_of spine) }
+    ensures { result ≡ owing (spine_of spine.entry) spine.entry.began 0 0 false }
+{
+    let running = spine.began;
+    Engine {
+        spine,
+        running,
+        splits: 0,
+        made: 0,
+        spent: false,
+    }
+}
+
 impl<'p> Engine<'p> {
     /// An engine that owes the whole search of a valid problem.
     pub fn start(alloc: Global, problem: &'p Problem) -> Result<Engine<'p>, OutOfMemory>
@@ -166,14 +184,7 @@ impl<'p> Engine<'p> {
         ensures owes { IfOk result (λ e. (owes : Owed TheEvent) → slice_get (alternatives_in frozen.now) k ≡ Some owes → Resumes problem.entry.now owes e) }
     {
         let spine = Spine::resume(alloc, problem, frozen, k)?;
-        let running = spine.began;
-        Ok(Engine {
-            spine,
-            running,
-            splits: 0,
-            made: 0,
-            spent: false,
-        })
+        Ok(begun(spine))
     }
 
     /// The same for a batch that the engine keeps: what is split off shares the store of the batch, as long as it would not share with more
@@ -191,14 +202,7 @@ impl<'p> Engine<'p> {
             → Resumes problem.entry.now owes e) }
     {
         let spine = Spine::resume_shared(alloc, problem, frozen, k)?;
-        let running = spine.began;
-        Ok(Engine {
-            spine,
-            running,
-            splits: 0,
-            made: 0,
-            spent: false,
-        })
+        Ok(begun(spine))
     }
 
     /// An engine for an alternative of another batch of the same problem, as `resume_shared` gives it. The index and the room for branches
@@ -214,18 +218,10 @@ impl<'p> Engine<'p> {
     {
         let Engine { spine, spent, .. } = self;
         if spent {
-            let other = Engine::resume_shared(spine.alloc, spine.problem, to, k)?;
-            return Ok(other);
+            return Engine::resume_shared(spine.alloc, spine.problem, to, k);
         }
         let spine = spine.advance(to, k)?;
-        let running = spine.began;
-        Ok(Engine {
-            spine,
-            running,
-            splits: 0,
-            made: 0,
-            spent: false,
-        })
+        Ok(begun(spine))
     }
 
     /// Goes on by one step. After a refusal the engine is spent: every later step is refused too.

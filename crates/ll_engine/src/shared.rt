@@ -37,8 +37,7 @@ impl<'p> Spine<'p> {
         let index = index_of(alloc, problem, &frozen)?;
         let machine = frozen.thaw(k)?;
         let workshop = Workshop::new(alloc);
-        let spine = begin_in(alloc, problem, index, machine, workshop, frozen, k)?;
-        Ok(spine)
+        begin_in(alloc, problem, index, machine, workshop, frozen, k)
     }
 
     /// The same for an alternative of another batch.
@@ -60,8 +59,7 @@ impl<'p> Spine<'p> {
             ..
         } = self;
         let machine = go_on(machine, ancestor, &to, k)?;
-        let spine = begin_in(alloc, problem, index, machine, workshop, to, k)?;
-        Ok(spine)
+        begin_in(alloc, problem, index, machine, workshop, to, k)
     }
 }
 
@@ -77,14 +75,8 @@ fn go_on<'p>(
     ensures { IfOk result (λ m. Thaws to.entry.now (parts_of m)) }
 {
     match ancestor {
-        None => {
-            let thawed = to.thaw(k)?;
-            Ok(thawed)
-        }
-        Some(Ancestor { batch, base }) => {
-            let advanced = advance(machine, base, &batch, to)?;
-            Ok(advanced)
-        }
+        None => to.thaw(k),
+        Some(Ancestor { batch, base }) => advance(machine, base, &batch, to),
     }
 }
 

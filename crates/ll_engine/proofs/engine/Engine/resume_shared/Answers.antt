@@ -1,20 +1,19 @@
+use Rattle.std.proofs.Common.{◌∙◌}
 use Rattle.std.specs.Arc.{arc_value}
 use Rattle.ll_engine.specs.Pointed.{spine_of}
 use Rattle.ll_engine.proofs.turns.Resuming.{healthy_begins, resumes_with, resumes_owing}
 use Rattle.ll_engine.proofs.engine.Engine.resume_shared.Goals as goal
 
-pub invariant_of-result : goal.invariant_of-result
-invariant_of-result c =
-    let z = c.in_ok-spine.spine in λ _. (
-      c.in_ok-spine.ensures.sound,
-      healthy_begins (arc_value c.args.frozen) c.args.k z.began (spine_of z) c.in_ok-spine.ensures.begins,
-    )
+pub begun-requires-clause-healthy : goal.begun-requires-clause-healthy
+begun-requires-clause-healthy c =
+    let z = c.in_ok-spine.spine in healthy_begins (arc_value c.args.frozen) c.args.k z.began (spine_of z) c.in_ok-spine.ensures.begins
 
 pub returns-clause-resumed : goal.returns-clause-resumed
-returns-clause-resumed c = let z = c.in_ok-spine.spine in resumes_with (arc_value c.args.frozen) c.args.k z.began (spine_of z) c.in_ok-spine.ensures.begins
+returns-clause-resumed c =
+    let z = c.in_ok-spine.spine in c.begun.ensures ∙ resumes_with (arc_value c.args.frozen) c.args.k z.began (spine_of z) c.in_ok-spine.ensures.begins
 
 pub returns-clause-owes : goal.returns-clause-owes
 returns-clause-owes c =
     let z = c.in_ok-spine.spine in
     λ owes g. resumes_owing (arc_value c.args.frozen) c.args.k c.args.problem.now _ owes
-    (resumes_with (arc_value c.args.frozen) c.args.k z.began (spine_of z) c.in_ok-spine.ensures.begins) c.requires.of g
+    (c.begun.ensures ∙ resumes_with (arc_value c.args.frozen) c.args.k z.began (spine_of z) c.in_ok-spine.ensures.begins) c.requires.of g

@@ -1,5 +1,6 @@
 //! The end of a branch: whether a state is an answer, and which one.
 ghost use Rattle.std.specs.Prelude.{◌≡◌, IfOk};
+ghost use Rattle.ll_bank.specs.Nodes.{no_nodes};
 ghost use Rattle.ll_laws.specs.Settle.{has_live};
 ghost use Rattle.ll_freeze.specs.Parts.{parts_of};
 ghost use Rattle.ll_freeze.specs.Shown.{state_of};
@@ -59,9 +60,8 @@ pub fn branch(
     let carrier = &mut workshop.carrier;
     let grown = &mut workshop.grown;
     let store = &machine.store;
-    let nothing = Bank::new(alloc);
-    let none = nothing.size();
-    grown.cut(none);
+    let steps = Vec::from_slice(alloc, machine.steps.as_slice())?;
+    clear(alloc, grown);
     let terms = read_into(
         alloc,
         carrier,
@@ -72,8 +72,15 @@ pub fn branch(
     )?;
     let size = grown.size();
     let bank = grown.image(size)?;
-    let steps = Vec::from_slice(alloc, machine.steps.as_slice())?;
     Ok(Branch { bank, terms, steps })
+}
+
+// Takes all nodes out of a bank.
+fn clear(alloc: Global, bank: &mut Bank)
+    ensures { bank.new ≡ no_nodes }
+{
+    let nothing = Bank::new(alloc);
+    bank.cut(nothing.size());
 }
 
 // Whether an entry is live.

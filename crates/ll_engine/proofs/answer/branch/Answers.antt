@@ -1,9 +1,9 @@
-use Rattle.std.proofs.Common.{◌≡◌, sym, subst, ap, refl, ◌∙◌, List, map}
+use Rattle.std.proofs.Common.{◌≡◌, sym, subst, refl, ◌∙◌, List, map}
 use Rattle.std.specs.Prelude.{All}
 use Rattle.ll_bank.specs.declared.At.{At}
 use Rattle.ll_bank.specs.Term.{sub}
-use Rattle.ll_bank.specs.Nodes.{Nodes, AllInTerms, HasSize, term_trees, no_nodes, front, size_of}
-use Rattle.ll_bank.proofs.CallerLemmas.{HasSize-front, cut_same}
+use Rattle.ll_bank.specs.Nodes.{Nodes, AllInTerms, term_trees}
+use Rattle.ll_bank.proofs.CallerLemmas.{cut_same}
 use Rattle.ll_bindings.specs.Bindings.{IsPlaceOf}
 use Rattle.ll_freeze.specs.Parts.{parts_of, table}
 use Rattle.ll_freeze.proofs.CallerLemmas.{trees_read}
@@ -11,13 +11,6 @@ use Rattle.ll_freeze.specs.Reading.{reading}
 use Rattle.ll_engine.proofs.machine.ReadLemmas.{fits_table}
 use Rattle.ll_engine.proofs.machine.Showing.{branch_of, term_places}
 use Rattle.ll_engine.proofs.answer.branch.Goals as goal
-
-pub cut-requires : goal.cut-requires
-cut-requires c =
-    let none = c.size-none.result in
-    let e = c.size-none.ensures.is ∙ ap size_of c.new-nothing.ensures in
-    HasSize-front no_nodes _ none (ap (front no_nodes) e ∙ sym (ap (front _) e))
-    (subst (λ (b : Nodes). HasSize b none) c.new-nothing.ensures c.size-none.ensures.had)
 
 pub read_into-requires-clause-table : goal.read_into-requires-clause-table
 read_into-requires-clause-table c = fits_table (parts_of c.args.machine.now) c.requires.fits

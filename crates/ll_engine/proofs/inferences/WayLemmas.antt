@@ -1,21 +1,25 @@
 -- The way to a leaf, step by step.
 use Rattle.std.proofs.Common.{◌≡◌, ℕ, zero, suc, ◌+◌, ◌-◌, ◌<◌, ◌≤◌, List, [], ◌∷◌, ◌++◌, length, map, take, drop, reverse, All, refl, ap, sym, subst, ◌∙◌}
-use Rattle.std.proofs.Common.{arith, Option, Some, Bool, true, false, append_assoc, get_or}
-use Rattle.std.specs.Prelude.{if◌then◌else◌, nat_lt, slice_get, option_map, ◌&&◌}
+use Rattle.std.proofs.Common.{arith, Option, Some, Bool, true, false, append_assoc, get_or, inl, inr}
+use Rattle.std.specs.Prelude.{if◌then◌else◌, slice_get, option_map, ◌&&◌}
 use Rattle.std.specs.List.{list_all}
-use Rattle.std.proofs.lemmas.Bool.{ltb-true, lt-ltb, and_from as and_intro}
+use Rattle.std.proofs.lemmas.Bool.{cases_lt, lt-ltb, and_from as and_intro}
 use Rattle.std.proofs.lemmas.List.{append-nil, map-append, reverse-append, take_all, length-drop}
-use Rattle.std.proofs.lemmas.List.Elements.{All-cons, All-push}
+use Rattle.std.proofs.lemmas.List.Elements.{All-cons, All-push, All-take, All-drop}
 use Rattle.ll_lists.proofs.CallerLemmas.{length-map_suc as length-suc, slice_get-append_left as get_left, slice_get-append_right as get_right}
 use Rattle.ll_lists.proofs.CallerLemmas.{slice_get-map_suc as get_suc, lt_false as not_below, and_true_left as and_left, and_true_right as and_right}
 use Rattle.ll_bank.specs.declared.At.{At}
 use Rattle.ll_bank.specs.declared.FormAt.{FormAt}
+use Rattle.ll_bank.specs.declared.FormNode.{FormNode}
+use Rattle.ll_bank.specs.declared.FormNode.TheVariants.{Top as TopView, One as OneView, Atom as AtomView, With as WithView, Tensor as TensorView}
+use Rattle.ll_bank.specs.declared.FormNode.TheVariants.{Plus as PlusView, Bang as BangView, Lolli as LolliView, Imp as ImpView, Forall as ForallView}
+use Rattle.ll_bank.specs.declared.FormNode.TheVariants.{Exists as ExistsView, Use as UseView, Is as IsView, Less as LessView, Most as MostView}
 use Rattle.ll_bank.specs.Term.{Term, Var, Env, close, applies_heads, is_spine, head_of}
 use Rattle.ll_bank.specs.Form.{Form, Top, One, Atom, With, Tensor, Plus, Bang, Lolli, Imp, Forall, Exists, Use, Num, close_form, form_applies_heads}
-use Rattle.ll_bank.specs.Nodes.{Nodes, HasTerm, HasForm, AllInTerms, Extends, term_tree, term_trees, form_tree}
+use Rattle.ll_bank.specs.Nodes.{Nodes, HasTerm, HasForm, AllInTerms, Extends, term_tree, term_trees, form_tree, form_of}
 use Rattle.ll_bank.proofs.CallerLemmas.{HasForm-extends, form_tree-extends, AllInTerms-extends, term_trees-extends, Extends-refl, Extends-trans}
 use Rattle.ll_bank.proofs.CallerLemmas.{length-term_trees}
-use Rattle.ll_laws.specs.Leaf.{Leaf, Premise, add_premise, premise_goal, ways, leaf, leaf_from}
+use Rattle.ll_laws.specs.Leaf.{Leaf, Premise, Needs, NeedsFree, add_premise, premise_goal, ways, leaf, leaf_from}
 use Rattle.ll_laws.specs.Attempt.{vars_from}
 use Rattle.ll_laws.specs.Valid.{Allowed, Side, GoalSide, ClauseSide, Scope, has_heads, is_headed, may_head}
 use Rattle.ll_laws.proofs.CallerLemmas.{Grows, Closes, Widens, Fits as FormFits, fits_of_formula, formula_of_fits, fits-more, fits-close, length-vars}
@@ -24,7 +28,8 @@ use Rattle.ll_agenda.specs.declared.agenda.Top.{Top as AgendaTop}
 use Rattle.ll_agenda.specs.Frames.{Frames, ShowsItems, items_at}
 use Rattle.ll_freeze.specs.declared.machine.Item.{Item}
 use Rattle.ll_freeze.specs.declared.machine.Item.TheVariants.{Goal}
-use Rattle.ll_engine.specs.Opening.{IsClause, AreGoalsOf, Opens}
+use Rattle.ll_engine.specs.declared.open.Side.{Side as LeafSide}
+use Rattle.ll_engine.specs.Opening.{IsClause, IsSide, AreGoalsOf, Opens}
 use Rattle.ll_close.specs.Closing.{env_of}
 use Rattle.ll_engine.proofs.inferences.TakenLemmas.{vars_split}
 
@@ -195,6 +200,36 @@ slice_env nodes lent terms from before count e f vars =
     ap (λ ats. env_of nodes ats) (take_all (length lent - from) (drop from lent) (omega (arith, n)))
     ∙ ((λ i. env_of nodes (drop (f i) (e i))) ∙ env_is nodes terms before count vars)
 
+-- ---- parts
+
+-- a formula of no other sort has no leaf
+pub no_ways : (bank : Nodes) (v : FormNode) → ((a : At) → v ≡ AtomView a → ⊥) → ((f g : FormAt) → v ≡ WithView f g → ⊥)
+    → ((f g : FormAt) → v ≡ LolliView f g → ⊥) → ((f g : FormAt) → v ≡ ImpView f g → ⊥) → ((f : FormAt) → v ≡ ForallView f → ⊥)
+    → ways (form_of bank v) ≡ []
+no_ways bank TopView a w l i f = refl
+no_ways bank OneView a w l i f = refl
+no_ways bank (AtomView t) a w l i f = absurd (a t refl)
+no_ways bank (WithView x y) a w l i f = absurd (w x y refl)
+no_ways bank (TensorView x y) a w l i f = refl
+no_ways bank (PlusView x y) a w l i f = refl
+no_ways bank (BangView x) a w l i f = refl
+no_ways bank (LolliView x y) a w l i f = absurd (l x y refl)
+no_ways bank (ImpView x y) a w l i f = absurd (i x y refl)
+no_ways bank (ForallView x) a w l i f = absurd (f x refl)
+no_ways bank (ExistsView x) a w l i f = refl
+no_ways bank (UseView m ts x) a w l i f = refl
+no_ways bank (IsView x y) a w l i f = refl
+no_ways bank (LessView x y) a w l i f = refl
+no_ways bank (MostView x y) a w l i f = refl
+
+-- each side of a `&` is less than the whole
+pub side_smaller : (lefts : List ℕ) (form g h : FormAt) (k : ℕ) (side : LeafSide) → (g.0 < form.0) × (h.0 < form.0) → IsSide lefts g h k side
+    → side.form.0 < form.0
+side_smaller lefts form g h k side parts is = elim (cases_lt k (length lefts)) [
+  | inl l ↦ subst (λ (f : FormAt). f.0 < form.0) (sym (is.0 l).0) parts.0
+  | inr l ↦ subst (λ (f : FormAt). f.0 < form.0) (sym (is.1 l).0) parts.1
+]
+
 -- ---- the way
 
 module _ (first : Nodes) (items : List Item) (before clause k : ℕ) where
@@ -230,6 +265,25 @@ module _ (first : Nodes) (items : List Item) (before clause k : ℕ) where
 
     pub part_inside : (g : FormAt) → g.0 < form.0 → HasForm first g.0
     part_inside g l = let i = w.inside in omega (arith, i, l)
+
+    -- what is left, and each part of it, stands in the bank
+    pub stands : HasForm bank form.0
+    stands = HasForm-extends w.keeps form.0 w.inside
+
+    pub part_stands : (g : FormAt) → g.0 < form.0 → HasForm bank g.0
+    part_stands g l = HasForm-extends w.keeps g.0 (part_inside g l)
+
+    -- it has a leaf
+    pub way_none : (view : FormNode) → form_tree bank form.0 ≡ form_of bank view → ways (form_of bank view) ≡ [] → ⊥
+    way_none view seen none =
+        let l = subst (λ (f : Form). at < length (ways f)) (sym (same_part form w.inside) ∙ seen) w.among in
+        let z = subst (λ (ws : List ℕ). at < length ws) none l in absurd (omega (arith, z))
+
+    -- the part of the variables that is lent is one, in the bank
+    pub lent_inside : (lent : List At) (from : ℕ) → lent ≡ terms → AllInTerms bank (take (length lent - from) (drop from lent))
+    lent_inside lent from e =
+        let P : At → Type 0 = λ a. a.0 < length bank.terms in
+        All-take P (length lent - from) (drop from lent) (All-drop P from lent (subst (All P) (sym e) w.terms_inside))
 
     -- it goes along with the bank
     pub way_extends : (new : Nodes) → Extends bank new → IsOnWay first items before clause k new now terms form.0 at top
@@ -344,8 +398,77 @@ module _ (first : Nodes) (items : List Item) (before clause k : ℕ) where
               ∙ ap (λ ps. let o : Option Leaf = Some (record { premises = ps; head = l.head }) in o) (append_assoc l.premises (p ∷ []) w.premises);
         }
 
+    -- the goal of a premise has no arguments but those of heads, once it is closed by the part of the variables that is lent
+    closed_heads : (g : FormAt) → HasForm first g.0 → FormFits w.may GoalSide (scope_of w.count) (form_tree first g.0) → (lent : List At) (from : ℕ)
+        → lent ≡ terms → from ≡ before
+        → form_applies_heads (close_form (env_of bank (take (length lent - from) (drop from lent))) (form_tree bank g.0)) ≡ true
+    closed_heads g inside fits lent from e f =
+        (λ i. form_applies_heads (close_form (slice_env bank lent terms from before w.count e f w.variables i) (same_part g inside i)))
+        ∙ closed_applies w.may before w.count GoalSide (form_tree first g.0) fits
+
+    -- it is that of the clause, closed by the variables
+    closed_goal : (g : FormAt) → HasForm first g.0 → (lent : List At) (from : ℕ) → lent ≡ terms → from ≡ before
+        → close_form (env_of bank (take (length lent - from) (drop from lent))) (form_tree bank g.0)
+        ≡ close_form (env_vars before w.count) (form_tree first g.0)
+    closed_goal g inside lent from e f i = close_form (slice_env bank lent terms from before w.count e f w.variables i) (same_part g inside i)
+
+    module _ (g r : FormAt) (parts : (g.0 < form.0) × (r.0 < form.0)) where
+      lolli_seen : form_tree bank form.0 ≡ Lolli (form_tree bank g.0) (form_tree bank r.0)
+          → form_tree first form.0 ≡ Lolli (form_tree first g.0) (form_tree first r.0)
+      lolli_seen seen =
+          sym (same_part form w.inside) ∙ (seen ∙ (λ i. Lolli (same_part g (part_inside g parts.0) i) (same_part r (part_inside r parts.1) i)))
+
+      imp_seen : form_tree bank form.0 ≡ Imp (form_tree bank g.0) (form_tree bank r.0)
+          → form_tree first form.0 ≡ Imp (form_tree first g.0) (form_tree first r.0)
+      imp_seen seen =
+          sym (same_part form w.inside) ∙ (seen ∙ (λ i. Imp (same_part g (part_inside g parts.0) i) (same_part r (part_inside r parts.1) i)))
+
+      pub lolli_heads : form_tree bank form.0 ≡ Lolli (form_tree bank g.0) (form_tree bank r.0) → (lent : List At) (from : ℕ) → lent ≡ terms → from ≡ before
+          → form_applies_heads (close_form (env_of bank (take (length lent - from) (drop from lent))) (form_tree bank g.0)) ≡ true
+      lolli_heads seen = closed_heads g (part_inside g parts.0) (subst (FormFits w.may ClauseSide (scope_of w.count)) (lolli_seen seen) w.fits).0
+
+      pub imp_heads : form_tree bank form.0 ≡ Imp (form_tree bank g.0) (form_tree bank r.0) → (lent : List At) (from : ℕ) → lent ≡ terms → from ≡ before
+          → form_applies_heads (close_form (env_of bank (take (length lent - from) (drop from lent))) (form_tree bank g.0)) ≡ true
+      imp_heads seen = closed_heads g (part_inside g parts.0) (subst (FormFits w.may ClauseSide (scope_of w.count)) (imp_seen seen) w.fits).0
+
+      -- past a premise of either kind, whose goal was closed by them
+      pub way_lolli : (b : FormAt) (more : Nodes) (new : Frames Item) (top' : AgendaTop) (lent : List At) (from : ℕ) → lent ≡ terms → from ≡ before
+          → form_tree bank form.0 ≡ Lolli (form_tree bank g.0) (form_tree bank r.0) → Extends bank more → HasForm more b.0
+          → form_tree more b.0 ≡ close_form (env_of bank (take (length lent - from) (drop from lent))) (form_tree bank g.0)
+          → ShowsItems new top' (Goal b ∷ items_at now top) → IsOnWay first items before clause k more new terms r.0 at top'
+      way_lolli b more new top' lent from e f seen keeps inside goal shows =
+          let a = part_inside g parts.0 in let tree = lolli_seen seen in let env = env_vars before w.count in
+          way_past (Needs (close_form env (form_tree first g.0))) b r more new top' keeps (ap ways tree)
+          (λ ts. ap (λ t. leaf_from env t at ts) tree) (part_inside r parts.1) (subst (FormFits w.may ClauseSide (scope_of w.count)) tree w.fits).1 inside
+          (goal ∙ closed_goal g a lent from e f) shows
+
+      pub way_imp : (b : FormAt) (more : Nodes) (new : Frames Item) (top' : AgendaTop) (lent : List At) (from : ℕ) → lent ≡ terms → from ≡ before
+          → form_tree bank form.0 ≡ Imp (form_tree bank g.0) (form_tree bank r.0) → Extends bank more → HasForm more b.0
+          → form_tree more b.0 ≡ Bang (close_form (env_of bank (take (length lent - from) (drop from lent))) (form_tree bank g.0))
+          → ShowsItems new top' (Goal b ∷ items_at now top) → IsOnWay first items before clause k more new terms r.0 at top'
+      way_imp b more new top' lent from e f seen keeps inside goal shows =
+          let a = part_inside g parts.0 in let tree = imp_seen seen in let env = env_vars before w.count in
+          way_past (NeedsFree (close_form env (form_tree first g.0))) b r more new top' keeps (ap ways tree)
+          (λ ts. ap (λ t. leaf_from env t at ts) tree) (part_inside r parts.1) (subst (FormFits w.may ClauseSide (scope_of w.count)) tree w.fits).1 inside
+          (goal ∙ ap Bang (closed_goal g a lent from e f)) shows
+
+      -- to the side of a `&` on which the leaf is
+      pub way_side : (side : LeafSide) → form_tree bank form.0 ≡ With (form_tree bank g.0) (form_tree bank r.0)
+          → IsSide (ways (form_tree bank g.0)) g r at side → IsOnWay first items before clause k bank now terms side.form.0 side.leaf top
+      way_side side seen is = elim (cases_lt at (length (ways (form_tree bank g.0)))) [
+        | inl l ↦ let s = is.0 l in let q = way_left g r seen parts l in
+            subst (λ (f : FormAt). IsOnWay first items before clause k bank now terms f.0 side.leaf top) (sym s.0)
+            (subst (λ (j : ℕ). IsOnWay first items before clause k bank now terms g.0 j top) (sym s.1) q)
+        | inr l ↦ let s = is.1 l in
+            subst (λ (f : FormAt). IsOnWay first items before clause k bank now terms f.0 side.leaf top) (sym s.0)
+            (way_right g r side.leaf seen parts l s.1)
+      ]
+
     pub count_terms : length terms ≡ before + w.count
     count_terms = sym (length-term_trees bank terms) ∙ (ap (λ (ts : List Term). length ts) w.variables ∙ length-vars 0 (before + w.count))
+
+    pub lent_behind : (lent : List At) (from : ℕ) → lent ≡ terms → from ≡ before → from ≤ length lent
+    lent_behind lent from e f = let a = ap (λ (ts : List At). length ts) e in let n = count_terms in omega (arith, a, f, n)
 
     -- into a quantifier, with a new variable
     pub way_in : (body : FormAt) (v : At) (new : Nodes) (more : List At) → form_tree bank form.0 ≡ Forall (form_tree bank body.0) → body.0 < form.0

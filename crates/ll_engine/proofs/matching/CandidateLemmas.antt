@@ -1,8 +1,8 @@
 -- The walk over the leaves of a clause, and what it finds.
-use Rattle.std.proofs.Common.{◌≡◌, ℕ, suc, ◌+◌, Bool, List, [], ◌∷◌, ◌++◌, length, refl, ap, sym, subst, ◌∙◌, arith, Some, true, false, append_assoc, All}
+use Rattle.std.proofs.Common.{◌≡◌, ℕ, suc, ◌+◌, ◌<◌, Bool, List, [], ◌∷◌, ◌++◌, length, refl, ap, sym, subst, ◌∙◌, arith, Some, true, false, append_assoc, All}
 use Rattle.std.specs.Prelude.{if◌then◌else◌}
-use Rattle.std.proofs.lemmas.List.{append-nil, length_push, get_or_push}
-use Rattle.std.proofs.Math.ListN.{get_or-append}
+use Rattle.std.proofs.lemmas.List.{append-nil}
+use Rattle.std.proofs.lemmas.List.Sums.{sum_by-append}
 use Rattle.std.proofs.lemmas.List.Elements.{All-head, All-tail, All-push}
 use Rattle.ll_lists.proofs.CallerLemmas.{All-front, All-last as All-end}
 use Rattle.ll_bank.specs.declared.At.{At}
@@ -13,10 +13,13 @@ use Rattle.ll_bank.specs.declared.FormNode.TheVariants.{Top as TopView, One as O
 use Rattle.ll_bank.specs.declared.FormNode.TheVariants.{Plus as PlusView, Bang as BangView, Lolli as LolliView, Imp as ImpView, Forall as ForallView}
 use Rattle.ll_bank.specs.declared.FormNode.TheVariants.{Exists as ExistsView, Use as UseView, Is as IsView, Less as LessView, Most as MostView}
 use Rattle.ll_bank.specs.Term.{Term, app, head_of, arity}
+use Rattle.ll_bank.specs.Form.{Form, Top, One, Atom, With, Tensor, Plus, Bang, Lolli, Imp, Forall, Exists, Use, Num}
 use Rattle.ll_bank.specs.Nodes.{Nodes, HasForm, term_trees, form_tree, form_of}
 use Rattle.ll_bank.proofs.CallerLemmas.{head_of-app, arity-app, length-term_trees}
 use Rattle.ll_laws.specs.declared.Candidate.{Candidate}
-use Rattle.ll_engine.specs.Leaves.{heads, head_tries, waiting_heads}
+use Rattle.ll_laws.specs.Leaf.{ways}
+use Rattle.ll_laws.proofs.CallerLemmas.{waiting_ways}
+use Rattle.ll_engine.specs.Leaves.{heads, head_tries, waiting_heads, walk_size, waiting_size}
 
 -- ---- predicates
 
@@ -150,6 +153,54 @@ module _ (P : Term → Type 0) (bank : Nodes) (old rest : List FormAt) (f : Form
 
   pub each_behind : (t : Term) → heads (form_tree bank f.0) ≡ t ∷ [] → All P (waiting_heads bank rest)
   each_behind t e = All-tail P t (waiting_heads bank rest) (leaf_next t e)
+
+-- a part of it is inside too
+pub part_waits : (bank : Nodes) (f g : FormAt) → HasForm bank f.0 → g.0 < f.0 → HasForm bank g.0
+part_waits bank f g inside l = omega (arith, inside, l)
+
+-- ---- what is left of the walk gets less
+
+size_more : (bank : Nodes) (fs : List FormAt) (f : FormAt) → waiting_size bank (fs ++ f ∷ []) ≡ waiting_size bank fs + walk_size (form_tree bank f.0)
+size_more bank fs f = let e = sum_by-append (λ (g : FormAt). walk_size (form_tree bank g.0)) fs (f ∷ []) in omega (arith, e)
+
+walk_some : (f : Form) → 0 < walk_size f
+walk_some Top = omega arith
+walk_some One = omega arith
+walk_some (Atom a) = omega arith
+walk_some (With r s) = omega arith
+walk_some (Tensor f g) = omega arith
+walk_some (Plus f g) = omega arith
+walk_some (Bang f) = omega arith
+walk_some (Lolli g r) = omega arith
+walk_some (Imp g r) = omega arith
+walk_some (Forall r) = omega arith
+walk_some (Exists f) = omega arith
+walk_some (Use m ts f) = omega arith
+walk_some (Num r t u) = omega arith
+
+module _ (bank : Nodes) (old rest : List FormAt) (f : FormAt) (popped : old ≡ rest ++ f ∷ []) where
+  size_next : waiting_size bank old ≡ waiting_size bank rest + walk_size (form_tree bank f.0)
+  size_next = ap (waiting_size bank) popped ∙ size_more bank rest f
+
+  pub smaller_past : waiting_size bank rest < waiting_size bank old
+  smaller_past = let e = size_next in let s = walk_some (form_tree bank f.0) in omega (arith, e, s)
+
+  pub smaller_in : (g : FormAt) (new : List FormAt) → new ≡ rest ++ g ∷ [] → walk_size (form_tree bank f.0) ≡ suc (walk_size (form_tree bank g.0))
+      → waiting_size bank new < waiting_size bank old
+  smaller_in g new n e = let a = size_next in let b = ap (waiting_size bank) n ∙ size_more bank rest g in omega (arith, a, b, e)
+
+  pub smaller_both : (g h : FormAt) (mid new : List FormAt) → mid ≡ rest ++ h ∷ [] → new ≡ mid ++ g ∷ []
+      → walk_size (form_tree bank f.0) ≡ suc (walk_size (form_tree bank g.0) + walk_size (form_tree bank h.0)) → waiting_size bank new < waiting_size bank old
+  smaller_both g h mid new m n e =
+      let a = size_next in let b = ap (waiting_size bank) n ∙ size_more bank mid g in let d = ap (waiting_size bank) m ∙ size_more bank rest h in
+      omega (arith, a, b, d, e)
+
+-- leaves of the last clause are counted, where nothing takes its place
+pub count_past : (bank : Nodes) (old rest : List FormAt) (f : FormAt) (k next total n : ℕ) → old ≡ rest ++ f ∷ [] → length (ways (form_tree bank f.0)) ≡ n
+    → next ≡ k + n → k + waiting_ways bank old ≡ total → next + waiting_ways bank rest ≡ total
+count_past bank old rest f k next total n popped many is so_far =
+    let e = ap (waiting_ways bank) popped ∙ sum_by-append (λ (g : FormAt). length (ways (form_tree bank g.0))) rest (f ∷ []) in
+    omega (arith, e, many, is, so_far)
 
 -- the heads of what is seen at a place
 pub heads_seen : (bank : Nodes) (f : FormAt) (view : FormNode) → form_tree bank f.0 ≡ form_of bank view → heads (form_tree bank f.0) ≡ heads (form_of bank view)

@@ -1,9 +1,10 @@
-use Rattle.std.proofs.Common.{◌++◌, ap, sym, ◌∙◌, arith}
+use Rattle.std.proofs.Common.{◌++◌, ap, sym, ◌∙◌}
 use Rattle.ll_bank.specs.Nodes.{term_tree}
-use Rattle.ll_engine.specs.Leaves.{heads, head_tries, waiting_heads}
+use Rattle.ll_engine.specs.Leaves.{heads, head_tries, waiting_heads, walk_size}
 use Rattle.ll_engine.specs.Matches.{HasCellsIn, head_fits, all_found}
 use Rattle.ll_engine.proofs.matching.CandidateLemmas.{each_past, each_in, each_both, each_leaf, each_behind, heads_seen, no_heads, walk_past, walk_in}
-use Rattle.ll_engine.proofs.matching.CandidateLemmas.{walk_both, leaf_found, leaf_passed, AreWaiting, are_waiting}
+use Rattle.ll_engine.proofs.matching.CandidateLemmas.{walk_both, leaf_found, leaf_passed, AreWaiting, are_waiting, part_waits}
+use Rattle.ll_engine.proofs.matching.CandidateLemmas.{smaller_past, smaller_in, smaller_both}
 use Rattle.ll_engine.proofs.candidates.add_leaves.Goals as goal
 use Rattle.ll_engine.proofs.candidates.add_leaves.Goals.{In-Some, then-branch+in_ok-push-in-Atom, else-branch}
 
@@ -30,7 +31,7 @@ loop-form-preserved c = record {
 pub loop-form-preserved-in-Continue-branch-7 : goal.loop-form-preserved-in-Continue-branch-7
 loop-form-preserved-in-Continue-branch-7 c = let w = waiting (goal.at.loop-form-preserved-in-Continue-branch-7 c).In-Some in record {
   inside = w.one_more c.in-Lolli.rest c.push-in-Lolli.new.self.items c.in_ok-push-in-Lolli.ensures.items
-      (let p = c.in-Lolli.ensures.shown.parts.1 in let q = w.last in omega arith);
+      (part_waits c.args.store.now.bank c.in-Some.form c.in-Lolli.rest w.last c.in-Lolli.ensures.shown.parts.1);
   cells = each_in (HasCellsIn c.args.store.now) c.args.store.now.bank c.loop-form.waiting.items c.pop.new.self.items c.in-Some.form c.in-Some.ensures.items
       c.loop-form.invariant.cells c.in-Lolli.rest c.push-in-Lolli.new.self.items c.in_ok-push-in-Lolli.ensures.items
       (ap (λ t. heads t) c.in-Lolli.ensures.shown.tree);
@@ -42,7 +43,7 @@ loop-form-preserved-in-Continue-branch-7 c = let w = waiting (goal.at.loop-form-
 pub loop-form-preserved-in-Continue-branch-8 : goal.loop-form-preserved-in-Continue-branch-8
 loop-form-preserved-in-Continue-branch-8 c = let w = waiting (goal.at.loop-form-preserved-in-Continue-branch-8 c).In-Some in record {
   inside = w.one_more c.in-Imp.rest c.push-in-Imp.new.self.items c.in_ok-push-in-Imp.ensures.items
-      (let p = c.in-Imp.ensures.shown.parts.1 in let q = w.last in omega arith);
+      (part_waits c.args.store.now.bank c.in-Some.form c.in-Imp.rest w.last c.in-Imp.ensures.shown.parts.1);
   cells = each_in (HasCellsIn c.args.store.now) c.args.store.now.bank c.loop-form.waiting.items c.pop.new.self.items c.in-Some.form c.in-Some.ensures.items
       c.loop-form.invariant.cells c.in-Imp.rest c.push-in-Imp.new.self.items c.in_ok-push-in-Imp.ensures.items
       (ap (λ t. heads t) c.in-Imp.ensures.shown.tree);
@@ -54,7 +55,7 @@ loop-form-preserved-in-Continue-branch-8 c = let w = waiting (goal.at.loop-form-
 pub loop-form-preserved-in-Continue-branch-9 : goal.loop-form-preserved-in-Continue-branch-9
 loop-form-preserved-in-Continue-branch-9 c = let w = waiting (goal.at.loop-form-preserved-in-Continue-branch-9 c).In-Some in record {
   inside = w.one_more c.in-Forall.rest c.push-in-Forall.new.self.items c.in_ok-push-in-Forall.ensures.items
-      (let p = c.in-Forall.ensures.shown.parts in let q = w.last in omega arith);
+      (part_waits c.args.store.now.bank c.in-Some.form c.in-Forall.rest w.last c.in-Forall.ensures.shown.parts);
   cells = each_in (HasCellsIn c.args.store.now) c.args.store.now.bank c.loop-form.waiting.items c.pop.new.self.items c.in-Some.form c.in-Some.ensures.items
       c.loop-form.invariant.cells c.in-Forall.rest c.push-in-Forall.new.self.items c.in_ok-push-in-Forall.ensures.items
       (ap (λ t. heads t) c.in-Forall.ensures.shown.tree);
@@ -66,11 +67,12 @@ loop-form-preserved-in-Continue-branch-9 c = let w = waiting (goal.at.loop-form-
 pub loop-form-preserved-in-Continue-branch-6 : goal.loop-form-preserved-in-Continue-branch-6
 loop-form-preserved-in-Continue-branch-6 c =
     let w = waiting (goal.at.loop-form-preserved-in-Continue-branch-6 c).In-Some in
-    let p = c.in-With.ensures.shown.parts.0 in let q = c.in-With.ensures.shown.parts.1 in
-    let h = w.last in
+    let h = c.in-With.ensures.shown.parts in
     record {
       inside = w.two_more c.in-With.left c.in-With.right c.push-in-With.new.self.items c.push-in-With-2.new.self.items
-          c.in_ok-push-in-With.ensures.items c.in_ok-push-in-With-2.ensures.items (omega arith) (omega arith);
+          c.in_ok-push-in-With.ensures.items c.in_ok-push-in-With-2.ensures.items
+          (part_waits c.args.store.now.bank c.in-Some.form c.in-With.left w.last h.0)
+          (part_waits c.args.store.now.bank c.in-Some.form c.in-With.right w.last h.1);
       cells = each_both (HasCellsIn c.args.store.now) c.args.store.now.bank c.loop-form.waiting.items c.pop.new.self.items c.in-Some.form
           c.in-Some.ensures.items c.loop-form.invariant.cells c.in-With.left c.in-With.right c.push-in-With.new.self.items c.push-in-With-2.new.self.items
           c.in_ok-push-in-With.ensures.items c.in_ok-push-in-With-2.ensures.items (ap (λ t. heads t) c.in-With.ensures.shown.tree);
@@ -105,3 +107,39 @@ can_match-requires-clause-cells c =
     each_leaf (HasCellsIn c.args.store.now) c.args.store.now.bank c.loop-form.waiting.items c.pop.new.self.items c.in-Some.form c.in-Some.ensures.items
     c.loop-form.invariant.cells (term_tree c.args.store.now.bank c.in-Atom.head.0)
     (ap (λ t. heads t) c.in-Atom.ensures.shown.tree)
+
+pub loop-form-smaller-in-Continue-branch-6 : goal.loop-form-smaller-in-Continue-branch-6
+loop-form-smaller-in-Continue-branch-6 c =
+    smaller_both c.args.store.now.bank c.loop-form.waiting.items c.pop.new.self.items c.in-Some.form c.in-Some.ensures.items
+    c.in-With.left c.in-With.right c.push-in-With.new.self.items c.push-in-With-2.new.self.items c.in_ok-push-in-With.ensures.items
+    c.in_ok-push-in-With-2.ensures.items (ap walk_size c.in-With.ensures.shown.tree)
+
+pub loop-form-smaller-in-Continue-branch-7 : goal.loop-form-smaller-in-Continue-branch-7
+loop-form-smaller-in-Continue-branch-7 c =
+    smaller_in c.args.store.now.bank c.loop-form.waiting.items c.pop.new.self.items c.in-Some.form c.in-Some.ensures.items
+    c.in-Lolli.rest c.push-in-Lolli.new.self.items c.in_ok-push-in-Lolli.ensures.items (ap walk_size c.in-Lolli.ensures.shown.tree)
+
+pub loop-form-smaller-in-Continue-branch-8 : goal.loop-form-smaller-in-Continue-branch-8
+loop-form-smaller-in-Continue-branch-8 c =
+    smaller_in c.args.store.now.bank c.loop-form.waiting.items c.pop.new.self.items c.in-Some.form c.in-Some.ensures.items
+    c.in-Imp.rest c.push-in-Imp.new.self.items c.in_ok-push-in-Imp.ensures.items (ap walk_size c.in-Imp.ensures.shown.tree)
+
+pub loop-form-smaller-in-Continue-branch-9 : goal.loop-form-smaller-in-Continue-branch-9
+loop-form-smaller-in-Continue-branch-9 c =
+    smaller_in c.args.store.now.bank c.loop-form.waiting.items c.pop.new.self.items c.in-Some.form c.in-Some.ensures.items
+    c.in-Forall.rest c.push-in-Forall.new.self.items c.in_ok-push-in-Forall.ensures.items (ap walk_size c.in-Forall.ensures.shown.tree)
+
+pub loop-form-smaller-in-Atom : goal.loop-form-smaller-in-Atom
+loop-form-smaller-in-Atom c = smaller_past c.args.store.now.bank c.loop-form.waiting.items c.pop.new.self.items c.in-Some.form c.in-Some.ensures.items
+
+pub loop-form-smaller : goal.loop-form-smaller
+loop-form-smaller c = smaller_past c.args.store.now.bank c.loop-form.waiting.items c.pop.new.self.items c.in-Some.form c.in-Some.ensures.items
+
+pub can_match-requires-clause-table : goal.can_match-requires-clause-table
+can_match-requires-clause-table c = c.requires.table
+
+pub can_match-requires-clause-inside : goal.can_match-requires-clause-inside
+can_match-requires-clause-inside c = c.in-Atom.ensures.shown.parts
+
+pub form_at-requires : goal.form_at-requires
+form_at-requires c = (waiting (goal.at.form_at-requires c).In-Some).last

@@ -1,4 +1,4 @@
-use Rattle.std.proofs.Common.{[], refl, ap, sym, subst, ◌∙◌, arith}
+use Rattle.std.proofs.Common.{◌≡◌, ℕ, suc, ◌+◌, ◌-◌, ◌<◌, ◌≤◌, [], refl, ap, sym, subst, ◌∙◌, arith}
 use Rattle.std.proofs.lemmas.List.{append-nil}
 use Rattle.ll_bank.specs.Nodes.{Nodes, Extends}
 use Rattle.ll_laws.specs.Attempt.{vars_from}
@@ -12,6 +12,15 @@ use Rattle.ll_engine.proofs.inferences.TakingLemmas.{variable_count, clause_insi
 use Rattle.ll_engine.proofs.inferences.LeafTaking.{LeafFacts, leaf_facts}
 use Rattle.ll_engine.proofs.take.take_leaf_of.Goals as goal
 use Rattle.ll_engine.proofs.take.take_leaf_of.Goals.{After-deref}
+
+no_less : (old new size before n : ℕ) → new ≡ old + n → size ≡ new → before ≡ old → before ≤ size
+no_less old new size before n e s b = omega arith
+
+some_left : (n : ℕ) → 0 < n → 1 ≤ n
+some_left n l = omega arith
+
+one_less : (n : ℕ) → 0 < n → suc (n - 1) ≡ n
+one_less n l = omega arith
 
 -- what is known of the leaf once the terms are lent
 facts : (c : After-deref) → LeafFacts c.args.machine.now c.requires.fits c.args.candidate.label (resource c.args.entry) c.requires.found c.args.rest
@@ -44,9 +53,11 @@ pub open_leaf-requires-clause-variables : goal.open_leaf-requires-clause-variabl
 open_leaf-requires-clause-variables c = c.requires.fits.variables ∙ ap (vars_from 0) (sym (variable_count (parts_of c.args.machine.now) c.requires.fits))
 
 pub overflow_sub-count : goal.overflow_sub-count
-overflow_sub-count c = let n = count_is (parts_of c.args.machine.now) c.requires.fits c.args.candidate.label (resource c.args.entry) c.requires.found
-    c.args.rest c.args.candidate.leaf c.open_leaf.new.bank c.open_leaf.new.agenda c.open_leaf.new.terms.items c.in_ok-opened.opened.head
-    c.in_ok-opened.opened.top c.in_ok-opened.ensures.keeps c.in_ok-opened.ensures.opened in omega arith
+overflow_sub-count c = no_less _ _ c.len.result c.len-before.result _
+    (count_is (parts_of c.args.machine.now) c.requires.fits c.args.candidate.label (resource c.args.entry) c.requires.found c.args.rest
+    c.args.candidate.leaf c.open_leaf.new.bank c.open_leaf.new.agenda c.open_leaf.new.terms.items c.in_ok-opened.opened.head
+    c.in_ok-opened.opened.top c.in_ok-opened.ensures.keeps c.in_ok-opened.ensures.opened)
+    (c.len.ensures ∙ c.open_leaf.new.terms.ok.0) (c.len-before.ensures ∙ c.args.machine.now.terms.ok.0)
 
 pub unify_leaf-requires-clause-table : goal.unify_leaf-requires-clause-table
 unify_leaf-requires-clause-table c =
@@ -74,7 +85,8 @@ unify_leaf-requires-clause-vars c =
 
 pub unify_leaf-requires-clause-new : goal.unify_leaf-requires-clause-new
 unify_leaf-requires-clause-new c = λ x l.
-    let f = facts (goal.at.unify_leaf-requires-clause-new c).After-deref in f.ready.apart x (let e = c.len-before.ensures in omega arith)
+    let f = facts (goal.at.unify_leaf-requires-clause-new c).After-deref in
+    f.ready.apart x (subst (λ (n : ℕ). n ≤ x) (c.len-before.ensures ∙ c.args.machine.now.terms.ok.0) l)
 
 pub use_entry-requires-clause-found : goal.use_entry-requires-clause-found
 use_entry-requires-clause-found c = c.requires.found
@@ -83,7 +95,7 @@ pub use_entry-requires-clause-place : goal.use_entry-requires-clause-place
 use_entry-requires-clause-place c = c.requires.place
 
 pub overflow_sub-machine : goal.overflow_sub-machine
-overflow_sub-machine c = let l = c.requires.left in omega arith
+overflow_sub-machine c = some_left c.args.machine.now.left c.requires.left
 
 pub returns-then-not-branch-clause-attempts : goal.returns-then-not-branch-clause-attempts
 returns-then-not-branch-clause-attempts c =
@@ -116,7 +128,7 @@ returns-clause-attempts c =
       terms_new = refl;
       eigens = refl;
       steps = c.in_ok-push.ensures.items;
-      left = (let l = c.requires.left in omega arith);
+      left = one_less c.args.machine.now.left c.requires.left;
     })
 
 pub returns-clause-later : goal.returns-clause-later

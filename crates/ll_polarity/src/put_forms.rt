@@ -1,10 +1,14 @@
 //! Formulas, put into a bank from raw trees without recursion.
 
-ghost use Rattle.std.specs.Prelude.{◌≡◌, ◌*◌, ◌+◌, ◌-◌, ◌^◌, ◌<◌, ◌≤◌, false, List, [], ◌∷◌, length, unwrap_or, slice_index_or, IfOk};
-ghost use Rattle.ll_bank.specs.Nodes.{HasForm, ShowsForm, ShowsTerm, form_tree, Extends};
-ghost use Rattle.ll_parser.specs.Nodes.{raw_at};
+ghost use Rattle.std.specs.Prelude.{◌≡◌, ◌*◌, ◌+◌, ◌-◌, ◌^◌, ◌<◌, ◌≤◌, false, ℕ, List, [], ◌∷◌, ◌++◌, length, unwrap_or, slice_index_or, IfOk};
+ghost use Rattle.ll_bank.specs.Nodes.{HasForm, HasParts, ShowsForm, ShowsTerm, form_of, form_tree, Extends};
+ghost use Rattle.ll_lexer.specs.declared.Place.{Place as Spot};
+ghost use Rattle.ll_parser.specs.Nodes.{raw_at, identifier};
+ghost use Rattle.ll_parser.specs.Raw.{load, RawList};
 ghost use Rattle.ll_parser.specs.Weights.{weight};
 ghost use Rattle.ll_bank.specs.Form.{Atom};
+ghost use Rattle.ll_polarity.specs.declared.put_forms.Frame.{Frame as FrameView};
+ghost use Rattle.ll_polarity.specs.declared.put_forms.Step.TheVariants.{Read as ReadStep};
 ghost use Rattle.ll_polarity.specs.Scope.{Binder, Scope};
 ghost use Rattle.ll_polarity.specs.Reading.{Met as MetView, Read, joined};
 ghost use Rattle.ll_polarity.specs.Built.{Around, built_term, built_form};
@@ -161,6 +165,81 @@ fn both_sides(
     Ok(Sides { left, right })
 }
 
+/// Gives the formula with this sign to what waits for it.
+fn gives(bank: &mut Bank, node: FormNode<'_>) -> Result<Step, OutOfMemory>
+    requires { HasParts bank.old node }
+    ensures step { IfOk result (λ step. (g : Ground) (a : Around) (met : MetView) (left : ℕ) (frames : List FrameView) → 2 < left
+        → Advances g bank.new a (record { it = form_of bank.old node.entry; met = met }) left frames frames step met a) }
+    ensures keeps { Extends bank.old bank.new }
+{
+    let form = bank.form(node)?;
+    Ok(Step::Give(form))
+}
+
+/// Puts on a front and reads the part that it waits for.
+fn waits(frames: &mut Vec<Frame>, frame: Frame, part: RawAt) -> Result<Step, OutOfMemory>
+    ensures step { IfOk result (λ step. step ≡ ReadStep part) }
+    ensures frames { IfOk result (λ _. frames.new.items ≡ frames.old.items ++ frame ∷ []) }
+{
+    frames.push(frame)?;
+    Ok(Step::Read(part))
+}
+
+/// Goes into a quantifier, whose front this is, and reads its body.
+fn goes_in(
+    binders: &mut Binders<'_>,
+    place: &mut Place,
+    frames: &mut Vec<Frame>,
+    frame: Frame,
+    name: u32,
+    body: RawAt,
+) -> Result<Step, OutOfMemory>
+    requires name { name < length binders.old.texts }
+    requires depth { place.old.depth < 4294967295 }
+    ensures step { IfOk result (λ step. step ≡ ReadStep body) }
+    ensures frames { IfOk result (λ _. frames.new.items ≡ frames.old.items ++ frame ∷ []) }
+    ensures binders { IfOk result (λ _. binders.new ≡ record binders.old {
+      scope =
+          record { text = slice_index_or binders.old.texts name []; local = false } ∷ binders.old.scope;
+    }) }
+    ensures place { place.new ≡ record place.old { depth = place.old.depth + 1 } }
+{
+    entered(binders, place, name)?;
+    waits(frames, frame, body)
+}
+
+/// Puts on a load, with the arguments at its place, and reads its goal.
+fn loads(
+    alloc: Global,
+    text: &Text<'_>,
+    binders: &Binders<'_>,
+    place: Place,
+    met: &mut Met,
+    bank: &mut Bank,
+    frames: &mut Vec<Frame>,
+    at: RawAt,
+    name: Named,
+    goal: RawAt,
+) -> Result<Step, OutOfMemory>
+    requires stands { StandsIn text.now.names.now binders.now place }
+    requires ready { IsReady text.now.names.now text.now.forms.now at.0 }
+    requires room { HasRoom (built_form (ground text.now).modules (around place binders.now.scope) (met_of text.now.names.now met.old)
+        (raw_at text.now.names.now text.now.forms.now at.0)).met }
+    requires load { (there : Spot) × (args : RawList) × (raw_at text.now.names.now text.now.forms.now at.0
+        ≡ load there (identifier text.now.names.now name) args (raw_at text.now.names.now text.now.forms.now goal.0)) }
+    requires name { name.name < length text.now.names.now }
+    requires goal { goal.0 < at.0 }
+    ensures step { IfOk result (λ step. Advances (ground text.now) bank.new (around place binders.now.scope)
+        (built_form (ground text.now).modules (around place binders.now.scope) (met_of text.now.names.now met.old)
+        (raw_at text.now.names.now text.now.forms.now at.0)) (5 * weight (raw_at text.now.names.now text.now.forms.now at.0)) frames.old.items frames.new.items
+        step (met_of text.now.names.now met.new) (around place binders.now.scope)) }
+    ensures keeps { Extends bank.old bank.new }
+{
+    let module = text.modules.place_of(text.names.text(name.name));
+    let args = arguments_of(alloc, text.names, text.forms, binders, place, met, bank, at)?;
+    waits(frames, Frame::Load(module, args), goal)
+}
+
 /// Begins the formula at a place.
 fn begun(
     alloc: Global,
@@ -186,49 +265,48 @@ fn begun(
     ensures keeps { Extends bank.old bank.new }
 {
     match text.forms.node(at) {
-        RawNode::True => Ok(Step::Give(bank.form(FormNode::One)?)),
-        RawNode::Erase => Ok(Step::Give(bank.form(FormNode::Top)?)),
-        RawNode::Braces(goal) => {
-            frames.push(Frame::Braces)?;
-            Ok(Step::Read(goal))
-        }
+        RawNode::True => gives(bank, FormNode::One),
+        RawNode::Erase => gives(bank, FormNode::Top),
+        RawNode::Braces(goal) => waits(frames, Frame::Braces, goal),
         RawNode::Forall(name, body) => {
-            entered(binders, place, name.name)?;
-            frames.push(Frame::Forall(name.name))?;
-            Ok(Step::Read(body))
+            goes_in(
+                binders,
+                place,
+                frames,
+                Frame::Forall(name.name),
+                name.name,
+                body,
+            )
         }
         RawNode::Exists(name, body) => {
-            entered(binders, place, name.name)?;
-            frames.push(Frame::Exists(name.name))?;
-            Ok(Step::Read(body))
+            goes_in(
+                binders,
+                place,
+                frames,
+                Frame::Exists(name.name),
+                name.name,
+                body,
+            )
         }
-        RawNode::Load(name, _, goal) => {
-            let module = text.modules.place_of(text.names.text(name.name));
-            let args = arguments_of(
-                alloc, text.names, text.forms, binders, *place, met, bank, at,
-            )?;
-            frames.push(Frame::Load(module, args))?;
-            Ok(Step::Read(goal))
-        }
-        RawNode::Binary(op, left, right) => {
-            frames.push(Frame::Left(op, right))?;
-            Ok(Step::Read(left))
-        }
+        RawNode::Load(name, _, goal) => loads(
+            alloc, text, binders, *place, met, bank, frames, at, name, goal,
+        ),
+        RawNode::Binary(op, left, right) => waits(frames, Frame::Left(op, right), left),
         RawNode::Head(_, _) | RawNode::Any | RawNode::Int(_) => {
             let form = atom(alloc, text, binders, *place, met, bank, at)?;
             Ok(Step::Give(form))
         }
         RawNode::Is(left, right) => {
             let sides = both_sides(alloc, text, binders, *place, met, bank, left, right)?;
-            Ok(Step::Give(bank.form(FormNode::Is(sides.left, sides.right))?))
+            gives(bank, FormNode::Is(sides.left, sides.right))
         }
         RawNode::Less(left, right) => {
             let sides = both_sides(alloc, text, binders, *place, met, bank, left, right)?;
-            Ok(Step::Give(bank.form(FormNode::Less(sides.left, sides.right))?))
+            gives(bank, FormNode::Less(sides.left, sides.right))
         }
         RawNode::Most(left, right) => {
             let sides = both_sides(alloc, text, binders, *place, met, bank, left, right)?;
-            Ok(Step::Give(bank.form(FormNode::Most(sides.left, sides.right))?))
+            gives(bank, FormNode::Most(sides.left, sides.right))
         }
     }
 }

@@ -1,17 +1,17 @@
 -- Formulas are put into a bank step by step.
 use Rattle.std.proofs.Common.{◌≡◌, ℕ, suc, ◌+◌, ◌-◌, ◌*◌, ◌<◌, ◌≤◌, List, [], ◌∷◌, ◌++◌, length, refl, sym, subst, ap, ◌∙◌, arith}
-use Rattle.std.specs.Prelude.{unwrap_or, false, ◌^◌}
+use Rattle.std.specs.Prelude.{unwrap_or, false, ◌^◌, Result, Ok, Err, IfOk}
 use Rattle.std.specs.List.{IsDistinct}
 use Rattle.std.specs.Str.{bytes_eq}
 use Rattle.ll_bank.specs.Term.{Term}
 use Rattle.ll_polarity.specs.Numbered.{text_of}
 use Rattle.std.proofs.lemmas.List.{append-nil}
 use Rattle.ll_bank.specs.declared.FormAt.{FormAt}
-use Rattle.ll_bank.specs.Form.{Form, Use}
+use Rattle.ll_bank.specs.Form.{Form, Use, Num, Relation}
 use Rattle.ll_bank.specs.Nodes.{Nodes, form_tree, ShowsForm, Extends}
 use Rattle.ll_bank.proofs.CallerLemmas.{Extends-trans, HasForm-extends, form_tree-extends, AllInTerms-extends, term_trees-extends}
 use Rattle.ll_parser.specs.declared.RawAt.{RawAt}
-use Rattle.ll_parser.specs.Nodes.{raw_at}
+use Rattle.ll_parser.specs.Nodes.{Node, raw_at}
 use Rattle.ll_parser.specs.Raw.{Raw, load}
 use Rattle.ll_parser.specs.Weights.{weight}
 use Rattle.ll_polarity.specs.declared.front.Place.{Place}
@@ -19,9 +19,10 @@ use Rattle.ll_polarity.specs.declared.put_forms.Frame.{Frame}
 use Rattle.ll_polarity.specs.declared.put_forms.Frame.TheVariants as frame
 use Rattle.ll_polarity.specs.declared.put_forms.Step.{Step}
 use Rattle.ll_polarity.specs.declared.put_forms.Step.TheVariants as step
+use Rattle.ll_polarity.specs.Named.{IsNamed}
 use Rattle.ll_polarity.specs.Scope.{Binder, Scope, Scoped, binds}
 use Rattle.ll_polarity.specs.Reading.{Met, Read, joined}
-use Rattle.ll_polarity.specs.Built.{Around, inside, built_terms, built_form, arguments}
+use Rattle.ll_polarity.specs.Built.{Around, inside, built_term, built_terms, built_number, built_form, arguments}
 use Rattle.ll_polarity.specs.Standing.{around, HasRoom, StandsIn}
 use Rattle.ll_polarity.specs.Calls.{IsReady}
 use Rattle.ll_polarity.specs.Frames.{Ground, within, within_all, wraps, wrapped, comes, FrameHas, FrameFits, FramesFit, StepFits, frame_left, frames_left}
@@ -65,6 +66,47 @@ module _ (g : Ground) (new : Nodes) (a : Around) (was : Read Form) (left : ℕ) 
     step = ready;
     less = omega arith;
   }
+
+-- what holds in any case holds of a result
+pub always : {T E : Type 0} (r : Result T E) (P : Type 0) → P → IfOk r (λ _. P)
+always (Ok x) P p = p
+always (Err e) P p = tt
+
+-- a part of a tree that is ready
+pub part_ready : (texts : List (List ℕ)) (forms : List Node) (at part : ℕ) → part < at → at < length forms → IsNamed (raw_at texts forms part)
+    → IsReady texts forms part
+part_ready texts forms at part below inside named = record { inside = omega arith; named = named }
+
+-- a formula is given that is the whole of what is read
+pub begun_gives : {E : Type 0} (r : Result Step E) (g : Ground) (new : Nodes) (a : Around) (first met : Met) (frames : List Frame) (f : Form) {raw seen : Raw}
+    → raw ≡ seen → (let x : Read Form = record { it = f; met = met } in x) ≡ built_form g.modules a first seen → 2 < 5 * weight seen
+    → IfOk r (λ s. (h : Ground) (b : Around) (m : Met) (left : ℕ) (fs : List Frame) → 2 < left
+    → Advances h new b (record { it = f; met = m }) left fs fs s m b)
+    → IfOk r (λ s. Advances g new a (built_form g.modules a first raw) (5 * weight raw) frames frames s met a)
+begun_gives (Ok s) g new a first met frames f {raw} {seen} tree is l h =
+    subst (λ (x : Raw). Advances g new a (built_form g.modules a first x) (5 * weight x) frames frames s met a) (sym tree)
+    (subst (λ (x : Read Form). Advances g new a x (5 * weight seen) frames frames s met a) is (h g a met (5 * weight seen) frames l))
+begun_gives (Err e) g new a first met frames f tree is l h = tt
+
+-- a part is read of what is read, behind a front that is put on
+pub begun_read : {E : Type 0} (r : Result Step E) (g : Ground) (new : Nodes) (a now : Around) (first met : Met) (old later : List Frame) (f : Frame)
+    (at : RawAt) {raw seen : Raw} → raw ≡ seen
+    → wraps g new a f (built_form g.modules (within g a f) met (raw_at g.texts g.forms at.0)) ≡ built_form g.modules a first seen
+    → FrameFits g new f → IsReady g.texts g.forms at.0 → frame_left g f + 5 * weight (raw_at g.texts g.forms at.0) < 5 * weight seen
+    → IfOk r (λ s. s ≡ step.Read at) → IfOk r (λ _. later ≡ old ++ f ∷ []) → IfOk r (λ _. now ≡ within g a f)
+    → IfOk r (λ s. Advances g new a (built_form g.modules a first raw) (5 * weight raw) old later s met now)
+begun_read (Ok s) g new a now first met old later f at {raw} {seen} tree is fits ready l next added here =
+    subst (λ (x : Raw). Advances g new a (built_form g.modules a first x) (5 * weight x) old later s met now) (sym tree)
+    (subst (λ (t : Step). Advances g new a (built_form g.modules a first seen) (5 * weight seen) old later t met now) (sym next)
+    (advance_read g new a (built_form g.modules a first seen) (5 * weight seen) old later met now f at added
+    (ap (λ x. wraps g new a f (built_form g.modules x met (raw_at g.texts g.forms at.0))) here ∙ is) here fits ready l))
+begun_read (Err e) g new a now first met old later f at tree is fits ready l next added here = tt
+
+-- what is put together of the two sides of a whole-number goal
+pub sides_read : (q : Relation) (a : Around) (first met : Met) (l r : Raw) (t u : Term) → t ≡ (built_term a first l).it
+    → u ≡ (built_term a (built_term a first l).met r).it → met ≡ (built_term a (built_term a first l).met r).met
+    → (let x : Read Form = record { it = Num q t u; met = met } in x) ≡ built_number q a first l r
+sides_read q a first met l r t u left right is = λ i. record { it = Num q (left i) (right i); met = is i }
 
 -- out of a quantifier
 pub back_out : (p later : Place) (s t : Scope) (a : Around) (w : List ℕ) → later ≡ record p { depth = p.depth - 1 } → around p s ≡ inside w a
@@ -298,6 +340,33 @@ entered_around p later s t texts n is e same =
     let d : later.depth ≡ suc p.depth = (let i = ap (λ x. x.depth) is in omega arith) in
     let u : t.scope ≡ binds (text_of texts n) ∷ s.scope = ap (λ x. x.scope) e ∙ ap (λ ts. binds (text_of ts n) ∷ s.scope) same in
     λ i. record { quantified = (is i).quantified; depth = d i; scope = u i }
+
+-- the number of quantifiers round a part, and of binders, grows by one
+pub stands_entered : {E : Type 0} (r : Result Step E) (texts : List (List ℕ)) (p later : Place) (s t : Scoped) (n w left : ℕ) → StandsIn texts s p
+    → later ≡ record p { depth = p.depth + 1 }
+    → IfOk r (λ _. t ≡ record s { scope = record { text = text_of s.texts n; local = false } ∷ s.scope })
+    → length s.scope + unwrap_or p.quantified 0 + 5 * w < 2 ^ 32 → w ≡ suc left → IfOk r (λ _. StandsIn texts t later)
+stands_entered (Ok x) texts p later s t n w left stands is entered high more =
+    let q : unwrap_or later.quantified 0 ≡ unwrap_or p.quantified 0 = ap (λ x. unwrap_or x.quantified 0) is in
+    let d : later.depth ≡ p.depth + 1 = ap (λ x. x.depth) is in
+    let l : length t.scope ≡ suc (length s.scope) = ap (λ x. length x.scope) entered in
+    let k = stands.depth in
+    record { distinct = stands.distinct; same = ap (λ x. x.texts) entered ∙ stands.same; depth = omega arith; room = omega arith }
+stands_entered (Err e) texts p later s t n w left stands is entered high more = tt
+
+pub scope_entered : {E : Type 0} (r : Result Step E) (s t : Scoped) (n : ℕ)
+    → IfOk r (λ _. t ≡ record s { scope = record { text = text_of s.texts n; local = false } ∷ s.scope })
+    → IfOk r (λ _. length t.scope ≤ length s.scope + 1)
+scope_entered (Ok x) s t n entered = let l : length t.scope ≡ suc (length s.scope) = ap (λ x. length x.scope) entered in omega arith
+scope_entered (Err e) s t n entered = tt
+
+-- where a body stands, if its quantifier was gone into
+pub around_entered : {E : Type 0} (r : Result Step E) (p later : Place) (s t : Scoped) (texts : List (List ℕ)) (n : ℕ)
+    → later ≡ record p { depth = p.depth + 1 }
+    → IfOk r (λ _. t ≡ record s { scope = record { text = text_of s.texts n; local = false } ∷ s.scope }) → s.texts ≡ texts
+    → IfOk r (λ _. around later t.scope ≡ inside (text_of texts n) (around p s.scope))
+around_entered (Ok x) p later s t texts n is entered same = entered_around p later s t texts n is entered same
+around_entered (Err e) p later s t texts n is entered same = tt
 
 pub load_read : (places : List ℕ → ℕ) (a : Around) (met later : Met) (r : Raw) (at : _) (m : _) (args : _) (body : Raw) (k : ℕ) (us : List Term)
     → r ≡ load at m args body → k ≡ places m.text

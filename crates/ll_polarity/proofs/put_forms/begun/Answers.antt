@@ -1,145 +1,303 @@
-use Rattle.std.proofs.Common.{◌*◌, refl, sym, subst, arith, ap, ◌∙◌}
-use Rattle.std.proofs.lemmas.Option.{get_or_from_slice_get}
-use Rattle.std.specs.Prelude.{[]}
-use Rattle.ll_bank.specs.Form.{Form, Forall, Exists}
-use Rattle.ll_polarity.specs.Reading.{Read}
-use Rattle.ll_bank.specs.Nodes.{term_trees}
+use Rattle.std.proofs.Common.{◌≡◌, ℕ, suc, ◌+◌, ◌*◌, ◌<◌, ◌≤◌, List, length, refl, sym, subst, ap, arith}
+use Rattle.std.specs.Prelude.{◌^◌, unwrap_or}
+use Rattle.ll_bank.specs.Form.{One, Top, Num, Is, Less, Most}
+use Rattle.ll_bank.specs.Nodes.{term_tree}
 use Rattle.ll_bank.proofs.CallerLemmas.{Extends-refl, Extends-trans}
-use Rattle.ll_parser.specs.Nodes.{raw_at, identifier, raws_in, raw_trees}
+use Rattle.ll_parser.specs.Nodes.{raw_at, raws_in, raw_trees}
 use Rattle.ll_parser.specs.Seen.{places}
 use Rattle.ll_parser.specs.Raw.{Raw, raw_place}
 use Rattle.ll_parser.specs.Weights.{weight}
 use Rattle.ll_polarity.specs.declared.put_forms.Frame.TheVariants as frame
-use Rattle.ll_polarity.specs.declared.put_forms.Step.TheVariants as step
 use Rattle.ll_polarity.specs.Named.{IsNamed}
-use Rattle.ll_polarity.specs.Built.{built_terms, built_form, arguments}
+use Rattle.ll_polarity.specs.Built.{built_form}
 use Rattle.ll_polarity.specs.Places.{place_in}
 use Rattle.ll_polarity.specs.Standing.{around, met_of, HasRoom}
-use Rattle.ll_polarity.specs.Frames.{Advances}
 use Rattle.ll_polarity.specs.Grounds.{ground}
-use Rattle.ll_polarity.proofs.putting.Framing.{advance_read, entered_around, load_read, room_load}
+use Rattle.ll_polarity.proofs.naming.Named.{number-within}
+use Rattle.ll_polarity.proofs.putting.Framing.{always, part_ready, begun_gives, begun_read, sides_read, stands_entered, scope_entered, around_entered}
 use Rattle.ll_polarity.proofs.put_forms.begun.Goals as goal
 
-pub returns-in_err-push-in-Braces-clause-keeps : goal.returns-in_err-push-in-Braces-clause-keeps
-returns-in_err-push-in-Braces-clause-keeps c = Extends-refl c.args.bank.now
+one_more : (n : ℕ) → n ≤ n + 1
+one_more n = omega arith
 
-pub returns-in_err-entered-in-Forall-clause-keeps : goal.returns-in_err-entered-in-Forall-clause-keeps
-returns-in_err-entered-in-Forall-clause-keeps c = Extends-refl c.args.bank.now
+-- more is left to do than in a formula that is given
+two_below : (n : ℕ) → 2 < 5 * suc n
+two_below n = omega arith
 
-pub returns-in_err-push-in-Forall-clause-keeps : goal.returns-in_err-push-in-Forall-clause-keeps
-returns-in_err-push-in-Forall-clause-keeps c = Extends-refl c.args.bank.now
+-- less is left to do in a part, and in a left operand
+part_less : (n : ℕ) → 1 + 5 * n < 5 * suc n
+part_less n = omega arith
 
-pub returns-in_err-entered-in-Exists-clause-keeps : goal.returns-in_err-entered-in-Exists-clause-keeps
-returns-in_err-entered-in-Exists-clause-keeps c = Extends-refl c.args.bank.now
+left_less : (m n : ℕ) → 1 + 5 * n + 5 * m < 5 * suc (m + n)
+left_less m n = omega arith
 
-pub returns-in_err-push-in-Exists-clause-keeps : goal.returns-in_err-push-in-Exists-clause-keeps
-returns-in_err-push-in-Exists-clause-keeps c = Extends-refl c.args.bank.now
+-- the number of quantifiers round a part fits with one more
+low_depth : (depth scope q w left : ℕ) → depth ≤ scope → scope + q + 5 * w < 2 ^ 32 → w ≡ suc left → depth < 4294967295
+low_depth depth scope q w left h k more = omega arith
 
-pub returns-in_err-push-in-Binary-clause-keeps : goal.returns-in_err-push-in-Binary-clause-keeps
-returns-in_err-push-in-Binary-clause-keeps c = Extends-refl c.args.bank.now
+pub goes_in-requires-clause-name : goal.goes_in-requires-clause-name
+goes_in-requires-clause-name c =
+    let texts = c.args.text.now.names.now in
+    subst (λ (ts : List (List ℕ)). c.in-Forall.name.name < length ts) (sym c.requires.stands.same)
+    (number-within texts c.in-Forall.name (subst IsNamed (c.in-Forall.ensures.tree texts) c.requires.ready.named).0)
 
-pub returns-in_ok-push-in-Braces-clause-keeps : goal.returns-in_ok-push-in-Braces-clause-keeps
-returns-in_ok-push-in-Braces-clause-keeps c = Extends-refl c.args.bank.now
+pub goes_in-requires-clause-depth : goal.goes_in-requires-clause-depth
+goes_in-requires-clause-depth c =
+    low_depth c.args.place.now.depth (length c.args.binders.now.scope) (unwrap_or c.args.place.now.quantified 0)
+    (weight (raw_at c.args.text.now.names.now c.args.text.now.forms.now c.args.at.0))
+    (weight (raw_at c.args.text.now.names.now c.args.text.now.forms.now c.in-Forall.body.0)) c.requires.stands.depth c.requires.high
+    (ap weight (c.in-Forall.ensures.tree c.args.text.now.names.now))
 
-pub returns-in_ok-push-in-Forall-clause-keeps : goal.returns-in_ok-push-in-Forall-clause-keeps
-returns-in_ok-push-in-Forall-clause-keeps c = Extends-refl c.args.bank.now
+pub goes_in-requires-in-Exists-clause-name : goal.goes_in-requires-in-Exists-clause-name
+goes_in-requires-in-Exists-clause-name c =
+    let texts = c.args.text.now.names.now in
+    subst (λ (ts : List (List ℕ)). c.in-Exists.name.name < length ts) (sym c.requires.stands.same)
+    (number-within texts c.in-Exists.name (subst IsNamed (c.in-Exists.ensures.tree texts) c.requires.ready.named).0)
 
-pub returns-in_ok-push-in-Exists-clause-keeps : goal.returns-in_ok-push-in-Exists-clause-keeps
-returns-in_ok-push-in-Exists-clause-keeps c = Extends-refl c.args.bank.now
+pub goes_in-requires-in-Exists-clause-depth : goal.goes_in-requires-in-Exists-clause-depth
+goes_in-requires-in-Exists-clause-depth c =
+    low_depth c.args.place.now.depth (length c.args.binders.now.scope) (unwrap_or c.args.place.now.quantified 0)
+    (weight (raw_at c.args.text.now.names.now c.args.text.now.forms.now c.args.at.0))
+    (weight (raw_at c.args.text.now.names.now c.args.text.now.forms.now c.in-Exists.body.0)) c.requires.stands.depth c.requires.high
+    (ap weight (c.in-Exists.ensures.tree c.args.text.now.names.now))
 
-pub returns-in_ok-push-in-Binary-clause-keeps : goal.returns-in_ok-push-in-Binary-clause-keeps
-returns-in_ok-push-in-Binary-clause-keeps c = Extends-refl c.args.bank.now
+pub loads-requires-clause-name : goal.loads-requires-clause-name
+loads-requires-clause-name c =
+    let texts = c.args.text.now.names.now in
+    number-within texts c.in-Load.name (subst IsNamed (c.in-Load.ensures.tree texts) c.requires.ready.named).0
 
-pub arguments_of-requires-clause-room : goal.arguments_of-requires-clause-room
-arguments_of-requires-clause-room c =
+pub loads-requires-clause-goal : goal.loads-requires-clause-goal
+loads-requires-clause-goal c = c.in-Load.ensures.parts.1
+
+pub both_sides-requires-clause-left : goal.both_sides-requires-clause-left
+both_sides-requires-clause-left c =
+    let texts = c.args.text.now.names.now in
+    part_ready texts c.args.text.now.forms.now c.args.at.0 c.in-Is.left.0 c.in-Is.ensures.parts.0 c.requires.ready.inside
+    (subst IsNamed (c.in-Is.ensures.tree texts) c.requires.ready.named).0
+
+pub both_sides-requires-clause-right : goal.both_sides-requires-clause-right
+both_sides-requires-clause-right c =
+    let texts = c.args.text.now.names.now in
+    part_ready texts c.args.text.now.forms.now c.args.at.0 c.in-Is.right.0 c.in-Is.ensures.parts.1 c.requires.ready.inside
+    (subst IsNamed (c.in-Is.ensures.tree texts) c.requires.ready.named).1
+
+pub both_sides-requires-clause-room : goal.both_sides-requires-clause-room
+both_sides-requires-clause-room c =
+    let texts = c.args.text.now.names.now in
     subst (λ (r : Raw). HasRoom (built_form (place_in c.args.text.now.modules.now.places) (around c.args.place.now c.args.binders.now.scope)
-    (met_of c.args.text.now.names.now c.args.met.now) r).met
-    → HasRoom (built_terms (around c.args.place.now c.args.binders.now.scope) (met_of c.args.text.now.names.now c.args.met.now) (arguments r)).met)
-    (sym (c.in-Load.ensures.tree c.args.text.now.names.now))
-    (room_load (place_in c.args.text.now.modules.now.places) (around c.args.place.now c.args.binders.now.scope)
-    (met_of c.args.text.now.names.now c.args.met.now) (raw_place (raw_at c.args.text.now.names.now c.args.text.now.forms.now c.args.at.0))
-    (identifier c.args.text.now.names.now c.in-Load.name)
-    (raws_in (raw_trees c.args.text.now.names.now c.args.text.now.forms.now) (places c.in-Load.field-1.now))
-    (raw_at c.args.text.now.names.now c.args.text.now.forms.now c.in-Load.goal.0)) c.requires.room
+    (met_of texts c.args.met.now) r).met) (c.in-Is.ensures.tree texts) c.requires.room
 
-pub returns-in_ok-push-in-Braces-clause-step : goal.returns-in_ok-push-in-Braces-clause-step
-returns-in_ok-push-in-Braces-clause-step c =
-    let named = subst IsNamed (c.in-Braces.ensures.tree c.args.text.now.names.now) c.requires.ready.named in
-    subst (λ (r : Raw). Advances (ground c.args.text.now) c.args.bank.now (around c.args.place.now c.args.binders.now.scope)
-    (built_form (place_in c.args.text.now.modules.now.places) (around c.args.place.now c.args.binders.now.scope)
-    (met_of c.args.text.now.names.now c.args.met.now) r) (5 * weight r) c.args.frames.now.items c.push.new.self.items (step.Read c.in-Braces.goal)
-    (met_of c.args.text.now.names.now c.args.met.now) (around c.args.place.now c.args.binders.now.scope))
-    (sym (c.in-Braces.ensures.tree c.args.text.now.names.now))
-    (advance_read (ground c.args.text.now) c.args.bank.now (around c.args.place.now c.args.binders.now.scope) _ _ c.args.frames.now.items c.push.new.self.items
-    (met_of c.args.text.now.names.now c.args.met.now) (around c.args.place.now c.args.binders.now.scope) (frame.Braces) c.in-Braces.goal
-    c.in_ok-push-in-Braces.ensures.items refl refl tt (record { inside = omega (arith, c.requires.ready.inside, c.in-Braces.ensures.parts); named = named })
-    (omega arith))
+pub both_sides-requires-in-Less-clause-left : goal.both_sides-requires-in-Less-clause-left
+both_sides-requires-in-Less-clause-left c =
+    let texts = c.args.text.now.names.now in
+    part_ready texts c.args.text.now.forms.now c.args.at.0 c.in-Less.left.0 c.in-Less.ensures.parts.0 c.requires.ready.inside
+    (subst IsNamed (c.in-Less.ensures.tree texts) c.requires.ready.named).0
 
-pub returns-in_ok-push-in-Forall-clause-step : goal.returns-in_ok-push-in-Forall-clause-step
-returns-in_ok-push-in-Forall-clause-step c =
-    let named = subst IsNamed (c.in-Forall.ensures.tree c.args.text.now.names.now) c.requires.ready.named in
-    subst (λ (r : Raw). Advances (ground c.args.text.now) c.args.bank.now (around c.args.place.now c.args.binders.now.scope)
-    (built_form (place_in c.args.text.now.modules.now.places) (around c.args.place.now c.args.binders.now.scope)
-    (met_of c.args.text.now.names.now c.args.met.now) r) (5 * weight r) c.args.frames.now.items c.push-in-Forall.new.self.items (step.Read c.in-Forall.body)
-    (met_of c.args.text.now.names.now c.args.met.now) (around c.entered.new.place c.entered.new.binders.scope))
-    (sym (c.in-Forall.ensures.tree c.args.text.now.names.now))
-    (advance_read (ground c.args.text.now) c.args.bank.now (around c.args.place.now c.args.binders.now.scope) _ _ c.args.frames.now.items
-    c.push-in-Forall.new.self.items (met_of c.args.text.now.names.now c.args.met.now) (around c.entered.new.place c.entered.new.binders.scope)
-    (frame.Forall c.in-Forall.name.name) c.in-Forall.body c.in_ok-push-in-Forall.ensures.items
-    (ap (λ x. let t = built_form (place_in c.args.text.now.modules.now.places) x (met_of c.args.text.now.names.now c.args.met.now)
-    (raw_at c.args.text.now.names.now c.args.text.now.forms.now c.in-Forall.body.0) in let y : Read Form = record { it = Forall t.it; met = t.met } in
-    y) (entered_around c.args.place.now c.entered.new.place c.args.binders.now c.entered.new.binders c.args.text.now.names.now c.in-Forall.name.name
-    c.entered.ensures.place c.in_ok-entered-in-Forall.ensures.binders c.requires.stands.same))
-    (entered_around c.args.place.now c.entered.new.place c.args.binders.now c.entered.new.binders c.args.text.now.names.now c.in-Forall.name.name
-    c.entered.ensures.place c.in_ok-entered-in-Forall.ensures.binders c.requires.stands.same) tt
-    (record { inside = omega (arith, c.requires.ready.inside, c.in-Forall.ensures.parts); named = named.1 }) (omega arith))
+pub both_sides-requires-in-Less-clause-right : goal.both_sides-requires-in-Less-clause-right
+both_sides-requires-in-Less-clause-right c =
+    let texts = c.args.text.now.names.now in
+    part_ready texts c.args.text.now.forms.now c.args.at.0 c.in-Less.right.0 c.in-Less.ensures.parts.1 c.requires.ready.inside
+    (subst IsNamed (c.in-Less.ensures.tree texts) c.requires.ready.named).1
 
-pub returns-in_ok-push-in-Exists-clause-step : goal.returns-in_ok-push-in-Exists-clause-step
-returns-in_ok-push-in-Exists-clause-step c =
-    let named = subst IsNamed (c.in-Exists.ensures.tree c.args.text.now.names.now) c.requires.ready.named in
-    subst (λ (r : Raw). Advances (ground c.args.text.now) c.args.bank.now (around c.args.place.now c.args.binders.now.scope)
-    (built_form (place_in c.args.text.now.modules.now.places) (around c.args.place.now c.args.binders.now.scope)
-    (met_of c.args.text.now.names.now c.args.met.now) r) (5 * weight r) c.args.frames.now.items c.push-in-Exists.new.self.items (step.Read c.in-Exists.body)
-    (met_of c.args.text.now.names.now c.args.met.now) (around c.entered-in-Exists.new.place c.entered-in-Exists.new.binders.scope))
-    (sym (c.in-Exists.ensures.tree c.args.text.now.names.now))
-    (advance_read (ground c.args.text.now) c.args.bank.now (around c.args.place.now c.args.binders.now.scope) _ _ c.args.frames.now.items
-    c.push-in-Exists.new.self.items (met_of c.args.text.now.names.now c.args.met.now)
-    (around c.entered-in-Exists.new.place c.entered-in-Exists.new.binders.scope) (frame.Exists c.in-Exists.name.name) c.in-Exists.body
-    c.in_ok-push-in-Exists.ensures.items (ap (λ x. let t =
-    built_form (place_in c.args.text.now.modules.now.places) x (met_of c.args.text.now.names.now c.args.met.now)
-    (raw_at c.args.text.now.names.now c.args.text.now.forms.now c.in-Exists.body.0) in let y : Read Form = record { it = Exists t.it; met = t.met } in
-    y) (entered_around c.args.place.now c.entered-in-Exists.new.place c.args.binders.now c.entered-in-Exists.new.binders c.args.text.now.names.now
-    c.in-Exists.name.name c.entered-in-Exists.ensures.place c.in_ok-entered-in-Exists.ensures.binders c.requires.stands.same))
-    (entered_around c.args.place.now c.entered-in-Exists.new.place c.args.binders.now c.entered-in-Exists.new.binders c.args.text.now.names.now
-    c.in-Exists.name.name c.entered-in-Exists.ensures.place c.in_ok-entered-in-Exists.ensures.binders c.requires.stands.same) tt
-    (record { inside = omega (arith, c.requires.ready.inside, c.in-Exists.ensures.parts); named = named.1 }) (omega arith))
+pub both_sides-requires-in-Less-clause-room : goal.both_sides-requires-in-Less-clause-room
+both_sides-requires-in-Less-clause-room c =
+    let texts = c.args.text.now.names.now in
+    subst (λ (r : Raw). HasRoom (built_form (place_in c.args.text.now.modules.now.places) (around c.args.place.now c.args.binders.now.scope)
+    (met_of texts c.args.met.now) r).met) (c.in-Less.ensures.tree texts) c.requires.room
 
-pub returns-in_ok-push-in-Load-clause-step : goal.returns-in_ok-push-in-Load-clause-step
-returns-in_ok-push-in-Load-clause-step c =
-    let tree = c.in-Load.ensures.tree c.args.text.now.names.now in
-    let named = subst IsNamed tree c.requires.ready.named in
-    let t = get_or_from_slice_get c.args.text.now.names.now c.in-Load.name.name c.text.result.now [] c.text.ensures in
-    advance_read (ground c.args.text.now) c.arguments_of.new.bank (around c.args.place.now c.args.binders.now.scope) _
-    (5 * weight (raw_at c.args.text.now.names.now c.args.text.now.forms.now c.args.at.0)) c.args.frames.now.items c.push-in-Load.new.self.items
-    (met_of c.args.text.now.names.now c.arguments_of.new.met) (around c.args.place.now c.args.binders.now.scope)
-    (frame.Load c.place_of-module.result c.in_ok-args-in-Load.args) c.in-Load.goal c.in_ok-push-in-Load.ensures.items
-    (load_read (place_in c.args.text.now.modules.now.places) (around c.args.place.now c.args.binders.now.scope)
-    (met_of c.args.text.now.names.now c.args.met.now) (met_of c.args.text.now.names.now c.arguments_of.new.met)
-    (raw_at c.args.text.now.names.now c.args.text.now.forms.now c.args.at.0)
-    (raw_place (raw_at c.args.text.now.names.now c.args.text.now.forms.now c.args.at.0)) (identifier c.args.text.now.names.now c.in-Load.name)
-    (raws_in (raw_trees c.args.text.now.names.now c.args.text.now.forms.now) (places c.in-Load.field-1.now))
-    (raw_at c.args.text.now.names.now c.args.text.now.forms.now c.in-Load.goal.0) c.place_of-module.result
-    (term_trees c.arguments_of.new.bank c.in_ok-args-in-Load.args.items) tree
-    (c.place_of-module.ensures ∙ ap (place_in c.args.text.now.modules.now.places) (sym t)) c.in_ok-args-in-Load.ensures.show
-    c.in_ok-args-in-Load.ensures.met)
-    refl c.in_ok-args-in-Load.ensures.inside (record { inside = omega (arith, c.requires.ready.inside, c.in-Load.ensures.parts.1); named = named.2 })
-    (let w = ap weight tree in omega arith)
+pub both_sides-requires-in-Most-clause-left : goal.both_sides-requires-in-Most-clause-left
+both_sides-requires-in-Most-clause-left c =
+    let texts = c.args.text.now.names.now in
+    part_ready texts c.args.text.now.forms.now c.args.at.0 c.in-Most.left.0 c.in-Most.ensures.parts.0 c.requires.ready.inside
+    (subst IsNamed (c.in-Most.ensures.tree texts) c.requires.ready.named).0
 
-pub returns-in_ok-form-in-Is-clause-keeps : goal.returns-in_ok-form-in-Is-clause-keeps
-returns-in_ok-form-in-Is-clause-keeps c = Extends-trans c.both_sides.ensures.keeps c.form-in-Is.ensures.keeps
+pub both_sides-requires-in-Most-clause-right : goal.both_sides-requires-in-Most-clause-right
+both_sides-requires-in-Most-clause-right c =
+    let texts = c.args.text.now.names.now in
+    part_ready texts c.args.text.now.forms.now c.args.at.0 c.in-Most.right.0 c.in-Most.ensures.parts.1 c.requires.ready.inside
+    (subst IsNamed (c.in-Most.ensures.tree texts) c.requires.ready.named).1
 
-pub returns-in_ok-form-in-Less-clause-keeps : goal.returns-in_ok-form-in-Less-clause-keeps
-returns-in_ok-form-in-Less-clause-keeps c = Extends-trans c.both_sides-in-Less.ensures.keeps c.form-in-Less.ensures.keeps
+pub both_sides-requires-in-Most-clause-room : goal.both_sides-requires-in-Most-clause-room
+both_sides-requires-in-Most-clause-room c =
+    let texts = c.args.text.now.names.now in
+    subst (λ (r : Raw). HasRoom (built_form (place_in c.args.text.now.modules.now.places) (around c.args.place.now c.args.binders.now.scope)
+    (met_of texts c.args.met.now) r).met) (c.in-Most.ensures.tree texts) c.requires.room
 
-pub returns-in_ok-form-in-Most-clause-keeps : goal.returns-in_ok-form-in-Most-clause-keeps
-returns-in_ok-form-in-Most-clause-keeps c = Extends-trans c.both_sides-in-Most.ensures.keeps c.form-in-Most.ensures.keeps
+pub returns-in-True : goal.returns-in-True
+returns-in-True c =
+    let texts = c.args.text.now.names.now in let a = around c.args.place.now c.args.binders.now.scope in let met = met_of texts c.args.met.now in
+    record {
+      step = begun_gives c.gives.result (ground c.args.text.now) c.gives.new.bank a met met c.args.frames.now.items One (c.in-True.ensures.tree texts) refl
+          (two_below 0) c.gives.ensures.step;
+      stands = always c.gives.result _ c.requires.stands;
+      scope = always c.gives.result _ (one_more (length c.args.binders.now.scope));
+      keeps = c.gives.ensures.keeps;
+    }
+
+pub returns-in-Erase : goal.returns-in-Erase
+returns-in-Erase c =
+    let texts = c.args.text.now.names.now in let a = around c.args.place.now c.args.binders.now.scope in let met = met_of texts c.args.met.now in
+    record {
+      step = begun_gives c.gives-in-Erase.result (ground c.args.text.now) c.gives-in-Erase.new.bank a met met c.args.frames.now.items Top
+          (c.in-Erase.ensures.tree texts) refl
+          (two_below 0) c.gives-in-Erase.ensures.step;
+      stands = always c.gives-in-Erase.result _ c.requires.stands;
+      scope = always c.gives-in-Erase.result _ (one_more (length c.args.binders.now.scope));
+      keeps = c.gives-in-Erase.ensures.keeps;
+    }
+
+pub returns-in-Braces : goal.returns-in-Braces
+returns-in-Braces c =
+    let texts = c.args.text.now.names.now in let a = around c.args.place.now c.args.binders.now.scope in let met = met_of texts c.args.met.now in
+    record {
+      step = begun_read c.waits.result (ground c.args.text.now) c.args.bank.now a a met met c.args.frames.now.items c.waits.new.frames.items
+          (frame.Braces) c.in-Braces.goal (c.in-Braces.ensures.tree texts) refl tt
+          (part_ready texts c.args.text.now.forms.now c.args.at.0 c.in-Braces.goal.0 c.in-Braces.ensures.parts c.requires.ready.inside
+          (subst IsNamed (c.in-Braces.ensures.tree texts) c.requires.ready.named)) (part_less (weight (raw_at texts c.args.text.now.forms.now
+          c.in-Braces.goal.0)))
+          c.waits.ensures.step c.waits.ensures.frames (always c.waits.result _ refl);
+      stands = always c.waits.result _ c.requires.stands;
+      scope = always c.waits.result _ (one_more (length c.args.binders.now.scope));
+      keeps = Extends-refl c.args.bank.now;
+    }
+
+pub returns-in-Forall : goal.returns-in-Forall
+returns-in-Forall c =
+    let texts = c.args.text.now.names.now in let a = around c.args.place.now c.args.binders.now.scope in let met = met_of texts c.args.met.now in
+    record {
+      step = begun_read c.goes_in.result (ground c.args.text.now) c.args.bank.now a (around c.goes_in.new.place c.goes_in.new.binders.scope) met met
+          c.args.frames.now.items c.goes_in.new.frames.items
+          (frame.Forall c.in-Forall.name.name) c.in-Forall.body (c.in-Forall.ensures.tree texts) refl tt
+          (part_ready texts c.args.text.now.forms.now c.args.at.0 c.in-Forall.body.0 c.in-Forall.ensures.parts c.requires.ready.inside
+          (subst IsNamed (c.in-Forall.ensures.tree texts) c.requires.ready.named).1) (part_less (weight (raw_at texts c.args.text.now.forms.now
+          c.in-Forall.body.0)))
+          c.goes_in.ensures.step c.goes_in.ensures.frames (around_entered c.goes_in.result c.args.place.now c.goes_in.new.place c.args.binders.now
+          c.goes_in.new.binders texts
+          c.in-Forall.name.name c.goes_in.ensures.place c.goes_in.ensures.binders c.requires.stands.same);
+      stands = stands_entered c.goes_in.result texts c.args.place.now c.goes_in.new.place c.args.binders.now c.goes_in.new.binders c.in-Forall.name.name
+          (weight (raw_at texts c.args.text.now.forms.now c.args.at.0)) (weight (raw_at texts c.args.text.now.forms.now c.in-Forall.body.0))
+          c.requires.stands c.goes_in.ensures.place
+          c.goes_in.ensures.binders c.requires.high (ap weight (c.in-Forall.ensures.tree texts));
+      scope = scope_entered c.goes_in.result c.args.binders.now c.goes_in.new.binders c.in-Forall.name.name c.goes_in.ensures.binders;
+      keeps = Extends-refl c.args.bank.now;
+    }
+
+pub returns-in-Exists : goal.returns-in-Exists
+returns-in-Exists c =
+    let texts = c.args.text.now.names.now in let a = around c.args.place.now c.args.binders.now.scope in let met = met_of texts c.args.met.now in
+    record {
+      step = begun_read c.goes_in-in-Exists.result (ground c.args.text.now) c.args.bank.now a (around c.goes_in-in-Exists.new.place
+          c.goes_in-in-Exists.new.binders.scope) met met c.args.frames.now.items c.goes_in-in-Exists.new.frames.items
+          (frame.Exists c.in-Exists.name.name) c.in-Exists.body (c.in-Exists.ensures.tree texts) refl tt
+          (part_ready texts c.args.text.now.forms.now c.args.at.0 c.in-Exists.body.0 c.in-Exists.ensures.parts c.requires.ready.inside
+          (subst IsNamed (c.in-Exists.ensures.tree texts) c.requires.ready.named).1) (part_less (weight (raw_at texts c.args.text.now.forms.now
+          c.in-Exists.body.0)))
+          c.goes_in-in-Exists.ensures.step c.goes_in-in-Exists.ensures.frames (around_entered c.goes_in-in-Exists.result c.args.place.now
+          c.goes_in-in-Exists.new.place c.args.binders.now c.goes_in-in-Exists.new.binders texts
+          c.in-Exists.name.name c.goes_in-in-Exists.ensures.place c.goes_in-in-Exists.ensures.binders c.requires.stands.same);
+      stands = stands_entered c.goes_in-in-Exists.result texts c.args.place.now c.goes_in-in-Exists.new.place c.args.binders.now
+          c.goes_in-in-Exists.new.binders c.in-Exists.name.name
+          (weight (raw_at texts c.args.text.now.forms.now c.args.at.0)) (weight (raw_at texts c.args.text.now.forms.now c.in-Exists.body.0))
+          c.requires.stands c.goes_in-in-Exists.ensures.place
+          c.goes_in-in-Exists.ensures.binders c.requires.high (ap weight (c.in-Exists.ensures.tree texts));
+      scope = scope_entered c.goes_in-in-Exists.result c.args.binders.now c.goes_in-in-Exists.new.binders c.in-Exists.name.name
+          c.goes_in-in-Exists.ensures.binders;
+      keeps = Extends-refl c.args.bank.now;
+    }
+
+pub loads-requires-clause-load : goal.loads-requires-clause-load
+loads-requires-clause-load c =
+    let texts = c.args.text.now.names.now in (
+      raw_place (raw_at texts c.args.text.now.forms.now c.args.at.0),
+      raws_in (raw_trees texts c.args.text.now.forms.now) (places c.in-Load.field-1.now),
+      c.in-Load.ensures.tree texts,
+    )
+
+pub returns-in-Load : goal.returns-in-Load
+returns-in-Load c =
+    let texts = c.args.text.now.names.now in let a = around c.args.place.now c.args.binders.now.scope in let met = met_of texts c.args.met.now in
+    record {
+      step = c.loads.ensures.step;
+      stands = always c.loads.result _ c.requires.stands;
+      scope = always c.loads.result _ (one_more (length c.args.binders.now.scope));
+      keeps = c.loads.ensures.keeps;
+    }
+
+pub returns-in-Binary : goal.returns-in-Binary
+returns-in-Binary c =
+    let texts = c.args.text.now.names.now in let a = around c.args.place.now c.args.binders.now.scope in let met = met_of texts c.args.met.now in
+    record {
+      step = begun_read c.waits-in-Binary.result (ground c.args.text.now) c.args.bank.now a a met met c.args.frames.now.items c.waits-in-Binary.new.frames.items
+          (frame.Left c.in-Binary.op c.in-Binary.right) c.in-Binary.left (c.in-Binary.ensures.tree texts) refl
+          (part_ready texts c.args.text.now.forms.now c.args.at.0 c.in-Binary.right.0 c.in-Binary.ensures.parts.1 c.requires.ready.inside
+          (subst IsNamed (c.in-Binary.ensures.tree texts) c.requires.ready.named).1)
+          (part_ready texts c.args.text.now.forms.now c.args.at.0 c.in-Binary.left.0 c.in-Binary.ensures.parts.0 c.requires.ready.inside
+          (subst IsNamed (c.in-Binary.ensures.tree texts) c.requires.ready.named).0) (left_less (weight (raw_at texts c.args.text.now.forms.now
+          c.in-Binary.left.0)) (weight (raw_at texts c.args.text.now.forms.now c.in-Binary.right.0)))
+          c.waits-in-Binary.ensures.step c.waits-in-Binary.ensures.frames (always c.waits-in-Binary.result _ refl);
+      stands = always c.waits-in-Binary.result _ c.requires.stands;
+      scope = always c.waits-in-Binary.result _ (one_more (length c.args.binders.now.scope));
+      keeps = Extends-refl c.args.bank.now;
+    }
+
+pub returns-in_ok-sides-in-Is : goal.returns-in_ok-sides-in-Is
+returns-in_ok-sides-in-Is c =
+    let texts = c.args.text.now.names.now in let a = around c.args.place.now c.args.binders.now.scope in let met = met_of texts c.args.met.now in
+    record {
+      step =
+          let met' = met_of texts c.both_sides.new.met in let t = term_tree c.both_sides.new.bank c.in_ok-sides-in-Is.sides.left.0 in
+          let u = term_tree c.both_sides.new.bank c.in_ok-sides-in-Is.sides.right.0 in
+          let l = raw_at texts c.args.text.now.forms.now c.in-Is.left.0 in let r = raw_at texts c.args.text.now.forms.now c.in-Is.right.0 in
+          begun_gives c.gives-in-Is.result (ground c.args.text.now) c.gives-in-Is.new.bank a met met' c.args.frames.now.items (Num Is t u)
+          (c.in-Is.ensures.tree texts)
+          (sides_read Is a met met' l r t u c.in_ok-sides-in-Is.ensures.left.tree c.in_ok-sides-in-Is.ensures.right.tree c.in_ok-sides-in-Is.ensures.met)
+          (two_below (weight l + weight r)) c.gives-in-Is.ensures.step;
+      stands = always c.gives-in-Is.result _ c.requires.stands;
+      scope = always c.gives-in-Is.result _ (one_more (length c.args.binders.now.scope));
+      keeps = Extends-trans c.both_sides.ensures.keeps c.gives-in-Is.ensures.keeps;
+    }
+
+pub gives-requires-in-Is : goal.gives-requires-in-Is
+gives-requires-in-Is c = (c.in_ok-sides-in-Is.ensures.left.inside, c.in_ok-sides-in-Is.ensures.right.inside)
+
+pub returns-in_ok-sides-in-Less : goal.returns-in_ok-sides-in-Less
+returns-in_ok-sides-in-Less c =
+    let texts = c.args.text.now.names.now in let a = around c.args.place.now c.args.binders.now.scope in let met = met_of texts c.args.met.now in
+    record {
+      step =
+          let met' = met_of texts c.both_sides-in-Less.new.met in let t = term_tree c.both_sides-in-Less.new.bank c.in_ok-sides-in-Less.sides.left.0 in
+          let u = term_tree c.both_sides-in-Less.new.bank c.in_ok-sides-in-Less.sides.right.0 in
+          let l = raw_at texts c.args.text.now.forms.now c.in-Less.left.0 in let r = raw_at texts c.args.text.now.forms.now c.in-Less.right.0 in
+          begun_gives c.gives-in-Less.result (ground c.args.text.now) c.gives-in-Less.new.bank a met met' c.args.frames.now.items (Num Less t u)
+          (c.in-Less.ensures.tree texts)
+          (sides_read Less a met met' l r t u c.in_ok-sides-in-Less.ensures.left.tree c.in_ok-sides-in-Less.ensures.right.tree
+          c.in_ok-sides-in-Less.ensures.met)
+          (two_below (weight l + weight r)) c.gives-in-Less.ensures.step;
+      stands = always c.gives-in-Less.result _ c.requires.stands;
+      scope = always c.gives-in-Less.result _ (one_more (length c.args.binders.now.scope));
+      keeps = Extends-trans c.both_sides-in-Less.ensures.keeps c.gives-in-Less.ensures.keeps;
+    }
+
+pub gives-requires-in-Less : goal.gives-requires-in-Less
+gives-requires-in-Less c = (c.in_ok-sides-in-Less.ensures.left.inside, c.in_ok-sides-in-Less.ensures.right.inside)
+
+pub returns-in_ok-sides-in-Most : goal.returns-in_ok-sides-in-Most
+returns-in_ok-sides-in-Most c =
+    let texts = c.args.text.now.names.now in let a = around c.args.place.now c.args.binders.now.scope in let met = met_of texts c.args.met.now in
+    record {
+      step =
+          let met' = met_of texts c.both_sides-in-Most.new.met in let t = term_tree c.both_sides-in-Most.new.bank c.in_ok-sides-in-Most.sides.left.0 in
+          let u = term_tree c.both_sides-in-Most.new.bank c.in_ok-sides-in-Most.sides.right.0 in
+          let l = raw_at texts c.args.text.now.forms.now c.in-Most.left.0 in let r = raw_at texts c.args.text.now.forms.now c.in-Most.right.0 in
+          begun_gives c.gives-in-Most.result (ground c.args.text.now) c.gives-in-Most.new.bank a met met' c.args.frames.now.items (Num Most t u)
+          (c.in-Most.ensures.tree texts)
+          (sides_read Most a met met' l r t u c.in_ok-sides-in-Most.ensures.left.tree c.in_ok-sides-in-Most.ensures.right.tree
+          c.in_ok-sides-in-Most.ensures.met)
+          (two_below (weight l + weight r)) c.gives-in-Most.ensures.step;
+      stands = always c.gives-in-Most.result _ c.requires.stands;
+      scope = always c.gives-in-Most.result _ (one_more (length c.args.binders.now.scope));
+      keeps = Extends-trans c.both_sides-in-Most.ensures.keeps c.gives-in-Most.ensures.keeps;
+    }
+
+pub gives-requires-in-Most : goal.gives-requires-in-Most
+gives-requires-in-Most c = (c.in_ok-sides-in-Most.ensures.left.inside, c.in_ok-sides-in-Most.ensures.right.inside)

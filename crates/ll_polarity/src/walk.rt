@@ -156,6 +156,42 @@ fn open_number(
     parts.push(Part::Term(left))
 }
 
+// The fault of a formula that may stand on the side of goals alone.
+fn goal_fault(side: Side, at: Place) -> Option<Fault>
+    ensures { option_to_list result ≡ unless_fault (on_goal_side (side_of side)) 7 at }
+{
+    unless(is_goal(side), at, 7)
+}
+
+// Puts a part next, behind a fault.
+fn open_part(parts: &mut Parts, fault: Option<Fault>, part: Part) -> Result<(), OutOfMemory>
+    ensures { OnOk result (parts.new ≡ map Found (option_to_list fault) ++ part ∷ parts.old) }
+{
+    parts.push(part)?;
+    parts.push_fault(fault)
+}
+
+// Puts the operands of an operator next, of which this is the fault between them.
+fn open_operands(
+    parts: &mut Parts,
+    left: Part,
+    fault: Option<Fault>,
+    right: Part,
+) -> Result<(), OutOfMemory>
+    ensures { OnOk result (parts.new ≡ left ∷ (map Found (option_to_list fault) ++ right ∷ parts.old)) }
+{
+    open_part(parts, fault, right)?;
+    parts.push(left)
+}
+
+// Puts the arguments of an atom next, behind a fault.
+fn open_atom(parts: &mut Parts, fault: Option<Fault>, args: &[RawAt]) -> Result<(), OutOfMemory>
+    ensures { OnOk result (parts.new ≡ map Found (option_to_list fault) ++ (map Term args.now ++ parts.old)) }
+{
+    parts.push_terms(args)?;
+    parts.push_fault(fault)
+}
+
 // Puts the parts of a formula next.
 fn open_form(
     source: &Source<'_, '_, '_>,
@@ -173,38 +209,35 @@ fn open_form(
 {
     let place = source.forms.place(at);
     match source.forms.node(at) {
-        RawNode::True => parts.push_fault(unless(is_goal(side), place, 7))?,
+        RawNode::True => parts.push_fault(goal_fault(side, place)),
         RawNode::Braces(goal) => {
-            parts.push(Part::Form(side, goal))?;
-            parts.push_fault(unless(is_goal(side), place, 7))?;
+            open_part(parts, goal_fault(side, place), Part::Form(side, goal))
         }
-        RawNode::Forall(name, body) => open_body(binders, parts, side, name, body)?,
+        RawNode::Forall(name, body) => open_body(binders, parts, side, name, body),
         RawNode::Exists(name, body) => {
             open_body(binders, parts, side, name, body)?;
-            parts.push_fault(unless(is_goal(side), place, 7))?;
+            parts.push_fault(goal_fault(side, place))
         }
         RawNode::Load(name, args, goal) => {
             let text = source.names.text(name.name);
             let fault = source.headings.load_fault(text, name.at, args.len());
-            open_load(parts, fault, args, side, place, goal)?;
+            open_load(parts, fault, args, side, place, goal)
         }
         RawNode::Binary(op, left, right) => {
-            parts.push(Part::Form(right_side(op, side), right))?;
-            parts.push_fault(unless(may_join(op, side), place, 7))?;
-            parts.push(Part::Form(left_side(op, side), left))?;
+            let left = Part::Form(left_side(op, side), left);
+            let right = Part::Form(right_side(op, side), right);
+            open_operands(parts, left, unless(may_join(op, side), place, 7), right)
         }
         RawNode::Is(left, right) | RawNode::Less(left, right) | RawNode::Most(left, right) => {
-            let fault = unless(is_goal(side), place, 7);
-            open_number(parts, left, fault, right)?;
+            open_number(parts, left, goal_fault(side, place), right)?;
+            Ok(())
         }
         RawNode::Head(name, args) => {
-            parts.push_terms(args)?;
             let fits = may_be_head(binders.meaning(name.name));
-            parts.push_fault(unless(fits, name.at, 9))?;
+            open_atom(parts, unless(fits, name.at, 9), args)
         }
-        RawNode::Erase | RawNode::Any | RawNode::Int(_) => {}
+        RawNode::Erase | RawNode::Any | RawNode::Int(_) => Ok(()),
     }
-    Ok(())
 }
 
 /// The first fault of a formula on a side. Without one the binders are as before.

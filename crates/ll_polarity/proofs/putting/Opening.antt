@@ -1,7 +1,7 @@
 -- What is left of a walk after terms and faults were put next.
 use Rattle.std.proofs.Common.{◌≡◌, ℕ, suc, ◌+◌, ◌*◌, ◌<◌, ◌≤◌, Bool, true, false, true≢false, List, [], ◌∷◌, ◌++◌, length, map, Option, Some, None, slice_get}
 use Rattle.std.proofs.Common.{refl, sym, subst, ap, ◌∙◌, arith, append_assoc}
-use Rattle.std.specs.Prelude.{option_to_list, find, ◌==◌}
+use Rattle.std.specs.Prelude.{option_to_list, find, ◌==◌, Result, Ok, Err, OnOk}
 use Rattle.std.specs.HashMap.{HashMap}
 use Rattle.std.specs.declared.hash.FoldHasher.{FoldHasher}
 use Rattle.std.specs.declared.hash.BuildHasherDefault.{BuildHasherDefault}
@@ -20,8 +20,8 @@ use Rattle.ll_parser.specs.Nodes.{Node, raw_at, raws_in, raw_trees, identifier}
 use Rattle.ll_parser.specs.Seen.{places, IsRawNode}
 use Rattle.ll_polarity.specs.declared.pending.Side as code
 use Rattle.ll_polarity.specs.declared.pending.Part.{Part}
-use Rattle.ll_polarity.specs.declared.pending.Part.TheVariants.{Form, Term, Found}
-use Rattle.ll_polarity.specs.Scope.{Scope, meaning}
+use Rattle.ll_polarity.specs.declared.pending.Part.TheVariants.{Form, Term, Found, Close}
+use Rattle.ll_polarity.specs.Scope.{Binder, Scope, Scoped, meaning}
 use Rattle.ll_polarity.specs.Faults.{Heading, unless, may_be_head, count, applied_fault, term_faults, terms_faults, on_goal_side, is_named, load_fault}
 use Rattle.ll_polarity.specs.Faults.{form_faults}
 use Rattle.ll_polarity.specs.Headings.{AreFound}
@@ -41,7 +41,7 @@ scope-terms : (scope : Scope) (args : List RawAt) (ps : List Part) → scope_aft
 scope-terms scope [] ps = refl
 scope-terms scope (a ∷ args) ps = scope-terms scope args ps
 
-unless-few : (b : Bool) (kind : ℕ) (at : Place) → length (unless b kind at) ≤ 1
+pub unless-few : (b : Bool) (kind : ℕ) (at : Place) → length (unless b kind at) ≤ 1
 unless-few true kind at = omega arith
 unless-few false kind at = omega arith
 
@@ -213,3 +213,111 @@ module _ (texts : List (List ℕ)) (nodes : List Node) where
               let j = size-terms args.now (map Found second ++ Form side goal ∷ old) in let k = size-found second (Form side goal ∷ old) in
               let a = option-few o in let b = unless-few (on_goal_side (side_of side)) 8 place in omega arith;
         }
+
+    -- ---- parts in front of others
+
+    module _ (scope : Scope) (old : List Part) where
+      pub opened-faults : (fs : List Fault) → length fs ≤ 1 → IsOpened texts nodes params (λ ms. fs) 2 scope old scope (map Found fs ++ old)
+      opened-faults fs few = record {
+        faults_stay = λ ms known. faults-found ms scope fs old;
+        ready = λ h. ready-found fs old h;
+        scope_stays = scope-found scope fs old;
+        smaller = let i = size-found fs old in omega arith;
+      }
+
+      pub opened-last : (s : code.Side) (at : RawAt) → IsReady texts nodes at
+          → IsOpened texts nodes params (λ ms. form_faults ms (side_of s) scope (raw_at texts nodes at.0)) (3 * size (raw_at texts nodes at.0) + 1) scope old
+          scope (Form s at ∷ old)
+      opened-last s at h = record { faults_stay = λ ms known. refl; ready = λ k. (h, k); scope_stays = refl; smaller = omega arith }
+
+      -- a body in the scope of its quantifier
+      pub opened-body : (s : code.Side) (at : RawAt) (b : Binder) → IsReady texts nodes at
+          → IsOpened texts nodes params (λ ms. form_faults ms (side_of s) (b ∷ scope) (raw_at texts nodes at.0)) (3 * size (raw_at texts nodes at.0) + 2) scope
+          old (b ∷ scope) (Form s at ∷ (Close ∷ old))
+      opened-body s at b h = record { faults_stay = λ ms known. refl; ready = λ k. (h, k); scope_stays = refl; smaller = omega arith }
+
+      module _ (after : Scope) (new : List Part) (faults : List Heading → List Fault) (room : ℕ)
+          (opened : IsOpened texts nodes params faults room scope old after new) where
+        pub fault-before : (fs : List Fault) → length fs ≤ 1
+            → IsOpened texts nodes params (λ ms. fs ++ faults ms) (1 + room) scope old after (map Found fs ++ new)
+        fault-before fs few = record {
+          faults_stay = λ ms known.
+              faults-found ms after fs new
+              ∙ (ap (λ gs. fs ++ gs) (opened.faults_stay ms known) ∙ sym (append_assoc fs (faults ms) (pending_faults texts nodes ms scope old)));
+          ready = λ h. ready-found fs new (opened.ready h);
+          scope_stays = scope-found after fs new ∙ opened.scope_stays;
+          smaller = let i = size-found fs new in let k = opened.smaller in omega arith;
+        }
+
+        pub form-before : (s : code.Side) (at : RawAt) → IsReady texts nodes at
+            → IsOpened texts nodes params (λ ms. form_faults ms (side_of s) after (raw_at texts nodes at.0) ++ faults ms)
+            (3 * size (raw_at texts nodes at.0) + room) scope old after (Form s at ∷ new)
+        form-before s at h = record {
+          faults_stay = λ ms known.
+              let fs = form_faults ms (side_of s) after (raw_at texts nodes at.0) in
+              ap (λ gs. fs ++ gs) (opened.faults_stay ms known) ∙ sym (append_assoc fs (faults ms) (pending_faults texts nodes ms scope old));
+          ready = λ k. (h, opened.ready k);
+          scope_stays = opened.scope_stays;
+          smaller = let k = opened.smaller in omega arith;
+        }
+
+    -- the same faults in other words
+    pub opened-as : (scope after : Scope) (old new : List Part) (room : ℕ) (faults same : List Heading → List Fault)
+        → IsOpened texts nodes params faults room scope old after new → ((ms : List Heading) → faults ms ≡ same ms)
+        → IsOpened texts nodes params same room scope old after new
+    opened-as scope after old new room faults same o e = record {
+      faults_stay = λ ms known. o.faults_stay ms known ∙ ap (λ fs. fs ++ pending_faults texts nodes ms scope old) (e ms);
+      ready = o.ready;
+      scope_stays = o.scope_stays;
+      smaller = o.smaller;
+    }
+
+    -- so is a formula that begins as is seen, where there is room
+    pub opened-seen : (side : code.Side) (scope after : Scope) (at : RawAt) (old new : List Part) (room : ℕ) {seen : Raw} → raw_at texts nodes at.0 ≡ seen
+        → IsOpened texts nodes params (λ ms. form_faults ms (side_of side) scope seen) room scope old after new → room ≤ 3 * size seen
+        → IsOpened texts nodes params (λ ms. form_faults ms (side_of side) scope (raw_at texts nodes at.0)) (3 * size (raw_at texts nodes at.0)) scope old
+        after new
+    opened-seen side scope after at old new room {seen} tree o l =
+        subst (λ (z : Raw). IsOpened texts nodes params (λ ms. form_faults ms (side_of side) scope z) (3 * size z) scope old after new) (sym tree)
+        (record { faults_stay = o.faults_stay; ready = o.ready; scope_stays = o.scope_stays; smaller = let k = o.smaller in omega arith })
+
+    -- so is a formula whose parts a call puts next, of which these are faults of its own
+    pub opened-result : {T E : Type 0} (r : Result T E) (side : code.Side) (scope after : Scope) (at : RawAt) (old new : List Part)
+        (build : List Fault → List Part) (fs gs : List Fault) (room : ℕ) {seen : Raw} → raw_at texts nodes at.0 ≡ seen → OnOk r (new ≡ build fs) → fs ≡ gs
+        → IsOpened texts nodes params (λ ms. form_faults ms (side_of side) scope seen) room scope old after (build gs) → room ≤ 3 * size seen
+        → OnOk r (IsOpened texts nodes params (λ ms. form_faults ms (side_of side) scope (raw_at texts nodes at.0)) (3 * size (raw_at texts nodes at.0)) scope
+        old after new)
+    opened-result (Ok x) side scope after at old new build fs gs room {seen} tree is same o l =
+        subst (λ (z : List Part). IsOpened texts nodes params (λ ms. form_faults ms (side_of side) scope (raw_at texts nodes at.0))
+        (3 * size (raw_at texts nodes at.0)) scope old after z) (sym (is ∙ ap build same)) (opened-seen side scope after at old (build gs) room tree o l)
+    opened-result (Err e) side scope after at old new build fs gs room tree is same o l = tt
+
+    -- so is a quantifier whose body a call puts next
+    pub opened-quantifier : {T E : Type 0} (r : Result T E) (side : code.Side) (before later : Scoped) (at : RawAt) (old new parts : List Part) (b : Binder)
+        (room : ℕ) {seen : Raw} → raw_at texts nodes at.0 ≡ seen → OnOk r (new ≡ parts)
+        → OnOk r (later ≡ record before { scope = b ∷ before.scope })
+        → IsOpened texts nodes params (λ ms. form_faults ms (side_of side) before.scope seen) room before.scope old (b ∷ before.scope) parts
+        → room ≤ 3 * size seen
+        → OnOk r (IsOpened texts nodes params (λ ms. form_faults ms (side_of side) before.scope (raw_at texts nodes at.0)) (3 * size (raw_at texts nodes at.0))
+        before.scope old later.scope new)
+    opened-quantifier (Ok x) side before later at old new parts b room {seen} tree is entered o l =
+        subst (λ (z : List Part). IsOpened texts nodes params (λ ms. form_faults ms (side_of side) before.scope (raw_at texts nodes at.0))
+        (3 * size (raw_at texts nodes at.0)) before.scope old later.scope z) (sym is)
+        (subst (λ (z : Scope). IsOpened texts nodes params (λ ms. form_faults ms (side_of side) before.scope (raw_at texts nodes at.0))
+        (3 * size (raw_at texts nodes at.0)) before.scope old z parts) (sym (ap (λ y. y.scope) entered))
+        (opened-seen side before.scope (b ∷ before.scope) at old parts room tree o l))
+    opened-quantifier (Err e) side before later at old new parts b room tree is entered o l = tt
+
+-- of a result
+pub ok-each : {T E : Type 0} (r : Result T E) (P Q : Type 0) → (P → Q) → OnOk r P → OnOk r Q
+ok-each (Ok x) P Q f p = f p
+ok-each (Err e) P Q f p = tt
+
+pub ok-always : {T E : Type 0} (r : Result T E) (P : Type 0) → P → OnOk r P
+ok-always (Ok x) P p = p
+ok-always (Err e) P p = tt
+
+pub ok-texts : {T E : Type 0} (r : Result T E) (before later : Scoped) (b : Binder) (texts : List (List ℕ))
+    → OnOk r (later ≡ record before { scope = b ∷ before.scope }) → before.texts ≡ texts → OnOk r (later.texts ≡ texts)
+ok-texts (Ok x) before later b texts entered same = ap (λ y. y.texts) entered ∙ same
+ok-texts (Err e) before later b texts entered same = tt

@@ -269,24 +269,12 @@ fn begun(
         RawNode::Erase => gives(bank, FormNode::Top),
         RawNode::Braces(goal) => waits(frames, Frame::Braces, goal),
         RawNode::Forall(name, body) => {
-            goes_in(
-                binders,
-                place,
-                frames,
-                Frame::Forall(name.name),
-                name.name,
-                body,
-            )
+            let front = Frame::Forall(name.name);
+            goes_in(binders, place, frames, front, name.name, body)
         }
         RawNode::Exists(name, body) => {
-            goes_in(
-                binders,
-                place,
-                frames,
-                Frame::Exists(name.name),
-                name.name,
-                body,
-            )
+            let front = Frame::Exists(name.name);
+            goes_in(binders, place, frames, front, name.name, body)
         }
         RawNode::Load(name, _, goal) => loads(
             alloc, text, binders, *place, met, bank, frames, at, name, goal,

@@ -1,8 +1,10 @@
-use Rattle.std.proofs.Common.{◌≡◌, [], length, Some, None, ap, ◌∙◌, arith}
+use Rattle.std.proofs.Common.{◌≡◌, ℕ, ◌+◌, ◌*◌, ◌<◌, ◌≤◌, zero-le, [], length, Some, None, ap, ◌∙◌, arith}
+use Rattle.std.specs.Prelude.{◌^◌}
 use Rattle.ll_bank.proofs.CallerLemmas.{Extends-refl, Extends-trans}
 use Rattle.ll_laws.specs.Module.{forall_all}
 use Rattle.ll_laws.specs.Valid.{ClauseSide}
 use Rattle.ll_parser.specs.Nodes.{raw_at}
+use Rattle.ll_parser.specs.Weights.{weight}
 use Rattle.ll_polarity.specs.Reading.{read_form}
 use Rattle.ll_polarity.specs.Numbered.{variables_of}
 use Rattle.ll_polarity.specs.Built.{built_form}
@@ -12,11 +14,37 @@ use Rattle.ll_polarity.proofs.reading.Reread.{clause_built}
 use Rattle.ll_polarity.proofs.putting.Clauses.{room_whole, names_met, count_met, few_met, names_again}
 use Rattle.ll_polarity.proofs.put_clauses.quantified.Goals as goal
 
+-- the names of a clause, its binders and its variables have room together
+room_once : (n s w : ℕ) → n + s + 6 * w < 2 ^ 32 → n + w < 2 ^ 32
+room_once n s w h = omega arith
+
+high_once : (n s w : ℕ) → n + s + 6 * w < 2 ^ 32 → s + 0 + 5 * w < 2 ^ 32
+high_once n s w h = omega arith
+
+count_fits : (n later s w k v : ℕ) → n + s + 6 * w < 2 ^ 32 → later + v ≤ n + w → k ≡ v → k < 2 ^ 32
+count_fits n later s w k v h f e = omega arith
+
+high_again : (n later s t w k v : ℕ) → n + s + 6 * w < 2 ^ 32 → later + v ≤ n + w → k ≡ v → t ≡ s → t + k + 5 * w < 2 ^ 32
+high_again n later s t w k v h f e is = omega arith
+
+stands_high : (t k w : ℕ) → t + k + 5 * w < 2 ^ 32 → t + k < 2 ^ 32
+stands_high t k w h = omega arith
+
+room_again : (n later s w v : ℕ) → n + s + 6 * w < 2 ^ 32 → later + v ≤ n + w → later + w < 2 ^ 32
+room_again n later s w v h f = omega arith
+
 pub form-requires-clause-room : goal.form-requires-clause-room
 form-requires-clause-room c =
     room_whole c.args.text.now.names.now (place_in c.args.text.now.modules.now.places) (outermost None c.args.binders.now.scope) c.args.met.now.names
     c.new.result
-    (raw_at c.args.text.now.names.now c.args.text.now.forms.now c.args.clause.form.0) c.new.ensures (omega (arith, c.requires.room))
+    (raw_at c.args.text.now.names.now c.args.text.now.forms.now c.args.clause.form.0) c.new.ensures
+    (room_once (length c.args.met.now.names) (length c.args.binders.now.scope) (weight
+    (raw_at c.args.text.now.names.now c.args.text.now.forms.now c.args.clause.form.0)) c.requires.room)
+
+pub form-requires-clause-high : goal.form-requires-clause-high
+form-requires-clause-high c = high_once (length c.args.met.now.names) (length c.args.binders.now.scope) (weight
+    (raw_at c.args.text.now.names.now c.args.text.now.forms.now c.args.clause.form.0))
+    c.requires.room
 
 pub returns-in_err-form-clause-keeps : goal.returns-in_err-form-clause-keeps
 returns-in_err-form-clause-keeps c = Extends-refl c.args.bank.now
@@ -26,7 +54,11 @@ overflow_cast-count c =
     let f = few_met c.args.text.now.names.now (place_in c.args.text.now.modules.now.places) (outermost None c.args.binders.now.scope) c.args.met.now.names
     c.form.new.met.names c.new.result c.form.new.met.variables
     (raw_at c.args.text.now.names.now c.args.text.now.forms.now c.args.clause.form.0) c.new.ensures c.in_ok-form.ensures.met in
-    record { fits = omega (arith, c.requires.room, c.len-count.ensures) }
+    record {
+      fits = count_fits (length c.args.met.now.names) (length c.form.new.met.names) (length c.args.binders.now.scope)
+          (weight (raw_at c.args.text.now.names.now c.args.text.now.forms.now c.args.clause.form.0))
+          c.len-count.result (length c.form.new.met.variables) c.requires.room f c.len-count.ensures;
+    }
 
 pub form-requires-2-clause-stands : goal.form-requires-2-clause-stands
 form-requires-2-clause-stands c =
@@ -37,9 +69,12 @@ form-requires-2-clause-stands c =
     record {
       distinct = c.requires.stands.distinct;
       same = c.in_ok-form.ensures.texts;
-      depth = omega arith;
-      room =
-          omega (arith, c.requires.room, c.len-count.ensures);
+      depth = zero-le;
+      room = stands_high (length c.form.new.binders.scope) c.len-count.result (weight
+          (raw_at c.args.text.now.names.now c.args.text.now.forms.now c.args.clause.form.0)) (high_again (length c.args.met.now.names)
+          (length c.form.new.met.names) (length c.args.binders.now.scope) (length c.form.new.binders.scope) (weight
+          (raw_at c.args.text.now.names.now c.args.text.now.forms.now c.args.clause.form.0))
+          c.len-count.result (length c.form.new.met.variables) c.requires.room f c.len-count.ensures s);
     }
 
 pub form-requires-2-clause-high : goal.form-requires-2-clause-high
@@ -48,7 +83,9 @@ form-requires-2-clause-high c =
     c.form.new.met.names c.new.result c.form.new.met.variables
     (raw_at c.args.text.now.names.now c.args.text.now.forms.now c.args.clause.form.0) c.new.ensures c.in_ok-form.ensures.met in
     let s = ap length c.in_ok-form.ensures.scope in
-    omega (arith, c.requires.room, c.len-count.ensures)
+    high_again (length c.args.met.now.names) (length c.form.new.met.names) (length c.args.binders.now.scope) (length c.form.new.binders.scope)
+    (weight (raw_at c.args.text.now.names.now c.args.text.now.forms.now c.args.clause.form.0))
+    c.len-count.result (length c.form.new.met.variables) c.requires.room f c.len-count.ensures s
 
 pub form-requires-2-clause-room : goal.form-requires-2-clause-room
 form-requires-2-clause-room c =
@@ -57,7 +94,9 @@ form-requires-2-clause-room c =
     c.form.new.met.names c.new.result c.form.new.met.variables
     raw c.new.ensures c.in_ok-form.ensures.met in
     room_whole c.args.text.now.names.now (place_in c.args.text.now.modules.now.places) (outermost (Some c.len-count.result) c.form.new.binders.scope)
-    c.form.new.met.names c.new-2.result raw c.new-2.ensures (omega (arith, c.requires.room))
+    c.form.new.met.names c.new-2.result raw c.new-2.ensures (room_again (length c.args.met.now.names) (length c.form.new.met.names)
+    (length c.args.binders.now.scope) (weight raw)
+    (length c.form.new.met.variables) c.requires.room f)
 
 pub returns-in_err-body-clause-keeps : goal.returns-in_err-body-clause-keeps
 returns-in_err-body-clause-keeps c = c.in_err-body.ensures.keeps
@@ -98,3 +137,15 @@ returns-clause-names c = λ ms.
 
 pub returns-clause-keeps : goal.returns-clause-keeps
 returns-clause-keeps c = Extends-trans c.in_ok-body.ensures.keeps c.in_ok-closed.ensures.keeps
+
+pub returns-clause-inside : goal.returns-clause-inside
+returns-clause-inside c = c.in_ok-closed.ensures.shows.inside
+
+pub returns-clause-scope : goal.returns-clause-scope
+returns-clause-scope c = c.in_ok-body.ensures.scope ∙ c.in_ok-form.ensures.scope
+
+pub returns-clause-texts : goal.returns-clause-texts
+returns-clause-texts c = c.in_ok-body.ensures.texts
+
+pub returns-in_err-closed-clause-keeps : goal.returns-in_err-closed-clause-keeps
+returns-in_err-closed-clause-keeps c = Extends-trans c.in_ok-body.ensures.keeps c.under.ensures.keeps

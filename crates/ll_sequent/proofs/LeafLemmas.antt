@@ -4,6 +4,7 @@ use Rattle.std.proofs.Common.{None, All, append_assoc}
 use Rattle.std.specs.Prelude.{if◌then◌else◌, option_map}
 use Rattle.std.proofs.lemmas.Bool.{lt-ltb}
 use Rattle.std.proofs.lemmas.List.{append-nil, reverse-append}
+use Rattle.std.proofs.lemmas.List.Sums.{sum_by-append}
 use Rattle.std.proofs.lemmas.List.Elements.{All-cons, All-head, All-tail, All-push}
 use Rattle.ll_lists.proofs.CallerLemmas.{lt_false as not_below}
 use Rattle.ll_bank.specs.declared.At.{At}
@@ -14,8 +15,12 @@ use Rattle.ll_bank.specs.declared.FormNode.TheVariants.{Plus as PlusView, Bang a
 use Rattle.ll_bank.specs.declared.FormNode.TheVariants.{Exists as ExistsView, Use as UseView, Is as IsView, Less as LessView, Most as MostView}
 use Rattle.ll_bank.specs.Term.{Term, Env}
 use Rattle.ll_bank.specs.Form.{Form, Atom, With}
-use Rattle.ll_bank.specs.Nodes.{Nodes, form_of}
+use Rattle.ll_bank.specs.Nodes.{Nodes, form_of, form_tree}
+use Rattle.ll_bank.specs.Opened.{form_size}
+use Rattle.ll_bank.proofs.CallerLemmas.{form_size-some}
 use Rattle.ll_laws.specs.Leaf.{Leaf, Premise, add_premise, ways, leaf_from}
+use Rattle.ll_laws.proofs.CallerLemmas.{waiting_ways}
+use Rattle.ll_sequent.specs.Opened.{waiting_size}
 
 -- ---- premises that were met
 
@@ -58,6 +63,25 @@ leaf_no bank e (UseView m us x) k ts a w l i f = refl
 leaf_no bank e (IsView t u) k ts a w l i f = refl
 leaf_no bank e (LessView t u) k ts a w l i f = refl
 leaf_no bank e (MostView t u) k ts a w l i f = refl
+
+ways_no : (bank : Nodes) (v : FormNode) → ((a : At) → v ≡ AtomView a → ⊥) → ((f g : FormAt) → v ≡ WithView f g → ⊥)
+    → ((f g : FormAt) → v ≡ LolliView f g → ⊥) → ((f g : FormAt) → v ≡ ImpView f g → ⊥) → ((f : FormAt) → v ≡ ForallView f → ⊥)
+    → length (ways (form_of bank v)) ≡ 0
+ways_no bank TopView a w l i f = refl
+ways_no bank OneView a w l i f = refl
+ways_no bank (AtomView x) a w l i f = absurd (a x refl)
+ways_no bank (WithView x y) a w l i f = absurd (w x y refl)
+ways_no bank (TensorView x y) a w l i f = refl
+ways_no bank (PlusView x y) a w l i f = refl
+ways_no bank (BangView x) a w l i f = refl
+ways_no bank (LolliView x y) a w l i f = absurd (l x y refl)
+ways_no bank (ImpView x y) a w l i f = absurd (i x y refl)
+ways_no bank (ForallView x) a w l i f = absurd (f x refl)
+ways_no bank (ExistsView x) a w l i f = refl
+ways_no bank (UseView m us x) a w l i f = refl
+ways_no bank (IsView t u) a w l i f = refl
+ways_no bank (LessView t u) a w l i f = refl
+ways_no bank (MostView t u) a w l i f = refl
 
 pub leaf_past_atom : (e : Env) (a : Term) (k : ℕ) (ts : List Term) → (k ≡ 0 → ⊥) → leaf_from e (Atom a) k ts ≡ None
 leaf_past_atom e a zero ts n = absurd (n refl)
@@ -108,3 +132,81 @@ waiting_both n old rest mid new f g r o m w l p h =
     let P : List FormAt → Type 0 = All (λ (a : FormAt). a.0 < n) in
     let e = waiting_end n rest f (subst P o h) in
     subst P (sym w) (All-push (λ (a : FormAt). a.0 < n) mid g (waiting_inside n old rest mid f r o m p h) (omega arith))
+
+-- ---- how large they are
+
+size_push : (bank : Nodes) (fs : List FormAt) (f : FormAt) → waiting_size bank (fs ++ f ∷ []) ≡ waiting_size bank fs + form_size (form_tree bank f.0)
+size_push bank fs f = let e = sum_by-append (λ (g : FormAt). form_size (form_tree bank g.0)) fs (f ∷ []) in omega (arith, e)
+
+module _ (bank : Nodes) (old rest : List FormAt) (f : FormAt) (o : old ≡ rest ++ f ∷ []) where
+  -- smaller where one goes
+  pub smaller_without : waiting_size bank rest < waiting_size bank old
+  smaller_without =
+      let a = ap (waiting_size bank) o ∙ size_push bank rest f in let s = form_size-some (form_tree bank f.0) in omega (arith, a, s)
+
+  -- or a part of it takes its place
+  pub smaller_part : (new : List FormAt) (g : FormAt) (n : ℕ) → new ≡ rest ++ g ∷ []
+      → form_size (form_tree bank f.0) ≡ 2 + (n + form_size (form_tree bank g.0)) → waiting_size bank new < waiting_size bank old
+  smaller_part new g n w s =
+      let a = ap (waiting_size bank) o ∙ size_push bank rest f in let b = ap (waiting_size bank) w ∙ size_push bank rest g in omega (arith, a, b, s)
+
+  pub smaller_body : (new : List FormAt) (g : FormAt) → new ≡ rest ++ g ∷ [] → form_size (form_tree bank f.0) ≡ 2 + form_size (form_tree bank g.0)
+      → waiting_size bank new < waiting_size bank old
+  smaller_body new g w s = smaller_part new g 0 w (omega (arith, s))
+
+  -- or both parts
+  pub smaller_both : (mid new : List FormAt) (g r : FormAt) → mid ≡ rest ++ r ∷ [] → new ≡ mid ++ g ∷ []
+      → form_size (form_tree bank f.0) ≡ 2 + (form_size (form_tree bank g.0) + form_size (form_tree bank r.0)) → waiting_size bank new < waiting_size bank old
+  smaller_both mid new g r m w s =
+      let a = ap (waiting_size bank) o ∙ size_push bank rest f in
+      let b = ap (waiting_size bank) m ∙ size_push bank rest r in
+      let c = ap (waiting_size bank) w ∙ size_push bank mid g in
+      omega (arith, a, b, c, s)
+
+-- ---- how many leaves they have
+
+-- the last one that waits lies in the bank
+pub waiting_last : (n : ℕ) (old rest : List FormAt) (f : FormAt) → old ≡ rest ++ f ∷ [] → All (λ (a : FormAt). a.0 < n) old → f.0 < n
+waiting_last n old rest f o h = let P : List FormAt → Type 0 = All (λ (a : FormAt). a.0 < n) in waiting_end n rest f (subst P o h)
+
+pub waiting_rest : (n : ℕ) (old rest : List FormAt) (f : FormAt) → old ≡ rest ++ f ∷ [] → All (λ (a : FormAt). a.0 < n) old
+    → All (λ (a : FormAt). a.0 < n) rest
+waiting_rest n old rest f o h = let P : List FormAt → Type 0 = All (λ (a : FormAt). a.0 < n) in waiting_front n rest f (subst P o h)
+
+-- one alone
+pub waiting_alone : (bank : Nodes) (none all : List FormAt) (f : FormAt) → none ≡ [] → all ≡ none ++ f ∷ [] → f.0 < length bank.forms
+    → All (λ (a : FormAt). a.0 < length bank.forms) all
+waiting_alone bank none all f e w l =
+    let P : List FormAt → Type 0 = All (λ (a : FormAt). a.0 < length bank.forms) in
+    let h : P [] = λ k d l. absurd (omega arith) in
+    subst P (sym (w ∙ ap (λ xs. xs ++ f ∷ []) e)) (All-push (λ (a : FormAt). a.0 < length bank.forms) [] f h l)
+
+ways_push : (bank : Nodes) (fs : List FormAt) (f : FormAt) → waiting_ways bank (fs ++ f ∷ []) ≡ waiting_ways bank fs + length (ways (form_tree bank f.0))
+ways_push bank fs f = let e = sum_by-append (λ (g : FormAt). length (ways (form_tree bank g.0))) fs (f ∷ []) in omega (arith, e)
+
+pub count_alone : (bank : Nodes) (none all : List FormAt) (f : FormAt) (k : ℕ) → none ≡ [] → all ≡ none ++ f ∷ []
+    → k + waiting_ways bank all ≡ length (ways (form_tree bank f.0)) + k
+count_alone bank none all f k e w =
+    let a = ap (waiting_ways bank) (w ∙ ap (λ xs. xs ++ f ∷ []) e) in let b = ways_push bank [] f in omega (arith, a, b)
+
+module _ (bank : Nodes) (old rest : List FormAt) (f : FormAt) (k n left : ℕ) (o : old ≡ rest ++ f ∷ []) (h : k + waiting_ways bank old ≡ n + left) where
+  count_last : k + (waiting_ways bank rest + length (ways (form_tree bank f.0))) ≡ n + left
+  count_last = let a = ap (waiting_ways bank) o ∙ ways_push bank rest f in omega (arith, a, h)
+
+  -- an atom is the leaf
+  pub count_found : (a : Term) → form_tree bank f.0 ≡ Atom a → left ≡ 0 → k < n
+  count_found a e z = let c = count_last in let s = ap (λ (t : Form). length (ways t)) e in omega (arith, c, s, z)
+
+  -- or an earlier one
+  pub count_past : (a : Term) → form_tree bank f.0 ≡ Atom a → (left ≡ 0 → ⊥) → k + waiting_ways bank rest ≡ n + (left - 1)
+  count_past a e z = let c = count_last in let s = ap (λ (t : Form). length (ways t)) e in let l = some left z in omega (arith, c, s, l)
+    where
+      some : (m : ℕ) → (m ≡ 0 → ⊥) → 0 < m
+      some zero z = absurd (z refl)
+      some (suc m) z = omega arith
+
+  -- what is no clause has no leaves
+  pub count_other : (v : FormNode) → form_tree bank f.0 ≡ form_of bank v → ((a : At) → v ≡ AtomView a → ⊥) → ((f g : FormAt) → v ≡ WithView f g → ⊥)
+      → ((f g : FormAt) → v ≡ LolliView f g → ⊥) → ((f g : FormAt) → v ≡ ImpView f g → ⊥) → ((f : FormAt) → v ≡ ForallView f → ⊥)
+      → k + waiting_ways bank rest ≡ n + left
+  count_other v e a w l i f = let c = count_last in let s = ap (λ (t : Form). length (ways t)) e ∙ ways_no bank v a w l i f in omega (arith, c, s)

@@ -1,11 +1,11 @@
 -- The way to a leaf, step by step.
 use Rattle.std.proofs.Common.{◌≡◌, ℕ, zero, suc, ◌+◌, ◌<◌, ◌≤◌, refl, ap, sym, subst, ◌∙◌, arith, true, false, List, [], ◌∷◌, ◌++◌, length, length-drop, map}
-use Rattle.std.proofs.Common.{take, drop, drop-cons, inl, inr, reverse, get_or, Some, None}
+use Rattle.std.proofs.Common.{take, drop, drop-cons, length-take-le, inl, inr, reverse, get_or, Some, None}
 use Rattle.std.specs.Prelude.{option_map}
 use Rattle.std.specs.List.{list_all}
 use Rattle.std.proofs.lemmas.Bool.{and_parts, cases_lt}
-use Rattle.std.proofs.lemmas.List.{map-append, map_more, drop_all, reverse-append}
-use Rattle.std.proofs.lemmas.List.Elements.{All-push, All-head, All-tail}
+use Rattle.std.proofs.lemmas.List.{length-map, map-append, map_more, drop_all, take_all, reverse-append}
+use Rattle.std.proofs.lemmas.List.Elements.{All-push, All-head, All-tail, All-take}
 use Rattle.ll_lists.proofs.CallerLemmas.{All-reverse as all_reversed}
 use Rattle.ll_bank.specs.declared.At.{At}
 use Rattle.ll_bank.specs.declared.FormAt.{FormAt}
@@ -14,7 +14,7 @@ use Rattle.ll_bank.specs.declared.FormNode.TheVariants.{Atom as AtomView, With a
 use Rattle.ll_bank.specs.Term.{Term, Var, Env, close, is_closed, applies_heads}
 use Rattle.ll_bank.specs.Form.{Form, Atom, Forall, close_form, form_applies_heads}
 use Rattle.ll_bank.specs.Nodes.{Nodes, form_tree, form_of, term_tree, term_trees, HasForm, HasTerm, AllInTerms, ShowsForm, ShowsTerm, IsFormView, Extends}
-use Rattle.ll_bank.proofs.CallerLemmas.{HasForm-extends, form_tree-extends, term_tree-extends, Extends-refl, Extends-trans}
+use Rattle.ll_bank.proofs.CallerLemmas.{HasForm-extends, form_tree-extends, term_tree-extends, AllInTerms-extends, Extends-refl, Extends-trans}
 use Rattle.ll_laws.specs.Leaf.{Leaf, Needs, NeedsFree, add_premise, ways, leaf, leaf_from}
 use Rattle.ll_close.specs.Closing.{env_of}
 use Rattle.ll_laws.specs.Valid.{GoalSide, ClauseSide, Scope, has_heads}
@@ -273,6 +273,39 @@ module _ (first : Nodes) (clause k : ℕ) (ts : List Term) where
           head = shows.inside;
           premises = subst Q (sym e) (all_reversed (λ (p : Needed). HasForm new (needed_at p).0) ps (needed_extend keeps ps way.needed));
         }
+
+-- the first values, in a bank that grew
+pub values_passed : {first bank : Nodes} (keeps : Extends first bank) (vals : List At) (n : ℕ) → AllInTerms first vals → AllInTerms bank (take n vals)
+values_passed {bank = bank} keeps vals n h = All-take (λ (a : At). HasTerm bank a.0) n vals (AllInTerms-extends keeps vals h)
+
+-- a side lies below the whole
+pub side_low : (count k n : ℕ) (q r : FormAt) (side : Side) → IsSide count q r k side → (q.0 < n) × (r.0 < n) → side.form.0 < n
+side_low count k n q r side is l =
+    let P : FormAt → Type 0 = λ f. f.0 < n in
+    elim (cases_lt k count) [ inl a ↦ subst P (sym (is.0 a).0) l.0 | inr b ↦ subst P (sym (is.1 b).0) l.1 ]
+
+-- a part of a formula that lies in a bank lies there
+pub part_low : (a b n : ℕ) → a < b → b < n → a < n
+part_low a b n h k = omega arith
+
+-- the values are as many as their terms
+pub passed_all : (bank : Nodes) (vals : List At) (n : ℕ) → n ≡ length vals → n ≡ length (term_trees bank vals)
+passed_all bank vals n e = e ∙ sym (length-map vals (λ (a : At). term_tree bank a.0))
+
+pub passed_not_all : (bank : Nodes) (vals : List At) (n : ℕ) → (n ≡ length vals → ⊥) → n ≡ length (term_trees bank vals) → ⊥
+passed_not_all bank vals n h e = h (e ∙ length-map vals (λ (a : At). term_tree bank a.0))
+
+pub all_taken : (vals : List At) (n : ℕ) → n ≡ length vals → take n vals ≡ vals
+all_taken vals n e = take_all n vals (omega arith)
+
+pub passed_taken : (bank : Nodes) (vals : List At) (n : ℕ) → n ≤ length (term_trees bank vals) → n ≡ length (take n vals)
+passed_taken bank vals n h =
+    let e = length-map vals (λ (a : At). term_tree bank a.0) in sym (length-take-le n vals (let l : n ≤ length vals = omega (arith, e) in l))
+
+pub passed_less : (bank : Nodes) (vals : List At) (n : ℕ) → n ≤ length (term_trees bank vals) → (n ≡ length vals → ⊥) → n < length (term_trees bank vals)
+passed_less bank vals n h k =
+    let e = length-map vals (λ (a : At). term_tree bank a.0) in
+    elim (cases_lt n (length (term_trees bank vals))) [ inl a ↦ a | inr b ↦ absurd (k (omega (arith, e))) ]
 
 -- what closes over the first values stands for the quantifiers that were passed
 pub env_passed : (first bank : Nodes) (keeps : Extends first bank) (vals : List At) (n : ℕ) → AllInTerms first vals

@@ -1,9 +1,11 @@
 use Rattle.std.proofs.Common.{ap, ◌∙◌, length}
 use Rattle.ll_bank.specs.Form.{Form}
 use Rattle.ll_bank.specs.Nodes.{form_tree}
+use Rattle.ll_bank.specs.Opened.{form_size}
 use Rattle.ll_laws.specs.Leaf.{ways}
 use Rattle.ll_laws.proofs.CallerLemmas.{count_in, count_both, ways_quantified}
-use Rattle.ll_sequent.proofs.LeafLemmas.{waiting_inside, waiting_both}
+use Rattle.ll_sequent.proofs.LeafLemmas.{waiting_inside, waiting_both, waiting_last, waiting_rest, waiting_alone, count_alone, count_found}
+use Rattle.ll_sequent.proofs.LeafLemmas.{count_past, count_other, smaller_without, smaller_part, smaller_body, smaller_both}
 use Rattle.ll_sequent.proofs.leaves.leaves_left.Goals as goal
 
 pub walk-preserved-in-Continue-branch-3 : goal.walk-preserved-in-Continue-branch-3
@@ -48,3 +50,65 @@ walk-preserved-in-Continue-branch-6 c = record {
       (ap (λ (t : Form). length (ways t)) c.in-Forall.ensures.shown.tree ∙ ways_quantified (form_tree c.args.bank.now c.in-Forall.rest.0))
       c.walk.invariant.so_far;
 }
+
+pub walk-init : goal.walk-init
+walk-init c = record {
+  inside = waiting_alone c.args.bank.now c.new-waiting.result.items c.push.new.self.items c.args.clause c.new-waiting.ensures.items
+      c.in_ok-push.ensures.items c.requires;
+  so_far = count_alone c.args.bank.now c.new-waiting.result.items c.push.new.self.items c.args.clause c.args.leaf c.new-waiting.ensures.items
+      c.in_ok-push.ensures.items;
+}
+
+pub form_at-requires : goal.form_at-requires
+form_at-requires c =
+    waiting_last (length c.args.bank.now.forms) c.walk.waiting.items c.pop.new.self.items c.in-Some.form c.in-Some.ensures.items c.walk.invariant.inside
+
+pub returns-then-left-eq0 : goal.returns-then-left-eq0
+returns-then-left-eq0 c =
+    count_found c.args.bank.now c.walk.waiting.items c.pop.new.self.items c.in-Some.form c.args.leaf (length (ways
+    (form_tree c.args.bank.now c.args.clause.0))) c.walk.left
+    c.in-Some.ensures.items c.walk.invariant.so_far _ c.in-Atom.ensures.shown.tree c.if-left-eq0.true
+
+pub walk-preserved-in-Atom : goal.walk-preserved-in-Atom
+walk-preserved-in-Atom c = record {
+  inside = waiting_rest (length c.args.bank.now.forms) c.walk.waiting.items c.pop.new.self.items c.in-Some.form c.in-Some.ensures.items c.walk.invariant.inside;
+  so_far = count_past c.args.bank.now c.walk.waiting.items c.pop.new.self.items c.in-Some.form c.args.leaf (length (ways
+      (form_tree c.args.bank.now c.args.clause.0))) c.walk.left
+      c.in-Some.ensures.items c.walk.invariant.so_far _ c.in-Atom.ensures.shown.tree c.if-left-eq0.false;
+}
+
+pub walk-smaller-in-Atom : goal.walk-smaller-in-Atom
+walk-smaller-in-Atom c = smaller_without c.args.bank.now c.walk.waiting.items c.pop.new.self.items c.in-Some.form c.in-Some.ensures.items
+
+pub walk-smaller : goal.walk-smaller
+walk-smaller c = smaller_without c.args.bank.now c.walk.waiting.items c.pop.new.self.items c.in-Some.form c.in-Some.ensures.items
+
+pub walk-preserved : goal.walk-preserved
+walk-preserved c = record {
+  inside = waiting_rest (length c.args.bank.now.forms) c.walk.waiting.items c.pop.new.self.items c.in-Some.form c.in-Some.ensures.items c.walk.invariant.inside;
+  so_far = count_other c.args.bank.now c.walk.waiting.items c.pop.new.self.items c.in-Some.form c.args.leaf (length (ways
+      (form_tree c.args.bank.now c.args.clause.0))) c.walk.left
+      c.in-Some.ensures.items c.walk.invariant.so_far c.form_at.result c.form_at.ensures.shown.tree c.in_default-form_at.not-Atom
+      c.in_default-form_at.not-With c.in_default-form_at.not-Lolli c.in_default-form_at.not-Imp c.in_default-form_at.not-Forall;
+}
+
+pub walk-smaller-in-Continue-branch-3 : goal.walk-smaller-in-Continue-branch-3
+walk-smaller-in-Continue-branch-3 c =
+    smaller_both c.args.bank.now c.walk.waiting.items c.pop.new.self.items c.in-Some.form c.in-Some.ensures.items c.push-in-With.new.self.items
+    c.push-in-With-2.new.self.items c.in-With.first c.in-With.second c.in_ok-push-in-With.ensures.items c.in_ok-push-in-With-2.ensures.items
+    (ap form_size c.in-With.ensures.shown.tree)
+
+pub walk-smaller-in-Continue-branch-4 : goal.walk-smaller-in-Continue-branch-4
+walk-smaller-in-Continue-branch-4 c =
+    smaller_part c.args.bank.now c.walk.waiting.items c.pop.new.self.items c.in-Some.form c.in-Some.ensures.items c.push-in-Lolli.new.self.items
+    c.in-Lolli.rest _ c.in_ok-push-in-Lolli.ensures.items (ap form_size c.in-Lolli.ensures.shown.tree)
+
+pub walk-smaller-in-Continue-branch-5 : goal.walk-smaller-in-Continue-branch-5
+walk-smaller-in-Continue-branch-5 c =
+    smaller_part c.args.bank.now c.walk.waiting.items c.pop.new.self.items c.in-Some.form c.in-Some.ensures.items c.push-in-Imp.new.self.items
+    c.in-Imp.rest _ c.in_ok-push-in-Imp.ensures.items (ap form_size c.in-Imp.ensures.shown.tree)
+
+pub walk-smaller-in-Continue-branch-6 : goal.walk-smaller-in-Continue-branch-6
+walk-smaller-in-Continue-branch-6 c =
+    smaller_body c.args.bank.now c.walk.waiting.items c.pop.new.self.items c.in-Some.form c.in-Some.ensures.items c.push-in-Forall.new.self.items
+    c.in-Forall.rest c.in_ok-push-in-Forall.ensures.items (ap form_size c.in-Forall.ensures.shown.tree)

@@ -1,6 +1,6 @@
 -- Values in place of variables, place by place.
 use Rattle.std.proofs.Common.{◌≡◌, ℕ, suc, ◌+◌, ◌<◌, ◌≤◌, refl, ap, sym, ◌∙◌, subst, List, [], ◌∷◌, ◌++◌, map, take, length, get_or, All, arith}
-use Rattle.std.specs.Prelude.{Result, Ok, Err, OnOk}
+use Rattle.std.specs.Prelude.{Result, Ok, Err, OnOk, IfOk}
 use Rattle.std.proofs.lemmas.List.{map-append}
 use Rattle.std.proofs.lemmas.List.Elements.{All-cons}
 use Rattle.ll_lists.proofs.CallerLemmas.{each-push as push_all}
@@ -66,6 +66,40 @@ module _ {old new : Nodes} (keeps : Extends old new) (ts : List Term) where
         shows =
             record { inside = shows.inside; tree = shows.tree ∙ ap (sub_form (values ts)) (sym (form_tree-extends keeps (length images) low)) };
       }))
+
+-- ---- a formula over the images of its parts
+
+-- a place of a formula shows another spelling of it
+pub shown_as : {E : Type 0} (bank : Nodes) (r : Result FormAt E) (f g : Form) → f ≡ g → IfOk r (λ at. ShowsForm bank at.0 f)
+    → IfOk r (λ at. ShowsForm bank at.0 g)
+shown_as bank r f g e h = let P : Form → Type 0 = λ t. IfOk r (λ at. ShowsForm bank at.0 t) in subst P e h
+
+module _ (bank : Nodes) (ts : List Term) (forms : List FormAt) (h : AreFormImages bank ts forms) (form : FormAt) (low : form.0 ≤ length forms) where
+  part_of : (f : FormAt) → f.0 < form.0 → f.0 < length forms
+  part_of f l = omega arith
+
+  -- the image of a part
+  pub part : (f : FormAt) → f.0 < form.0 → ShowsForm bank (get_or forms f.0 (record { 0 = 0 })).0 (sub_form (values ts) (form_tree bank f.0))
+  part f l = (h f.0 (record { 0 = 0 }) (part_of f l)).shows
+
+  module _ {E : Type 0} (new : Nodes) (r : Result FormAt E) where
+    pub over_one : (B : Form → Form) → ((a : Form) → B (sub_form (values ts) a) ≡ sub_form (values ts) (B a)) → (f : FormAt) → f.0 < form.0
+        → form_tree bank form.0 ≡ B (form_tree bank f.0)
+        → IfOk r (λ at. ShowsForm new at.0 (B (form_tree bank (get_or forms f.0 (record { 0 = 0 })).0)))
+        → IfOk r (λ at. ShowsForm new at.0 (sub_form (values ts) (form_tree bank form.0)))
+    over_one B same f l e made =
+        shown_as new r (B (form_tree bank (get_or forms f.0 (record { 0 = 0 })).0)) (sub_form (values ts) (form_tree bank form.0))
+        (ap B (part f l).tree ∙ (same (form_tree bank f.0) ∙ ap (sub_form (values ts)) (sym e))) made
+
+    pub over_two : (B : Form → Form → Form) → ((a b : Form) → B (sub_form (values ts) a) (sub_form (values ts) b) ≡ sub_form (values ts) (B a b))
+        → (f g : FormAt) → (f.0 < form.0) × (g.0 < form.0) → form_tree bank form.0 ≡ B (form_tree bank f.0) (form_tree bank g.0)
+        → IfOk r (λ at. ShowsForm new at.0 (B (form_tree bank (get_or forms f.0 (record { 0 = 0 })).0)
+        (form_tree bank (get_or forms g.0 (record { 0 = 0 })).0)))
+        → IfOk r (λ at. ShowsForm new at.0 (sub_form (values ts) (form_tree bank form.0)))
+    over_two B same f g l e made =
+        shown_as new r (B (form_tree bank (get_or forms f.0 (record { 0 = 0 })).0) (form_tree bank (get_or forms g.0 (record { 0 = 0 })).0))
+        (sub_form (values ts) (form_tree bank form.0))
+        ((λ i. B ((part f l.0).tree i) ((part g l.1).tree i)) ∙ (same (form_tree bank f.0) (form_tree bank g.0) ∙ ap (sub_form (values ts)) (sym e))) made
 
 -- images over the same values, seen in a later bank
 pub terms_later : (bank : Nodes) (ts us : List Term) (images : List At) → us ≡ ts → AreTermImages bank ts images → AreTermImages bank us images

@@ -5,7 +5,7 @@
 ghost use Rattle.std.specs.Prelude.{◌≡◌, ◌≤◌, ◌<◌, length, map, slice_index_or, All, IfOk, OnOk};
 ghost use Rattle.ll_bank.specs.declared.At.{At};
 ghost use Rattle.ll_bank.specs.Term.{sub};
-ghost use Rattle.ll_bank.specs.Form.{sub_form};
+ghost use Rattle.ll_bank.specs.Form.{Use, sub_form};
 ghost use Rattle.ll_bank.specs.Nodes.{term_tree, form_tree, term_trees, HasForm, HasTerm, AllInTerms, ShowsForm, ShowsTerm, Extends};
 ghost use Rattle.ll_sequent.specs.Starting.{values as values_of};
 ghost use Rattle.ll_sequent.specs.Substituted.{AreTermImages, AreFormImages};
@@ -70,8 +70,7 @@ fn form_image(
         FormNode::Exists(f) => bank.form(FormNode::Exists(forms[f.0])),
         FormNode::Use(module, args, f) => {
             let args = Vec::from_slice(alloc, args)?;
-            let images = term_images(alloc, bank, &args, values, terms)?;
-            bank.form(FormNode::Use(module, &images, forms[f.0]))
+            load_image(alloc, bank, module, &args, forms[f.0], values, terms)
         }
         FormNode::Is(left, right) => {
             let (left, right) = two_images(alloc, bank, left, right, values, terms)?;
@@ -86,6 +85,29 @@ fn form_image(
             bank.form(FormNode::Most(left, right))
         }
     }
+}
+
+/// A module load with the images of its arguments, over the image of its goal.
+fn load_image(
+    alloc: Global,
+    bank: &mut Bank,
+    number: u32,
+    args: &[At],
+    body: FormAt,
+    values: &[At],
+    terms: &mut Vec<At>,
+) -> Result<FormAt, OutOfMemory>
+    requires args { AllInTerms bank.old args.now }
+    requires body { HasForm bank.old body.0 }
+    requires values { AllInTerms bank.old values.now }
+    requires terms { AreTermImages bank.old (term_trees bank.old values.now) terms.old.items }
+    ensures shows { IfOk result (λ image. ShowsForm bank.new image.0
+        (Use number (map (sub (values_of (term_trees bank.old values.now))) (term_trees bank.old args.now)) (form_tree bank.old body.0))) }
+    ensures terms { OnOk result (AreTermImages bank.new (term_trees bank.old values.now) terms.new.items) }
+    ensures keeps { Extends bank.old bank.new }
+{
+    let images = term_images(alloc, bank, args, values, terms)?;
+    bank.form(FormNode::Use(number, &images, body))
 }
 
 /// The images of two terms.

@@ -1,14 +1,16 @@
 //! The sequent of a query.
-ghost use Rattle.std.specs.Prelude.{◌≡◌, ◌<◌, ◌^◌, List, true, map, length, All, IfOk};
+ghost use Rattle.std.specs.Prelude.{◌≡◌, ◌<◌, ◌^◌, List, true, map, length, reverse, All, IfOk};
 ghost use Rattle.std.specs.List.{list_all};
 ghost use Rattle.ll_bank.specs.Term.{is_closed};
-ghost use Rattle.ll_bank.specs.Nodes.{form_tree, term_trees, HasForm, AllInTerms, Extends};
+ghost use Rattle.ll_bank.specs.Form.{sub_form};
+ghost use Rattle.ll_bank.specs.Nodes.{form_tree, term_trees, HasForm, AllInTerms, ShowsForm, Extends};
+ghost use Rattle.ll_laws.specs.declared.Kind.TheVariants.{Linear, Unbounded};
 ghost use Rattle.ll_laws.specs.Module.{ModuleTree};
 ghost use Rattle.ll_laws.specs.Shown.{clause_tree, HasClauses};
 ghost use Rattle.ll_laws.specs.ShownLines.{line_of, HasLines};
 ghost use Rattle.ll_laws.specs.Verdict.{same_kind};
-ghost use Rattle.ll_sequent.specs.Copied.{IsLineBelow, copied_line};
-ghost use Rattle.ll_sequent.specs.Starting.{AreSound, IsRoot, of_kind as of_kind_of};
+ghost use Rattle.ll_sequent.specs.Copied.{AreBelow, IsLineBelow, copied_line, copied_places};
+ghost use Rattle.ll_sequent.specs.Starting.{AreSound, IsRoot, of_kind as of_kind_of, values as values_of};
 
 use crate::copies::{copies_at, copies_of};
 use crate::sequents::{Resource, Sequent, Start};
@@ -43,13 +45,11 @@ pub(crate) fn started(
 {
     let mut own = bank.image(bank.size())?;
     let copies = copies_of(alloc, terms, asked, rules, &mut own)?;
-    let values = copies_at(alloc, &copies, asked)?;
-    let goal = substituted(alloc, &mut own, goal, &values)?;
-    let mut free = of_kind(alloc, clauses, Kind::Unbounded)?;
-    free.reverse();
+    let goal = asked_goal(alloc, &mut own, &copies, asked, goal)?;
+    let (free, bounded) = program_of(alloc, clauses)?;
     let root = Sequent {
         free: free.len(),
-        bounded: of_kind(alloc, clauses, Kind::Linear)?,
+        bounded,
         goal,
     };
     Ok(Start {
@@ -58,6 +58,40 @@ pub(crate) fn started(
         free,
         root,
     })
+}
+
+/// The query with copies of terms in place of its variables.
+fn asked_goal(
+    alloc: Global,
+    bank: &mut Bank,
+    copies: &[At],
+    asked: &[At],
+    goal: FormAt,
+) -> Result<FormAt, OutOfMemory>
+    requires goal { HasForm bank.old goal.0 }
+    requires copies { AllInTerms bank.old copies.now }
+    requires asked { AreBelow (length copies.now) asked.now }
+    ensures shows { IfOk result (λ image. ShowsForm bank.new image.0
+        (sub_form (values_of (term_trees bank.old (copied_places copies.now asked.now))) (form_tree bank.old goal.0))) }
+    ensures keeps { Extends bank.old bank.new }
+{
+    let values = copies_at(alloc, copies, asked)?;
+    substituted(alloc, bank, goal, &values)
+}
+
+/// The program's clauses: the unbounded ones, of which the first stands last, and the bounded ones.
+fn program_of(
+    alloc: Global,
+    clauses: &[Clause],
+) -> Result<(Vec<Resource>, Vec<Resource>), OutOfMemory>
+    requires { length clauses.now < 2 ^ 32 }
+    ensures unbounded { IfOk result (λ found. found.0.items ≡ reverse (of_kind_of Unbounded 0 clauses.now)) }
+    ensures bounded { IfOk result (λ found. found.1.items ≡ of_kind_of Linear 0 clauses.now) }
+{
+    let mut unbounded = of_kind(alloc, clauses, Kind::Unbounded)?;
+    unbounded.reverse();
+    let bounded = of_kind(alloc, clauses, Kind::Linear)?;
+    Ok((unbounded, bounded))
 }
 
 /// The clauses of one kind, with their places in the text as labels.

@@ -1,33 +1,35 @@
-use Rattle.std.proofs.Common.{List, ap, ◌∙◌, reverse, length, subst, sym, rules}
+use Rattle.std.proofs.Common.{List, ap, ◌∙◌, length, subst, sym, rules}
 use Rattle.ll_bank.specs.declared.At.{At}
 use Rattle.ll_bank.specs.Form.{sub_form}
 use Rattle.ll_bank.specs.Nodes.{form_tree, term_trees, AllInTerms, ShowsForm, Extends}
-use Rattle.ll_bank.proofs.CallerLemmas.{Extends-trans, form_tree-extends}
+use Rattle.ll_bank.proofs.CallerLemmas.{Extends-trans, HasForm-extends, form_tree-extends}
 use Rattle.ll_sequent.specs.Copied.{AreBelow, copied_places}
 use Rattle.ll_sequent.specs.Starting.{values}
-use Rattle.ll_sequent.proofs.CopyLemmas.{copies_stay, copies_inside, copied_inside, copied_trees, copied_lines}
+use Rattle.ll_sequent.proofs.CopyLemmas.{copies_stay, copies_inside, copied_trees, copied_lines}
 use Rattle.ll_sequent.proofs.StartLemmas.{image_keeps, is_root}
 use Rattle.ll_sequent.proofs.start.started.Goals as goal
 
-pub copies_at-requires : goal.copies_at-requires
-copies_at-requires c =
-    let P : List At → Type 0 = λ cs. AreBelow (length cs) c.args.asked.now in subst P (sym c.deref.ensures.value) c.in_ok-copies.ensures.asked
+pub asked_goal-requires-clause-goal : goal.asked_goal-requires-clause-goal
+asked_goal-requires-clause-goal c =
+    HasForm-extends (Extends-trans (image_keeps c.args.bank.now c.in_ok-own.own c.size.result c.size.ensures.is c.in_ok-own.ensures)
+    c.in_ok-copies.ensures.keeps) c.args.goal.0 c.requires.goal
 
-pub substituted-requires-clause-values : goal.substituted-requires-clause-values
-substituted-requires-clause-values c =
+pub asked_goal-requires-clause-copies : goal.asked_goal-requires-clause-copies
+asked_goal-requires-clause-copies c =
     let P : List At → Type 0 = AllInTerms c.copies_of.new.bank in
-    let e = c.deref-2.ensures.value ∙ (c.in_ok-values.ensures ∙ ap (λ cs. copied_places cs c.args.asked.now) c.deref.ensures.value) in
-    subst P (sym e) (copied_inside c.copies_of.new.bank c.in_ok-copies.copies.items c.args.asked.now
-    (copies_inside c.args.terms.now c.copies_of.new.bank c.in_ok-copies.copies.items c.in_ok-copies.ensures.copies) c.in_ok-copies.ensures.asked)
+    subst P (sym c.deref.ensures.value) (copies_inside c.args.terms.now c.copies_of.new.bank c.in_ok-copies.copies.items c.in_ok-copies.ensures.copies)
+
+pub asked_goal-requires-clause-asked : goal.asked_goal-requires-clause-asked
+asked_goal-requires-clause-asked c =
+    let P : List At → Type 0 = λ cs. AreBelow (length cs) c.args.asked.now in subst P (sym c.deref.ensures.value) c.in_ok-copies.ensures.asked
 
 pub returns-clause-root : goal.returns-clause-root
 returns-clause-root c =
     let first : Extends c.args.bank.now c.copies_of.new.bank =
     Extends-trans (image_keeps c.args.bank.now c.in_ok-own.own c.size.result c.size.ensures.is c.in_ok-own.ensures) c.in_ok-copies.ensures.keeps in
-    let e = c.deref-2.ensures.value ∙ (c.in_ok-values.ensures ∙ ap (λ cs. copied_places cs c.args.asked.now) c.deref.ensures.value) in
-    let ts = ap (term_trees c.copies_of.new.bank) e ∙ copied_trees c.args.terms.now c.copies_of.new.bank c.in_ok-copies.copies.items
-    c.in_ok-copies.ensures.copies c.args.asked.now c.in_ok-copies.ensures.asked in
-    let shows : ShowsForm c.substituted.new.bank c.in_ok-goal.goal.0
+    let ts = ap (λ cs. term_trees c.copies_of.new.bank (copied_places cs c.args.asked.now)) c.deref.ensures.value ∙ copied_trees c.args.terms.now
+    c.copies_of.new.bank c.in_ok-copies.copies.items c.in_ok-copies.ensures.copies c.args.asked.now c.in_ok-copies.ensures.asked in
+    let shows : ShowsForm c.asked_goal.new.bank c.in_ok-goal.goal.0
     (sub_form (values (term_trees c.args.terms.now c.args.asked.now)) (form_tree c.args.bank.now c.args.goal.0)) =
     record {
       inside = c.in_ok-goal.ensures.shows.inside;
@@ -35,14 +37,12 @@ returns-clause-root c =
     } in
     is_root c.args.bank.now c.args.clauses.now c.args.goal.0 (term_trees c.args.terms.now c.args.asked.now)
     (record {
-      bank = c.substituted.new.bank;
+      bank = c.asked_goal.new.bank;
       copies = c.in_ok-copies.copies;
-      free = c.reverse.new.self;
-      root =
-          record { free = c.len.result; bounded = c.in_ok-of_kind.field-0; goal = c.in_ok-goal.goal };
+      free = c.in_ok-free.free;
+      root = record { free = c.len.result; bounded = c.in_ok-free.bounded; goal = c.in_ok-goal.goal };
     })
-    (Extends-trans first c.in_ok-goal.ensures.keeps) c.requires.clauses c.requires.closed shows
-    (c.reverse.ensures.items ∙ ap (λ xs. reverse xs) c.in_ok-free.ensures) c.in_ok-of_kind.ensures
+    (Extends-trans first c.in_ok-goal.ensures.keeps) c.requires.clauses c.requires.closed shows c.in_ok-free.ensures.unbounded c.in_ok-free.ensures.bounded
     (let l = c.len.ensures in search rules)
 
 pub returns-clause-keeps : goal.returns-clause-keeps
@@ -52,11 +52,14 @@ returns-clause-keeps c =
 
 pub returns-clause-inside : goal.returns-clause-inside
 returns-clause-inside c =
-    copies_inside c.args.terms.now c.substituted.new.bank c.in_ok-copies.copies.items
+    copies_inside c.args.terms.now c.asked_goal.new.bank c.in_ok-copies.copies.items
     (copies_stay c.in_ok-goal.ensures.keeps c.args.terms.now c.in_ok-copies.copies.items c.in_ok-copies.ensures.copies)
+
+pub returns-clause-reach : goal.returns-clause-reach
+returns-clause-reach c = c.in_ok-copies.ensures.lines
 
 pub returns-clause-lines : goal.returns-clause-lines
 returns-clause-lines c =
-    copied_lines c.args.terms.now c.substituted.new.bank c.in_ok-copies.copies.items
+    copied_lines c.args.terms.now c.asked_goal.new.bank c.in_ok-copies.copies.items
     (copies_stay c.in_ok-goal.ensures.keeps c.args.terms.now c.in_ok-copies.copies.items c.in_ok-copies.ensures.copies) c.args.rules.now
     c.in_ok-copies.ensures.lines

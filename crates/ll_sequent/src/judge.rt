@@ -13,8 +13,8 @@ ghost use Rattle.ll_sequent.specs.Told.{Tells};
 
 use crate::Verdict;
 use crate::rules::step;
-use crate::sequents::{Sequent, Start, Step};
-use ll_bank::{Names, OutOfMemory};
+use crate::sequents::{Resource, Sequent, Start, Step};
+use ll_bank::{At, Bank, Names, OutOfMemory};
 use ll_laws::{Module, Rule};
 use std::alloc::Global;
 
@@ -41,6 +41,31 @@ pub(crate) fn judge(
         mut free,
         root,
     } = start;
+    judge_nodes(
+        alloc, &mut bank, names, modules, &copies, rules, &mut free, root,
+    )
+}
+
+/// Judges the nodes in turn, each by the next of the sequents that wait.
+fn judge_nodes(
+    alloc: Global,
+    bank: &mut Bank,
+    names: &Names,
+    modules: &[Module],
+    copies: &[At],
+    rules: &[Rule],
+    free: &mut Vec<Resource>,
+    root: Sequent,
+) -> Result<Verdict, OutOfMemory>
+    requires has { HasModules bank.old modules.now }
+    requires modules { AreModulesSound (map (module_tree bank.old) modules.now) }
+    requires holds { Holds (map (module_tree bank.old) modules.now) bank.old free.old.items root }
+    requires inside { AllInTerms bank.old copies.now }
+    requires reach { All (IsLineBelow (length copies.now)) rules.now }
+    requires whole { list_all is_line (map (copied_line bank.old copies.now) rules.now) ≡ true }
+    ensures { IfOk result (λ verdict. (x : Tree) → trees_of (map (copied_line bank.old copies.now) rules.now) ≡ Some (x ∷ [])
+        → Tells verdict (fault_at (operators_of names.now) (map (module_tree bank.old) modules.now) x (sequent_in bank.old free.old.items root))) }
+{
     let mut waiting = Vec::new(alloc);
     waiting.push(root)?;
     for node in 0..rules.len() {
@@ -50,12 +75,12 @@ pub(crate) fn judge(
         free.truncate(sequent.free);
         match step(
             alloc,
-            &mut bank,
+            bank,
             names,
             modules,
-            &copies,
+            copies,
             &rules[node],
-            &mut free,
+            free,
             sequent,
         )? {
             Step::Refused(reason) => {

@@ -8,16 +8,16 @@ use Rattle.ll_sequent.specs.Copied.{copied_line}
 use Rattle.ll_sequent.specs.Judging.{beside, fault_at}
 use Rattle.ll_sequent.specs.Sequents.{sequent_in, waiting_in, AreHeld, AreWaiting}
 use Rattle.ll_sequent.specs.Steps.{Owes}
-use Rattle.ll_sequent.proofs.judge.judge.Given as goal
+use Rattle.ll_sequent.proofs.judge.judge_nodes.Given as goal
 
 abbrev pub invariant-loop-node : goal.invariant-loop-node
 invariant-loop-node l =
     let ops = operators_of l.names in
-    let modules = map (module_tree l.fn.start.bank) l.modules in
-    let lines = map (copied_line l.fn.start.bank l.fn.start.copies.items) l.rules in
-    let root = sequent_in l.fn.start.bank l.fn.start.free.items l.fn.start.root in
+    let modules = map (module_tree l.fn.bank) l.modules in
+    let lines = map (copied_line l.fn.bank l.copies) l.rules in
+    let root = sequent_in l.fn.bank l.fn.free.items l.fn.root in
     record {
-      keeps : Extends l.fn.start.bank l.bank;
+      keeps : Extends l.fn.bank l.bank;
       waiting : AreWaiting modules l.bank (length l.free.items) l.waiting.items;
       free : AreHeld modules l.bank l.free.items;
       owes : (x : Tree) → trees_of lines ≡ Some (x ∷ []) → Owes (beside ops modules) (fault_at ops modules x root) (suc l.node) (drop l.node lines)

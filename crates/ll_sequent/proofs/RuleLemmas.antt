@@ -1,11 +1,12 @@
 -- What each rule makes of its sequent, by the view of its goal.
 use Rattle.std.proofs.Common.{◌≡◌, ℕ, suc, refl, ap, sym, ◌∙◌, subst, Bool, true, false, cond, List, [], ◌∷◌, ◌++◌, map, take, reverse, length, ◌<◌, ◌≤◌, arith}
-use Rattle.std.specs.Prelude.{◌&&◌, ◌||◌, not, filter, nat_eq}
+use Rattle.std.specs.Prelude.{◌&&◌, ◌||◌, not, filter, nat_eq, Result, IfOk}
 use Rattle.std.specs.List.{list_any, list_all}
 use Rattle.std.proofs.lemmas.List.Folds.{list_any-append}
 use Rattle.std.proofs.lemmas.Bool.{and_parts}
 use Rattle.std.proofs.lemmas.List.{append-nil, map-append, reverse-append, take_all}
 use Rattle.std.proofs.lemmas.List.Elements.{All-nil, All-cons, All-push}
+use Rattle.ll_lists.proofs.CallerLemmas.{IfOk-each}
 use Rattle.ll_bank.specs.declared.FormAt.{FormAt}
 use Rattle.ll_bank.specs.declared.FormNode.{FormNode}
 use Rattle.ll_bank.specs.declared.FormNode.TheVariants.{Tensor as TensorView, Lolli as LolliView, Imp as ImpView}
@@ -197,6 +198,17 @@ pub makes_step_by : (ops : Operators) (bank : Nodes) (line : Line) (s : Sequent)
 makes_step_by ops bank line s step free m modules h =
     let P : ℕ → Type 0 = λ n. IsLeft modules bank n step in
     record { made = m.is modules free; left = subst P h.all (m.left modules h.sequent); free = h.unbounded; adds = none_added free }
+
+-- the same of a rule that may run out of memory
+pub made_step : {E : Type 0} (bank : Nodes) (line : Line) (s : Sequent) (r : Result Step E) (free : List Resource) → IfOk r (Makes bank line s)
+    → (ops : Operators) (modules : List ModuleTree) → Holds modules bank free s
+    → IfOk r (IsStep ops modules line (sequent_in bank free s) bank free free)
+made_step bank line s r free m ops modules h = IfOk-each r _ _ (λ step made. makes_step bank line s step free made ops modules h) m
+
+pub made_step_by : {E : Type 0} (ops : Operators) (bank : Nodes) (line : Line) (s : Sequent) (r : Result Step E) (free : List Resource)
+    → IfOk r (MakesBy ops bank line s) → (modules : List ModuleTree) → Holds modules bank free s
+    → IfOk r (IsStep ops modules line (sequent_in bank free s) bank free free)
+made_step_by ops bank line s r free m modules h = IfOk-each r _ _ (λ step made. makes_step_by ops bank line s step free made modules h) m
 
 -- a node that leaves one sequent
 pub one_steps : (ops : Operators) (modules : List ModuleTree) (line : Line) (q : SequentTree) (bank : Nodes) (before after : List Resource) (p : Sequent)

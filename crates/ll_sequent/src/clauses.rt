@@ -77,6 +77,5 @@ pub(crate) fn clause(
         return Ok(Step::Refused(OTHER_PREMISES));
     }
     let goals = goals_of(alloc, bank, &opened.premises)?;
-    let step = dealt(alloc, parts, &goals, sequent.free, bounded)?;
-    Ok(step)
+    dealt(alloc, parts, &goals, sequent.free, bounded)
 }

@@ -43,51 +43,20 @@ pub(crate) fn step(
     match rule {
         Rule::One => Ok(one(alloc, bank, sequent)),
         Rule::Erase => Ok(erase(alloc, bank, sequent)),
-        Rule::Tensor(left, right) => {
-            let step = tensor(alloc, bank, left, right, sequent)?;
-            Ok(step)
-        }
-        Rule::With => {
-            let step = with(alloc, bank, sequent)?;
-            Ok(step)
-        }
-        Rule::Left => {
-            let step = left(alloc, bank, sequent)?;
-            Ok(step)
-        }
-        Rule::Right => {
-            let step = right(alloc, bank, sequent)?;
-            Ok(step)
-        }
-        Rule::Bang => {
-            let step = bang(alloc, bank, sequent)?;
-            Ok(step)
-        }
-        Rule::Lolli(label) => {
-            let step = lolli(alloc, bank, free, *label, sequent)?;
-            Ok(step)
-        }
-        Rule::Imp(label) => {
-            let step = imp(alloc, bank, free, *label, sequent)?;
-            Ok(step)
-        }
-        Rule::Forall(constant) => {
-            let step = forall(alloc, bank, *constant, free, sequent)?;
-            Ok(step)
-        }
+        Rule::Tensor(left, right) => tensor(alloc, bank, left, right, sequent),
+        Rule::With => with(alloc, bank, sequent),
+        Rule::Left => left(alloc, bank, sequent),
+        Rule::Right => right(alloc, bank, sequent),
+        Rule::Bang => bang(alloc, bank, sequent),
+        Rule::Lolli(label) => lolli(alloc, bank, free, *label, sequent),
+        Rule::Imp(label) => imp(alloc, bank, free, *label, sequent),
+        Rule::Forall(constant) => forall(alloc, bank, *constant, free, sequent),
         Rule::Exists(term) => {
             let value = copy_at(copies, *term);
-            let step = exists(alloc, bank, value, sequent)?;
-            Ok(step)
+            exists(alloc, bank, value, sequent)
         }
-        Rule::Use => {
-            let step = load(alloc, bank, modules, sequent)?;
-            Ok(step)
-        }
-        Rule::Num => {
-            let step = num(alloc, bank, names, sequent)?;
-            Ok(step)
-        }
+        Rule::Use => load(alloc, bank, modules, sequent),
+        Rule::Num => num(alloc, bank, names, sequent),
         Rule::Clause {
             label,
             leaf,
@@ -95,10 +64,9 @@ pub(crate) fn step(
             parts,
         } => {
             let values = copies_at(alloc, copies, terms)?;
-            let step = clause(
+            clause(
                 alloc, bank, modules, *label, *leaf, &values, parts, free, sequent,
-            )?;
-            Ok(step)
+            )
         }
     }
 }

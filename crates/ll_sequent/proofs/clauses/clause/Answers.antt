@@ -1,4 +1,5 @@
 use Rattle.std.proofs.Common.{◌∙◌, refl, ap, sym, subst, true, List, [], map, Some}
+use Rattle.ll_lists.proofs.CallerLemmas.{IfOk-each}
 use Rattle.ll_bank.specs.declared.FormAt.{FormAt}
 use Rattle.ll_bank.specs.Nodes.{form_tree, term_tree, term_trees}
 use Rattle.ll_bank.proofs.CallerLemmas.{Extends-refl, Extends-trans, HasForm-extends, form_tree-extends}
@@ -102,14 +103,12 @@ dealt-requires c =
     (ap (form_trees c.goals_of.new.bank) c.deref-3.ensures.value
     ∙ (c.in_ok-goals.ensures.shows ∙ ap (λ xs. map premise_goal (map (needed_in c.open_leaf.new.bank) xs)) c.deref-2.ensures.value))
 
-pub returns-in_err-step-clause-keeps : goal.returns-in_err-step-clause-keeps
-returns-in_err-step-clause-keeps c = (Extends-trans c.open_leaf.ensures.keeps c.in_ok-goals.ensures.keeps)
-
 pub returns-clause-is : goal.returns-clause-is
 returns-clause-is c =
     let h = (c.in-Some.ensures.held (map (module_tree c.args.bank.now) c.args.modules.now) c.args.bank.now c.requires.holds.unbounded
     c.requires.holds.sequent.bounded) in
-    λ ops. clause_dealt ops (map (module_tree c.args.bank.now) c.args.modules.now) c.args.bank.now c.args.free.now c.args.sequent c.requires.holds c.args.label
+    IfOk-each c.dealt.result _ _ (λ step is ops. clause_dealt ops (map (module_tree c.args.bank.now) c.args.modules.now) c.args.bank.now c.args.free.now
+    c.args.sequent c.requires.holds c.args.label
     c.args.leaf (term_trees c.args.bank.now c.args.values.now) (map part_line c.args.parts.now) c.in-Atom.atom c.in-Atom.ensures.shown (Some c.in-Some.form)
     c.take_clause.new.bounded.items (c.in-Some.ensures.found c.args.bank.now) c.in-Some.form refl
     (among _ c.args.leaf c.in_ok-leaves_left.field-0 (sym c.is_some.ensures ∙ c.if-is_some.false) c.in_ok-leaves_left.ensures)
@@ -125,12 +124,12 @@ returns-clause-is c =
     (Extends-trans c.open_leaf.ensures.keeps c.in_ok-goals.ensures.keeps) h.0 h.1 c.requires.closed c.deref-3.result.now (let P : List FormAt
     → Type 0 = AllInForms c.goals_of.new.bank in subst P (sym c.deref-3.ensures.value) c.in_ok-goals.ensures.inside)
     (ap (form_trees c.goals_of.new.bank) c.deref-3.ensures.value
-    ∙ (c.in_ok-goals.ensures.shows ∙ ap (λ xs. map premise_goal (map (needed_in c.open_leaf.new.bank) xs)) c.deref-2.ensures.value)) c.in_ok-step.step
-    (c.in_ok-step.ensures c.goals_of.new.bank (map (needed_in c.open_leaf.new.bank) c.in-Some-2.opened.premises.items)
+    ∙ (c.in_ok-goals.ensures.shows ∙ ap (λ xs. map premise_goal (map (needed_in c.open_leaf.new.bank) xs)) c.deref-2.ensures.value)) step
+    (is c.goals_of.new.bank (map (needed_in c.open_leaf.new.bank) c.in-Some-2.opened.premises.items)
     (ap (form_trees c.goals_of.new.bank) c.deref-3.ensures.value
     ∙ (c.in_ok-goals.ensures.shows ∙ ap (λ xs. map premise_goal (map (needed_in c.open_leaf.new.bank) xs)) c.deref-2.ensures.value))
     (ap (λ xs. parts_fit (blank (map part_line c.args.parts.now)) (map (needed_in c.open_leaf.new.bank) xs)) (sym c.deref.ensures.value)
-    ∙ (sym (c.fit.ensures c.open_leaf.new.bank) ∙ c.if-not-fit.false)))
+    ∙ (sym (c.fit.ensures c.open_leaf.new.bank) ∙ c.if-not-fit.false)))) c.dealt.ensures
 
 pub returns-clause-keeps : goal.returns-clause-keeps
 returns-clause-keeps c = (Extends-trans c.open_leaf.ensures.keeps c.in_ok-goals.ensures.keeps)

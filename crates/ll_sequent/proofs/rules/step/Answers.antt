@@ -1,4 +1,6 @@
 use Rattle.std.proofs.Common.{map, subst, List, sym, ap, ◌∙◌}
+use Rattle.std.specs.Prelude.{IfOk}
+use Rattle.ll_lists.proofs.CallerLemmas.{IfOk-each}
 use Rattle.ll_bank.specs.declared.At.{At}
 use Rattle.ll_bank.specs.Nodes.{term_tree, AllInTerms}
 use Rattle.ll_bank.proofs.CallerLemmas.{Extends-refl}
@@ -9,7 +11,7 @@ use Rattle.ll_sequent.specs.Copied.{copied_places}
 use Rattle.ll_sequent.specs.Judging.{IsStep}
 use Rattle.ll_sequent.proofs.CopyLemmas.{copied_inside}
 use Rattle.ll_sequent.specs.Sequents.{sequent_in}
-use Rattle.ll_sequent.proofs.RuleLemmas.{makes_step, makes_step_by}
+use Rattle.ll_sequent.proofs.RuleLemmas.{makes_step, made_step, made_step_by}
 use Rattle.ll_sequent.specs.declared.sequents.Resource.{Resource}
 use Rattle.ll_sequent.specs.Constants.{forms_of, AllInForms}
 use Rattle.ll_sequent.proofs.ForallLemmas.{forms_held}
@@ -29,81 +31,65 @@ returns-in-Erase-clause-is c = rw c.in-Erase.is (makes_step c.args.bank.now Eras
 pub returns-in-Erase-clause-keeps : goal.returns-in-Erase-clause-keeps
 returns-in-Erase-clause-keeps c = Extends-refl c.args.bank.now
 
-pub returns-in_err-step-in-Tensor-clause-keeps : goal.returns-in_err-step-in-Tensor-clause-keeps
-returns-in_err-step-in-Tensor-clause-keeps c = Extends-refl c.args.bank.now
+pub returns-in-With-clause-is : goal.returns-in-With-clause-is
+returns-in-With-clause-is c = rw c.in-With.is (made_step c.args.bank.now WithLine c.args.sequent c.with.result c.args.free.now.items c.with.ensures
+    (operators_of c.args.names.now) (map (module_tree c.args.bank.now) c.args.modules.now) c.requires.holds)
 
-pub returns-in_ok-step-in-Tensor-clause-keeps : goal.returns-in_ok-step-in-Tensor-clause-keeps
-returns-in_ok-step-in-Tensor-clause-keeps c = Extends-refl c.args.bank.now
+pub returns-in-With-clause-keeps : goal.returns-in-With-clause-keeps
+returns-in-With-clause-keeps c = Extends-refl c.args.bank.now
 
-pub returns-in_err-step-in-With-clause-keeps : goal.returns-in_err-step-in-With-clause-keeps
-returns-in_err-step-in-With-clause-keeps c = Extends-refl c.args.bank.now
+pub returns-in-Left-clause-is : goal.returns-in-Left-clause-is
+returns-in-Left-clause-is c = rw c.in-Left.is (made_step c.args.bank.now LeftLine c.args.sequent c.left.result c.args.free.now.items c.left.ensures
+    (operators_of c.args.names.now) (map (module_tree c.args.bank.now) c.args.modules.now) c.requires.holds)
 
-pub returns-in_ok-step-in-With-clause-keeps : goal.returns-in_ok-step-in-With-clause-keeps
-returns-in_ok-step-in-With-clause-keeps c = Extends-refl c.args.bank.now
+pub returns-in-Left-clause-keeps : goal.returns-in-Left-clause-keeps
+returns-in-Left-clause-keeps c = Extends-refl c.args.bank.now
 
-pub returns-in_err-step-in-Left-clause-keeps : goal.returns-in_err-step-in-Left-clause-keeps
-returns-in_err-step-in-Left-clause-keeps c = Extends-refl c.args.bank.now
+pub returns-in-Right-clause-is : goal.returns-in-Right-clause-is
+returns-in-Right-clause-is c = rw c.in-Right.is (made_step c.args.bank.now RightLine c.args.sequent c.right.result c.args.free.now.items c.right.ensures
+    (operators_of c.args.names.now) (map (module_tree c.args.bank.now) c.args.modules.now) c.requires.holds)
 
-pub returns-in_ok-step-in-Left-clause-keeps : goal.returns-in_ok-step-in-Left-clause-keeps
-returns-in_ok-step-in-Left-clause-keeps c = Extends-refl c.args.bank.now
+pub returns-in-Right-clause-keeps : goal.returns-in-Right-clause-keeps
+returns-in-Right-clause-keeps c = Extends-refl c.args.bank.now
 
-pub returns-in_err-step-in-Right-clause-keeps : goal.returns-in_err-step-in-Right-clause-keeps
-returns-in_err-step-in-Right-clause-keeps c = Extends-refl c.args.bank.now
+pub returns-in-Bang-clause-is : goal.returns-in-Bang-clause-is
+returns-in-Bang-clause-is c = rw c.in-Bang.is (made_step c.args.bank.now BangLine c.args.sequent c.bang.result c.args.free.now.items c.bang.ensures
+    (operators_of c.args.names.now) (map (module_tree c.args.bank.now) c.args.modules.now) c.requires.holds)
 
-pub returns-in_ok-step-in-Right-clause-keeps : goal.returns-in_ok-step-in-Right-clause-keeps
-returns-in_ok-step-in-Right-clause-keeps c = Extends-refl c.args.bank.now
+pub returns-in-Bang-clause-keeps : goal.returns-in-Bang-clause-keeps
+returns-in-Bang-clause-keeps c = Extends-refl c.args.bank.now
 
-pub returns-in_err-step-in-Bang-clause-keeps : goal.returns-in_err-step-in-Bang-clause-keeps
-returns-in_err-step-in-Bang-clause-keeps c = Extends-refl c.args.bank.now
+pub returns-in-Tensor-clause-keeps : goal.returns-in-Tensor-clause-keeps
+returns-in-Tensor-clause-keeps c = Extends-refl c.args.bank.now
 
-pub returns-in_ok-step-in-Bang-clause-keeps : goal.returns-in_ok-step-in-Bang-clause-keeps
-returns-in_ok-step-in-Bang-clause-keeps c = Extends-refl c.args.bank.now
+pub returns-in-Lolli-clause-keeps : goal.returns-in-Lolli-clause-keeps
+returns-in-Lolli-clause-keeps c = Extends-refl c.args.bank.now
 
-pub returns-in_err-step-in-Lolli-clause-keeps : goal.returns-in_err-step-in-Lolli-clause-keeps
-returns-in_err-step-in-Lolli-clause-keeps c = Extends-refl c.args.bank.now
+pub returns-in-Imp-clause-keeps : goal.returns-in-Imp-clause-keeps
+returns-in-Imp-clause-keeps c = Extends-refl c.args.bank.now
 
-pub returns-in_ok-step-in-Lolli-clause-keeps : goal.returns-in_ok-step-in-Lolli-clause-keeps
-returns-in_ok-step-in-Lolli-clause-keeps c = Extends-refl c.args.bank.now
+pub returns-in-Num-clause-keeps : goal.returns-in-Num-clause-keeps
+returns-in-Num-clause-keeps c = Extends-refl c.args.bank.now
 
-pub returns-in_err-step-in-Imp-clause-keeps : goal.returns-in_err-step-in-Imp-clause-keeps
-returns-in_err-step-in-Imp-clause-keeps c = Extends-refl c.args.bank.now
+pub returns-in_err-values-in-Clause-clause-keeps : goal.returns-in_err-values-in-Clause-clause-keeps
+returns-in_err-values-in-Clause-clause-keeps c = Extends-refl c.args.bank.now
 
-pub returns-in_ok-step-in-Imp-clause-keeps : goal.returns-in_ok-step-in-Imp-clause-keeps
-returns-in_ok-step-in-Imp-clause-keeps c = Extends-refl c.args.bank.now
-
-pub returns-in_ok-step-in-With-clause-is : goal.returns-in_ok-step-in-With-clause-is
-returns-in_ok-step-in-With-clause-is c = rw c.in-With.is (makes_step c.args.bank.now WithLine c.args.sequent c.in_ok-step-in-With.step c.args.free.now.items
-    c.in_ok-step-in-With.ensures (operators_of c.args.names.now) (map (module_tree c.args.bank.now) c.args.modules.now) c.requires.holds)
-
-pub returns-in_ok-step-in-Left-clause-is : goal.returns-in_ok-step-in-Left-clause-is
-returns-in_ok-step-in-Left-clause-is c = rw c.in-Left.is (makes_step c.args.bank.now LeftLine c.args.sequent c.in_ok-step-in-Left.step c.args.free.now.items
-    c.in_ok-step-in-Left.ensures (operators_of c.args.names.now) (map (module_tree c.args.bank.now) c.args.modules.now) c.requires.holds)
-
-pub returns-in_ok-step-in-Right-clause-is : goal.returns-in_ok-step-in-Right-clause-is
-returns-in_ok-step-in-Right-clause-is c = rw c.in-Right.is (makes_step c.args.bank.now RightLine c.args.sequent c.in_ok-step-in-Right.step c.args.free.now.items
-    c.in_ok-step-in-Right.ensures (operators_of c.args.names.now) (map (module_tree c.args.bank.now) c.args.modules.now) c.requires.holds)
-
-pub returns-in_ok-step-in-Bang-clause-is : goal.returns-in_ok-step-in-Bang-clause-is
-returns-in_ok-step-in-Bang-clause-is c = rw c.in-Bang.is (makes_step c.args.bank.now BangLine c.args.sequent c.in_ok-step-in-Bang.step c.args.free.now.items
-    c.in_ok-step-in-Bang.ensures (operators_of c.args.names.now) (map (module_tree c.args.bank.now) c.args.modules.now) c.requires.holds)
-
-pub returns-in_ok-step-in-Tensor-clause-is : goal.returns-in_ok-step-in-Tensor-clause-is
-returns-in_ok-step-in-Tensor-clause-is c =
-    let P : Line → Type 0 = λ l. IsStep (operators_of c.args.names.now) (map (module_tree c.args.bank.now) c.args.modules.now) l
-    (sequent_in c.args.bank.now c.args.free.now.items c.args.sequent) c.args.bank.now c.args.free.now.items c.args.free.now.items
-    c.in_ok-step-in-Tensor.step in
+pub returns-in-Tensor-clause-is : goal.returns-in-Tensor-clause-is
+returns-in-Tensor-clause-is c =
+    let P : Line → Type 0 = λ l. IfOk c.tensor.result (IsStep (operators_of c.args.names.now) (map (module_tree c.args.bank.now) c.args.modules.now) l
+    (sequent_in c.args.bank.now c.args.free.now.items c.args.sequent) c.args.bank.now c.args.free.now.items c.args.free.now.items) in
     rw c.in-Tensor.is
     (subst P (λ i. TensorLine (c.deref.ensures.value i) (c.deref-in-Tensor.ensures.value i))
-    (makes_step c.args.bank.now (TensorLine c.deref.result.now c.deref-in-Tensor.result.now) c.args.sequent c.in_ok-step-in-Tensor.step c.args.free.now.items
-    c.in_ok-step-in-Tensor.ensures (operators_of c.args.names.now) (map (module_tree c.args.bank.now) c.args.modules.now) c.requires.holds))
+    (made_step c.args.bank.now (TensorLine c.deref.result.now c.deref-in-Tensor.result.now) c.args.sequent c.tensor.result c.args.free.now.items
+    c.tensor.ensures (operators_of c.args.names.now) (map (module_tree c.args.bank.now) c.args.modules.now) c.requires.holds))
 
-pub returns-in_ok-step-in-Exists-clause-is : goal.returns-in_ok-step-in-Exists-clause-is
-returns-in_ok-step-in-Exists-clause-is c =
-    let P : At → Type 0 = λ v. IsStep (operators_of c.args.names.now) (map (module_tree c.args.bank.now) c.args.modules.now)
+pub returns-in-Exists-clause-is : goal.returns-in-Exists-clause-is
+returns-in-Exists-clause-is c =
+    let P : At → Type 0 = λ v. IfOk c.exists.result (IsStep (operators_of c.args.names.now) (map (module_tree c.args.bank.now) c.args.modules.now)
     (ExistsLine (term_tree c.args.bank.now v.0)) (sequent_in c.args.bank.now c.args.free.now.items c.args.sequent) c.exists.new.bank c.args.free.now.items
-    c.args.free.now.items c.in_ok-step-in-Exists.step in
-    rw c.in-Exists.is (subst P c.copy_at-value.ensures (c.in_ok-step-in-Exists.ensures.is (operators_of c.args.names.now)
-    (map (module_tree c.args.bank.now) c.args.modules.now) c.args.free.now.items c.requires.holds))
+    c.args.free.now.items) in
+    rw c.in-Exists.is (subst P c.copy_at-value.ensures (IfOk-each c.exists.result _ _ (λ step h. h (operators_of c.args.names.now)
+    (map (module_tree c.args.bank.now) c.args.modules.now) c.args.free.now.items c.requires.holds) c.exists.ensures.is))
 
 pub forall-requires-clause-free : goal.forall-requires-clause-free
 forall-requires-clause-free c =
@@ -115,42 +101,36 @@ pub forall-requires-clause-bounded : goal.forall-requires-clause-bounded
 forall-requires-clause-bounded c = forms_held (map (module_tree c.args.bank.now) c.args.modules.now) c.args.bank.now c.args.sequent.bounded.items
     c.requires.holds.sequent.bounded
 
-pub returns-in_err-step-in-Num-clause-keeps : goal.returns-in_err-step-in-Num-clause-keeps
-returns-in_err-step-in-Num-clause-keeps c = Extends-refl c.args.bank.now
+pub returns-in-Num-clause-is : goal.returns-in-Num-clause-is
+returns-in-Num-clause-is c = rw c.in-Num.is (made_step_by (operators_of c.args.names.now) c.args.bank.now NumLine c.args.sequent
+    c.num.result c.args.free.now.items c.num.ensures (map (module_tree c.args.bank.now) c.args.modules.now) c.requires.holds)
 
-pub returns-in_ok-step-in-Num-clause-keeps : goal.returns-in_ok-step-in-Num-clause-keeps
-returns-in_ok-step-in-Num-clause-keeps c = Extends-refl c.args.bank.now
+pub returns-in-Lolli-clause-is : goal.returns-in-Lolli-clause-is
+returns-in-Lolli-clause-is c =
+    let e = rw c.deref-in-Lolli.ensures.value at c.lolli.ensures in
+    rw c.in-Lolli.is (IfOk-each c.lolli.result _ _ (λ step h. h (operators_of c.args.names.now) (map (module_tree c.args.bank.now) c.args.modules.now)
+    c.requires.holds) e)
 
-pub returns-in_ok-step-in-Num-clause-is : goal.returns-in_ok-step-in-Num-clause-is
-returns-in_ok-step-in-Num-clause-is c = rw c.in-Num.is (makes_step_by (operators_of c.args.names.now) c.args.bank.now NumLine c.args.sequent
-    c.in_ok-step-in-Num.step c.args.free.now.items c.in_ok-step-in-Num.ensures (map (module_tree c.args.bank.now) c.args.modules.now) c.requires.holds)
+pub returns-in-Imp-clause-is : goal.returns-in-Imp-clause-is
+returns-in-Imp-clause-is c = rw c.in-Imp.is (IfOk-each c.imp.result _ _ (λ step h. h (operators_of c.args.names.now)
+    (map (module_tree c.args.bank.now) c.args.modules.now) c.requires.holds) c.imp.ensures)
 
-pub returns-in_ok-step-in-Lolli-clause-is : goal.returns-in_ok-step-in-Lolli-clause-is
-returns-in_ok-step-in-Lolli-clause-is c =
-    let e = rw c.deref-in-Lolli.ensures.value at (c.in_ok-step-in-Lolli.ensures (operators_of c.args.names.now)
-    (map (module_tree c.args.bank.now) c.args.modules.now)) in rw c.in-Lolli.is (e c.requires.holds)
+pub returns-in-Forall-clause-is : goal.returns-in-Forall-clause-is
+returns-in-Forall-clause-is c =
+    let e = rw c.deref-in-Forall.ensures.value at c.forall.ensures.is in
+    rw c.in-Forall.is (IfOk-each c.forall.result _ _ (λ step h. h (operators_of c.args.names.now) (map (module_tree c.args.bank.now) c.args.modules.now)
+    c.requires.holds) e)
 
-pub returns-in_ok-step-in-Imp-clause-is : goal.returns-in_ok-step-in-Imp-clause-is
-returns-in_ok-step-in-Imp-clause-is c = rw c.in-Imp.is (c.in_ok-step-in-Imp.ensures (operators_of c.args.names.now)
-    (map (module_tree c.args.bank.now) c.args.modules.now) c.requires.holds)
+pub returns-in-Use-clause-is : goal.returns-in-Use-clause-is
+returns-in-Use-clause-is c =
+    rw c.in-Use.is (IfOk-each c.load.result _ _ (λ step h. h (operators_of c.args.names.now) c.args.free.now.items c.requires.holds) c.load.ensures.is)
 
-pub returns-in_ok-step-in-Forall-clause-is : goal.returns-in_ok-step-in-Forall-clause-is
-returns-in_ok-step-in-Forall-clause-is c =
-    let e = rw c.deref-in-Forall.ensures.value at (c.in_ok-step-in-Forall.ensures.is (operators_of c.args.names.now)
-    (map (module_tree c.args.bank.now) c.args.modules.now)) in rw c.in-Forall.is (e c.requires.holds)
-
-pub returns-in_ok-step-in-Use-clause-is : goal.returns-in_ok-step-in-Use-clause-is
-returns-in_ok-step-in-Use-clause-is c = rw c.in-Use.is (c.in_ok-step-in-Use.ensures.is (operators_of c.args.names.now) c.args.free.now.items c.requires.holds)
-
-pub returns-in_ok-step-in-Clause-clause-is : goal.returns-in_ok-step-in-Clause-clause-is
-returns-in_ok-step-in-Clause-clause-is c =
+pub returns-in_ok-values-in-Clause-clause-is : goal.returns-in_ok-values-in-Clause-clause-is
+returns-in_ok-values-in-Clause-clause-is c =
     let places = c.deref-in-Clause-2.ensures.value ∙ (c.in_ok-values-in-Clause.ensures
     ∙ ap (λ ts. copied_places c.args.copies.now ts) c.deref-in-Clause.ensures.value) in
-    let e = rw (places, c.deref-in-Clause-3.ensures.value, c.deref-in-Clause-4.ensures.value) at
-    (c.in_ok-step-in-Clause.ensures.is (operators_of c.args.names.now)) in rw c.in-Clause.is e
-
-pub returns-in_err-values-in-Clause-clause-keeps : goal.returns-in_err-values-in-Clause-clause-keeps
-returns-in_err-values-in-Clause-clause-keeps c = Extends-refl c.args.bank.now
+    let e = rw (places, c.deref-in-Clause-3.ensures.value, c.deref-in-Clause-4.ensures.value) at c.clause.ensures.is in
+    rw c.in-Clause.is (IfOk-each c.clause.result _ _ (λ step h. h (operators_of c.args.names.now)) e)
 
 pub clause-requires-clause-inside : goal.clause-requires-clause-inside
 clause-requires-clause-inside c =

@@ -2,14 +2,15 @@ use Rattle.std.proofs.Common.{◌∙◌, refl, ap, sym, subst, true, List, [], m
 use Rattle.ll_lists.proofs.CallerLemmas.{IfOk-each}
 use Rattle.ll_bank.specs.declared.FormAt.{FormAt}
 use Rattle.ll_bank.specs.Nodes.{form_tree, term_tree, term_trees}
-use Rattle.ll_bank.proofs.CallerLemmas.{Extends-refl, Extends-trans, HasForm-extends, form_tree-extends}
+use Rattle.ll_bank.proofs.CallerLemmas.{Extends-refl, Extends-trans, HasForm-extends, HasTerm-extends, form_tree-extends}
 use Rattle.ll_laws.specs.Fault.{parts_fit}
 use Rattle.ll_laws.specs.Leaf.{leaf, premise_goal}
 use Rattle.ll_laws.specs.Shown.{module_tree}
 use Rattle.ll_laws.specs.ShownLines.{part_line}
 use Rattle.ll_laws.specs.Valid.{ClauseSide, has_heads}
 use Rattle.ll_sequent.specs.Constants.{AllInForms}
-use Rattle.ll_sequent.specs.Opened.{needed_in, opened_in, form_trees}
+use Rattle.ll_sequent.specs.declared.leaves.Needed.{Needed}
+use Rattle.ll_sequent.specs.Opened.{needed_in, opened_in, form_trees, AreNeeded}
 use Rattle.ll_sequent.specs.Steps.{blank}
 use Rattle.ll_sequent.proofs.ClauseLemmas.{clause_other, clause_other_way, clause_other_head, clause_other_parts, clause_dealt}
 use Rattle.ll_sequent.proofs.NodeLemmas.{equal_is, equal_not, among, as_many, leaf_same, shows_of, none_of, atom_same}
@@ -133,3 +134,41 @@ returns-clause-is c =
 
 pub returns-clause-keeps : goal.returns-clause-keeps
 returns-clause-keeps c = (Extends-trans c.open_leaf.ensures.keeps c.in_ok-goals.ensures.keeps)
+
+pub form_at-requires : goal.form_at-requires
+form_at-requires c = c.requires.holds.sequent.goal.inside
+
+pub open_leaf-requires-clause-values : goal.open_leaf-requires-clause-values
+open_leaf-requires-clause-values c = c.requires.inside
+
+pub open_leaf-requires-clause-closed : goal.open_leaf-requires-clause-closed
+open_leaf-requires-clause-closed c = c.requires.closed
+
+pub is_same-requires-clause-left : goal.is_same-requires-clause-left
+is_same-requires-clause-left c = (shows_of c.open_leaf.new.bank
+    (leaf (form_tree c.args.bank.now c.in-Some.form.0) c.args.leaf (term_trees c.args.bank.now c.args.values.now)) c.in_ok-opened.field-0 c.in-Some-2.opened
+    c.in-Some-2.is c.in_ok-opened.ensures.opened).head
+
+pub is_same-requires-clause-right : goal.is_same-requires-clause-right
+is_same-requires-clause-right c = HasTerm-extends c.open_leaf.ensures.keeps c.in-Atom.atom.0 c.in-Atom.ensures.shown.parts
+
+pub goals_of-requires : goal.goals_of-requires
+goals_of-requires c =
+    let P : List Needed → Type 0 = AreNeeded c.open_leaf.new.bank in subst P (sym c.deref-2.ensures.value) (shows_of c.open_leaf.new.bank
+    (leaf (form_tree c.args.bank.now c.in-Some.form.0) c.args.leaf (term_trees c.args.bank.now c.args.values.now)) c.in_ok-opened.field-0 c.in-Some-2.opened
+    c.in-Some-2.is c.in_ok-opened.ensures.opened).premises
+
+pub returns-in_err-opened-clause-keeps : goal.returns-in_err-opened-clause-keeps
+returns-in_err-opened-clause-keeps c = c.open_leaf.ensures.keeps
+
+pub returns-in_default-2-clause-keeps : goal.returns-in_default-2-clause-keeps
+returns-in_default-2-clause-keeps c = c.open_leaf.ensures.keeps
+
+pub returns-in_err-is_same-clause-keeps : goal.returns-in_err-is_same-clause-keeps
+returns-in_err-is_same-clause-keeps c = c.open_leaf.ensures.keeps
+
+pub returns-then-not-branch-clause-keeps : goal.returns-then-not-branch-clause-keeps
+returns-then-not-branch-clause-keeps c = c.open_leaf.ensures.keeps
+
+pub returns-then-not-fit-clause-keeps : goal.returns-then-not-fit-clause-keeps
+returns-then-not-fit-clause-keeps c = c.open_leaf.ensures.keeps

@@ -8,7 +8,7 @@ use Rattle.ll_laws.specs.Number.{operators_of}
 use Rattle.ll_laws.specs.Shown.{module_tree}
 use Rattle.ll_laws.specs.Line.{Line, OneLine, EraseLine, TensorLine, WithLine, LeftLine, RightLine, BangLine, ExistsLine, NumLine}
 use Rattle.ll_sequent.specs.Copied.{copied_places}
-use Rattle.ll_sequent.specs.Judging.{IsStep}
+use Rattle.ll_sequent.specs.Judging.{Holds, IsStep}
 use Rattle.ll_sequent.proofs.CopyLemmas.{copied_inside}
 use Rattle.ll_sequent.specs.Sequents.{sequent_in}
 use Rattle.ll_sequent.proofs.RuleLemmas.{makes_step, made_step, made_step_by}
@@ -139,3 +139,74 @@ clause-requires-clause-inside c =
     ∙ ap (λ ts. copied_places c.args.copies.now ts) c.deref-in-Clause.ensures.value) in
     let P : List At → Type 0 = AllInTerms c.args.bank.now in
     subst P (sym places) (copied_inside c.args.bank.now c.args.copies.now c.in-Clause.terms.items c.requires.inside below)
+
+pub one-requires : goal.one-requires
+one-requires c = c.requires.holds.sequent.goal.inside
+
+pub erase-requires : goal.erase-requires
+erase-requires c = c.requires.holds.sequent.goal.inside
+
+pub tensor-requires : goal.tensor-requires
+tensor-requires c = c.requires.holds.sequent.goal.inside
+
+pub with-requires : goal.with-requires
+with-requires c = c.requires.holds.sequent.goal.inside
+
+pub left-requires : goal.left-requires
+left-requires c = c.requires.holds.sequent.goal.inside
+
+pub right-requires : goal.right-requires
+right-requires c = c.requires.holds.sequent.goal.inside
+
+pub bang-requires : goal.bang-requires
+bang-requires c = c.requires.holds.sequent.goal.inside
+
+pub lolli-requires : goal.lolli-requires
+lolli-requires c = c.requires.holds.sequent.goal.inside
+
+pub imp-requires : goal.imp-requires
+imp-requires c = c.requires.holds.sequent.goal.inside
+
+pub num-requires : goal.num-requires
+num-requires c = c.requires.holds.sequent.goal.inside
+
+pub forall-requires-clause-goal : goal.forall-requires-clause-goal
+forall-requires-clause-goal c = c.requires.holds.sequent.goal.inside
+
+pub forall-requires-clause-heads : goal.forall-requires-clause-heads
+forall-requires-clause-heads c = c.requires.holds.sequent.goal.sound.heads
+
+pub exists-requires-clause-goal : goal.exists-requires-clause-goal
+exists-requires-clause-goal c = c.requires.holds.sequent.goal.inside
+
+pub exists-requires-clause-heads : goal.exists-requires-clause-heads
+exists-requires-clause-heads c = c.requires.holds.sequent.goal.sound.heads
+
+pub load-requires-clause-has : goal.load-requires-clause-has
+load-requires-clause-has c = c.requires.has
+
+pub load-requires-clause-modules : goal.load-requires-clause-modules
+load-requires-clause-modules c = c.requires.modules
+
+pub load-requires-clause-sequent : goal.load-requires-clause-sequent
+load-requires-clause-sequent c = c.requires.holds.sequent
+
+pub returns-in-Forall-clause-keeps : goal.returns-in-Forall-clause-keeps
+returns-in-Forall-clause-keeps c = c.forall.ensures.keeps
+
+pub returns-in-Exists-clause-keeps : goal.returns-in-Exists-clause-keeps
+returns-in-Exists-clause-keeps c = c.exists.ensures.keeps
+
+pub returns-in-Use-clause-keeps : goal.returns-in-Use-clause-keeps
+returns-in-Use-clause-keeps c = c.load.ensures.keeps
+
+pub returns-in_ok-values-in-Clause-clause-keeps : goal.returns-in_ok-values-in-Clause-clause-keeps
+returns-in_ok-values-in-Clause-clause-keeps c = c.clause.ensures.keeps
+
+pub clause-requires-clause-has : goal.clause-requires-clause-has
+clause-requires-clause-has c = c.requires.has
+
+pub clause-requires-clause-holds : goal.clause-requires-clause-holds
+clause-requires-clause-holds c =
+    let P : List Resource → Type 0 = λ rs. Holds (map (module_tree c.args.bank.now) c.args.modules.now) c.args.bank.now rs c.args.sequent in
+    subst P (sym c.deref-in-Clause-4.ensures.value) c.requires.holds

@@ -1,10 +1,13 @@
-use Rattle.std.proofs.Common.{ap, sym, refl, ◌∙◌}
+use Rattle.std.proofs.Common.{ℕ, ◌<◌, ◌≤◌, ap, sym, refl, ◌∙◌, length, arith}
 use Rattle.ll_bank.specs.Form.{Atom, With, Tensor, Plus, Bang, Lolli, Imp, Forall, Exists, Num, Is, Less, Most, sub_form}
 use Rattle.ll_bank.specs.Nodes.{term_trees}
 use Rattle.ll_bank.proofs.CallerLemmas.{Extends-refl, Extends-trans}
 use Rattle.ll_sequent.specs.Starting.{values}
 use Rattle.ll_sequent.proofs.Substitutions.{on_ok, shown_as, terms_extend, part, over_one, over_two}
 use Rattle.ll_sequent.proofs.substitution.form_image.Goals as goal
+
+below : (a b n : ℕ) → a < b → b ≤ n → a < n
+below a b n h k = omega arith
 
 pub form-requires-in-With : goal.form-requires-in-With
 form-requires-in-With c = (
@@ -263,3 +266,103 @@ returns-in-One-clause-keeps c = Extends-refl c.args.bank.now
 
 pub returns-in_err-args-in-Use-clause-keeps : goal.returns-in_err-args-in-Use-clause-keeps
 returns-in_err-args-in-Use-clause-keeps c = Extends-refl c.args.bank.now
+
+pub form_at-requires : goal.form_at-requires
+form_at-requires c = c.requires.form
+
+pub term_image-requires-clause-term : goal.term_image-requires-clause-term
+term_image-requires-clause-term c = c.in-Atom.ensures.shown.parts
+
+pub term_image-requires-clause-values : goal.term_image-requires-clause-values
+term_image-requires-clause-values c = c.requires.values
+
+pub term_image-requires-clause-terms : goal.term_image-requires-clause-terms
+term_image-requires-clause-terms c = c.requires.terms
+
+pub bounds-forms-f : goal.bounds-forms-f
+bounds-forms-f c = below c.in-With.f.0 c.args.form.0 (length c.args.forms.now) c.in-With.ensures.shown.parts.0 c.requires.below
+
+pub bounds-forms-g : goal.bounds-forms-g
+bounds-forms-g c = below c.in-With.g.0 c.args.form.0 (length c.args.forms.now) c.in-With.ensures.shown.parts.1 c.requires.below
+
+pub bounds-forms-f-in-Tensor : goal.bounds-forms-f-in-Tensor
+bounds-forms-f-in-Tensor c = below c.in-Tensor.f.0 c.args.form.0 (length c.args.forms.now) c.in-Tensor.ensures.shown.parts.0 c.requires.below
+
+pub bounds-forms-g-in-Tensor : goal.bounds-forms-g-in-Tensor
+bounds-forms-g-in-Tensor c = below c.in-Tensor.g.0 c.args.form.0 (length c.args.forms.now) c.in-Tensor.ensures.shown.parts.1 c.requires.below
+
+pub bounds-forms-f-in-Plus : goal.bounds-forms-f-in-Plus
+bounds-forms-f-in-Plus c = below c.in-Plus.f.0 c.args.form.0 (length c.args.forms.now) c.in-Plus.ensures.shown.parts.0 c.requires.below
+
+pub bounds-forms-g-in-Plus : goal.bounds-forms-g-in-Plus
+bounds-forms-g-in-Plus c = below c.in-Plus.g.0 c.args.form.0 (length c.args.forms.now) c.in-Plus.ensures.shown.parts.1 c.requires.below
+
+pub bounds-forms-f-in-Bang : goal.bounds-forms-f-in-Bang
+bounds-forms-f-in-Bang c = below c.in-Bang.f.0 c.args.form.0 (length c.args.forms.now) c.in-Bang.ensures.shown.parts c.requires.below
+
+pub bounds-forms-f-in-Lolli : goal.bounds-forms-f-in-Lolli
+bounds-forms-f-in-Lolli c = below c.in-Lolli.f.0 c.args.form.0 (length c.args.forms.now) c.in-Lolli.ensures.shown.parts.0 c.requires.below
+
+pub bounds-forms-g-in-Lolli : goal.bounds-forms-g-in-Lolli
+bounds-forms-g-in-Lolli c = below c.in-Lolli.g.0 c.args.form.0 (length c.args.forms.now) c.in-Lolli.ensures.shown.parts.1 c.requires.below
+
+pub bounds-forms-f-in-Imp : goal.bounds-forms-f-in-Imp
+bounds-forms-f-in-Imp c = below c.in-Imp.f.0 c.args.form.0 (length c.args.forms.now) c.in-Imp.ensures.shown.parts.0 c.requires.below
+
+pub bounds-forms-g-in-Imp : goal.bounds-forms-g-in-Imp
+bounds-forms-g-in-Imp c = below c.in-Imp.g.0 c.args.form.0 (length c.args.forms.now) c.in-Imp.ensures.shown.parts.1 c.requires.below
+
+pub bounds-forms-f-in-Forall : goal.bounds-forms-f-in-Forall
+bounds-forms-f-in-Forall c = below c.in-Forall.f.0 c.args.form.0 (length c.args.forms.now) c.in-Forall.ensures.shown.parts c.requires.below
+
+pub bounds-forms-f-in-Exists : goal.bounds-forms-f-in-Exists
+bounds-forms-f-in-Exists c = below c.in-Exists.f.0 c.args.form.0 (length c.args.forms.now) c.in-Exists.ensures.shown.parts c.requires.below
+
+pub bounds-forms-f-in-Use : goal.bounds-forms-f-in-Use
+bounds-forms-f-in-Use c = below c.in-Use.f.0 c.args.form.0 (length c.args.forms.now) c.in-Use.ensures.shown.parts.1 c.requires.below
+
+pub two_images-requires-clause-left : goal.two_images-requires-clause-left
+two_images-requires-clause-left c = c.in-Is.ensures.shown.parts.0
+
+pub two_images-requires-clause-right : goal.two_images-requires-clause-right
+two_images-requires-clause-right c = c.in-Is.ensures.shown.parts.1
+
+pub two_images-requires-clause-values : goal.two_images-requires-clause-values
+two_images-requires-clause-values c = c.requires.values
+
+pub two_images-requires-clause-terms : goal.two_images-requires-clause-terms
+two_images-requires-clause-terms c = c.requires.terms
+
+pub two_images-requires-in-Less-clause-left : goal.two_images-requires-in-Less-clause-left
+two_images-requires-in-Less-clause-left c = c.in-Less.ensures.shown.parts.0
+
+pub two_images-requires-in-Less-clause-right : goal.two_images-requires-in-Less-clause-right
+two_images-requires-in-Less-clause-right c = c.in-Less.ensures.shown.parts.1
+
+pub two_images-requires-in-Less-clause-values : goal.two_images-requires-in-Less-clause-values
+two_images-requires-in-Less-clause-values c = c.requires.values
+
+pub two_images-requires-in-Less-clause-terms : goal.two_images-requires-in-Less-clause-terms
+two_images-requires-in-Less-clause-terms c = c.requires.terms
+
+pub two_images-requires-in-Most-clause-left : goal.two_images-requires-in-Most-clause-left
+two_images-requires-in-Most-clause-left c = c.in-Most.ensures.shown.parts.0
+
+pub two_images-requires-in-Most-clause-right : goal.two_images-requires-in-Most-clause-right
+two_images-requires-in-Most-clause-right c = c.in-Most.ensures.shown.parts.1
+
+pub two_images-requires-in-Most-clause-values : goal.two_images-requires-in-Most-clause-values
+two_images-requires-in-Most-clause-values c = c.requires.values
+
+pub two_images-requires-in-Most-clause-terms : goal.two_images-requires-in-Most-clause-terms
+two_images-requires-in-Most-clause-terms c = c.requires.terms
+
+pub load_image-requires-clause-values : goal.load_image-requires-clause-values
+load_image-requires-clause-values c = c.requires.values
+
+pub load_image-requires-clause-terms : goal.load_image-requires-clause-terms
+load_image-requires-clause-terms c = c.requires.terms
+
+pub load_image-requires-clause-body : goal.load_image-requires-clause-body
+load_image-requires-clause-body c = (part c.args.bank.now (term_trees c.args.bank.now c.args.values.now) c.args.forms.now c.requires.forms c.args.form
+    c.requires.below c.in-Use.f c.in-Use.ensures.shown.parts.1).inside

@@ -16,13 +16,14 @@ use Rattle.ll_resources.specs.declared.state.Change.TheVariants.{Loaded, Closed,
 use Rattle.ll_resources.specs.declared.state.State.{State}
 use Rattle.ll_resources.specs.declared.state.Stored.{Stored}
 use Rattle.ll_resources.specs.Saves.{block_of, kept_marks}
-use Rattle.ll_resources.specs.Resources.{Resources, saved_at, KeepsSaved}
-use Rattle.ll_resources.specs.Raw.{Raw, raw, shown, front, stored, raw_loaded, raw_picked, raw_closed, raw_kept, kept_now, raw_remarked, kept_under, IsSound}
+use Rattle.ll_resources.specs.Resources.{Resources, saved_at, KeepsSaved, Fits, after_save, after_with_mid}
+use Rattle.ll_resources.specs.Raw.{Raw, raw, shown, front, stored, raw_loaded, raw_picked, raw_closed, raw_kept, kept_now, raw_remarked, kept_under}
+use Rattle.ll_resources.specs.Raw.{block_later, IsSound}
 use Rattle.ll_resources.specs.History.{History, HasMark, state_at, KeepsMarks, KeepsMarksTo}
 use Rattle.ll_resources.specs.Changes.{with_last, without_last, taken_back, before, states_before, history, AreSound, Leads}
 use Rattle.ll_resources.proofs.SeenLemmas.{front-push, front-last}
 use Rattle.ll_resources.proofs.KeptLemmas.{saved-cut}
-use Rattle.ll_resources.proofs.RawLemmas.{HasWithin}
+use Rattle.ll_resources.proofs.RawLemmas.{HasWithin, shown-kept, shown-mid}
 
 -- a range of no marks
 pub none_kept : KeptRange
@@ -93,6 +94,10 @@ module _ {C : Type 0} where
   -- in more room
   pub sound-alike : (cs ds : List (Change C)) (r s : Raw C) (n m k l : ℕ) → ds ≡ cs → s ≡ r → n ≤ k → m ≤ l → AreSound cs r n m → AreSound ds s k l
   sound-alike cs ds r s n m k l e f a b h i = rw (e, f) (sound-wider (before (drop i cs) r) n m k l a b (h i))
+
+  -- in the same room
+  pub sound-same : (cs ds : List (Change C)) (r : Raw C) (n m : ℕ) → ds ≡ cs → AreSound cs r n m → AreSound ds r n m
+  sound-same cs ds r n m e h = subst (λ xs. AreSound xs r n m) (sym e) h
 
   -- after a change
   sound-more : (cs ds : List (Change C)) (c : Change C) (r s : Raw C) (n m k l : ℕ) → ds ≡ cs ++ c ∷ [] → taken_back c s ≡ r → n ≤ k → m ≤ l → IsSound k l s
@@ -212,6 +217,14 @@ module _ {C : Type 0} where
             ∙ same-states (states_before cs (raw old)) (shown (raw old)) (shown (raw new)) mark.changes good;
       })
 
+  -- a context that is as before is seen as before
+  pub history-alike : (cs ds : List (Change C)) (r s : Raw C) (h : History C) → ds ≡ cs → s ≡ r → history cs r ≡ h → history ds s ≡ h
+  history-alike cs ds r s h e f v = ap (λ xs. history xs s) e ∙ (ap (history cs) f ∙ v)
+
+  -- and keeps its marks
+  pub marks-alike : (cs ds : List (Change C)) (r s : Raw C) (h : History C) → ds ≡ cs → s ≡ r → history cs r ≡ h → KeepsMarks h (history ds s)
+  marks-alike cs ds r s h e f v = subst (λ k. KeepsMarks h k) (sym (history-alike cs ds r s h e f v)) (λ mark good. record { good = good; state = refl })
+
   -- a good mark is of one of the changes
   pub mark-within : (cs : List (Change C)) (r : Raw C) (h : History C) (mark : ContextMark) → history cs r ≡ h → HasMark mark h → mark.changes ≤ length cs
   mark-within cs r h mark v good = let n = length-states cs r in
@@ -298,3 +311,18 @@ module _ {C : Type 0} where
 
   pub within-along : (r s : Raw C) → s ≡ r → HasWithin r → HasWithin s
   within-along r s e w = subst (λ (t : Raw C). HasWithin t) (sym e) w
+
+  -- ---- what contracts see of the changes that keep marks
+
+  -- the next is kept under the number of all that are
+  pub number-kept : (cs : List (Change C)) (r : Raw C) (h : History C) (n : ℕ) → history cs r ≡ h → n ≡ length r.kept → n ≡ length h.present.kept
+  number-kept cs r h n v e = e ∙ (sym (length-map r.kept (kept_marks r.marks)) ∙ ap (λ (k : History C). length k.present.kept) v)
+
+  pub seen-saved : (cs : List (Change C)) (r s : Raw C) (h : History C) → history cs r ≡ h → HasWithin r → s ≡ raw_kept r.live r
+      → shown s ≡ after_save h.present
+  seen-saved cs r s h v w e = ap (λ (t : Raw C). shown t) e ∙ (shown-kept r.live r w ∙ ap (λ (k : History C). after_save k.present) v)
+
+  pub seen-mid : (saved : Handle) (cs : List (Change C)) (r s : Raw C) (h : History C) → history cs r ≡ h → HasWithin r → Fits saved h.present
+      → s ≡ raw_kept (block_later saved.number r) r → shown s ≡ after_with_mid saved h.present
+  seen-mid saved cs r s h v w f e = ap (λ (t : Raw C). shown t) e
+      ∙ (shown-mid saved r w (subst (λ (k : History C). Fits saved k.present) (sym v) f) ∙ ap (λ (k : History C). after_with_mid saved k.present) v)

@@ -1,6 +1,6 @@
 -- What contracts see of each change of what is stored.
 use Rattle.std.proofs.Common.{◌≡◌, ℕ, suc, ◌-◌, ◌<◌, Bool, true, false, ◌||◌, ◌&&◌, not, List, [], ◌∷◌, ◌++◌, length, map, All, get_or, refl, ap, sym, ◌∙◌}
-use Rattle.std.proofs.Common.{arith}
+use Rattle.std.proofs.Common.{subst, arith}
 use Rattle.std.specs.Prelude.{reverse, Option, Some, None, option_map, if◌then◌else◌}
 use Rattle.std.proofs.lemmas.Bool.{false≢true}
 use Rattle.std.proofs.lemmas.List.{length-map, length-reverse, get_or-map, get_or_append_left, get_or_push}
@@ -243,3 +243,18 @@ module _ {C : Type 0} where
       let t = after_with_mid h q in
       ap (λ x. mid x t.entries t.flag) (sym (last-saved q s (saved_now q) (ap (λ (r : Resources C). r.kept) e)))
       ∙ ap (λ (r : Resources C). mid (saved_at s.kept (saved_as (length q.kept))) r.entries r.flag) (sym e)
+
+  -- where the later context is known as a whole
+
+  pub save-keeps : (q s : Resources C) → s ≡ after_save q → KeepsSaved (length q.kept) q s
+  save-keeps q s e = keeps-more q s (saved_now q) (ap (λ (r : Resources C). r.kept) e)
+
+  pub save-last : (q s : Resources C) (n : ℕ) → n ≡ length q.kept → s ≡ after_save q → saved_at s.kept (saved_as n) ≡ saved_now q
+  save-last q s n c e = ap (λ m. saved_at s.kept (saved_as m)) c ∙ last-saved q s (saved_now q) (ap (λ (r : Resources C). r.kept) e)
+
+  pub mid-keeps : (h : Handle) (q s : Resources C) → s ≡ after_with_mid h q → KeepsSaved (length q.kept) q s
+  mid-keeps h q s e = keeps-more q s (saved_now q) (ap (λ (r : Resources C). r.kept) e)
+
+  pub mid-settles : (h : Handle) (q s : Resources C) (n : ℕ) → n ≡ length q.kept → s ≡ after_with_mid h q
+      → SettlesMiddle (saved_at q.kept h) (saved_at s.kept (saved_as n)) q s
+  mid-settles h q s n c e = subst (λ m. SettlesMiddle (saved_at q.kept h) (saved_at s.kept (saved_as m)) q s) (sym c) (settles-mid h q s e)

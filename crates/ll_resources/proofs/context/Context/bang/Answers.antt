@@ -1,10 +1,19 @@
-use Rattle.std.proofs.Common.{[], ap, ◌∙◌}
+use Rattle.std.proofs.Common.{refl, [], ap, ◌∙◌}
 use Rattle.ll_resources.specs.History.{History}
 use Rattle.ll_resources.specs.Raw.{Raw, raw, shown}
 use Rattle.ll_resources.specs.Resources.{after_bang}
 use Rattle.ll_resources.proofs.RawLemmas.{shown-banged, within-remarked}
-use Rattle.ll_resources.proofs.ChangeLemmas.{sound-noted, marks-noted, within-now, within-along}
+use Rattle.ll_resources.proofs.ChangeLemmas.{sound-same, sound-alike, sound-noted, marks-alike, marks-noted, within-now, within-along}
 use Rattle.ll_resources.proofs.context.Context.bang.Goals as goal
+
+pub invariant_of-self : goal.invariant_of-self
+invariant_of-self g c =
+    sound-same c.self.inside.changes.items c.reserve.new.self.items (raw c.self.inside.state) _ _ c.reserve.ensures.items c.self.invariant
+
+pub returns-in_err-reserve-clause-marks : goal.returns-in_err-reserve-clause-marks
+returns-in_err-reserve-clause-marks g c =
+    marks-alike c.self.inside.changes.items c.reserve.new.self.items (raw c.self.inside.state) (raw c.self.inside.state) c.args.self.now
+    c.reserve.ensures.items refl c.self.view_is
 
 pub invariant_of-self-2 : goal.invariant_of-self-2
 invariant_of-self-2 g c =
@@ -23,3 +32,13 @@ returns-clause-banged g c =
     ap (λ (r : Raw g.row.C.Denot). shown r) c.in_ok-change.ensures.banged
     ∙ (shown-banged (raw c.self.inside.state) (within-now c.self.inside.changes.items c.self.inside.state c.self.invariant)
     ∙ ap (λ (h : History g.row.C.Denot). after_bang h.present) c.self.view_is)
+
+pub invariant_of-self-in_err-change : goal.invariant_of-self-in_err-change
+invariant_of-self-in_err-change g c =
+    sound-alike c.self.inside.changes.items c.reserve.new.self.items (raw c.self.inside.state) (raw c.bang.new.self) _ _ _ _ c.reserve.ensures.items
+    c.in_err-change.ensures.refused c.in_err-change.ensures.room.entries c.in_err-change.ensures.room.live c.self.invariant
+
+pub returns-in_err-change-clause-marks : goal.returns-in_err-change-clause-marks
+returns-in_err-change-clause-marks g c =
+    marks-alike c.self.inside.changes.items c.reserve.new.self.items (raw c.self.inside.state) (raw c.bang.new.self) c.args.self.now
+    c.reserve.ensures.items c.in_err-change.ensures.refused c.self.view_is

@@ -1,5 +1,19 @@
-use Rattle.ll_resources.proofs.ChangeLemmas.{sound-noted, marks-noted, within-now, within-along}
+use Rattle.std.proofs.Common.{◌<◌, ◌^◌, refl, ap, sym, ◌∙◌, subst}
+use Rattle.ll_resources.specs.History.{History}
+use Rattle.ll_resources.specs.Raw.{Raw, raw, shown}
+use Rattle.ll_resources.specs.Resources.{after_load}
+use Rattle.ll_resources.proofs.RawLemmas.{shown-loaded}
+use Rattle.ll_resources.proofs.ChangeLemmas.{sound-same, sound-alike, sound-noted, marks-alike, marks-noted, within-now, within-along}
 use Rattle.ll_resources.proofs.context.Context.load.Goals as goal
+
+pub invariant_of-self : goal.invariant_of-self
+invariant_of-self g c =
+    sound-same c.self.inside.changes.items c.reserve.new.self.items (raw c.self.inside.state) _ _ c.reserve.ensures.items c.self.invariant
+
+pub returns-in_err-reserve-clause-marks : goal.returns-in_err-reserve-clause-marks
+returns-in_err-reserve-clause-marks g c =
+    marks-alike c.self.inside.changes.items c.reserve.new.self.items (raw c.self.inside.state) (raw c.self.inside.state) c.args.self.now
+    c.reserve.ensures.items refl c.self.view_is
 
 pub invariant_of-self-2 : goal.invariant_of-self-2
 invariant_of-self-2 g c =
@@ -11,3 +25,22 @@ pub returns-clause-marks : goal.returns-clause-marks
 returns-clause-marks g c =
     marks-noted c.self.inside.changes.items _ _ _ c.self.inside.state c.load.new.self _ c.reserve.ensures.items c.push_reserved.ensures.items
     c.in_ok-change.ensures.leads c.self.view_is
+
+pub invariant_of-self-in_err-change : goal.invariant_of-self-in_err-change
+invariant_of-self-in_err-change g c =
+    sound-alike c.self.inside.changes.items c.reserve.new.self.items (raw c.self.inside.state) (raw c.load.new.self) _ _ _ _ c.reserve.ensures.items
+    c.in_err-change.ensures.refused c.in_err-change.ensures.room.entries c.in_err-change.ensures.room.live c.self.invariant
+
+pub returns-in_err-change-clause-marks : goal.returns-in_err-change-clause-marks
+returns-in_err-change-clause-marks g c =
+    marks-alike c.self.inside.changes.items c.reserve.new.self.items (raw c.self.inside.state) (raw c.load.new.self) c.args.self.now
+    c.reserve.ensures.items c.in_err-change.ensures.refused c.self.view_is
+
+pub load-requires : goal.load-requires
+load-requires g c = subst (λ (h : History g.row.C.Denot). h.present.next < 2 ^ 32) (sym c.self.view_is) c.requires
+
+pub returns-clause-loaded : goal.returns-clause-loaded
+returns-clause-loaded g c =
+    ap (λ (r : Raw g.row.C.Denot). shown r) c.in_ok-change.ensures.loaded
+    ∙ (shown-loaded c.args.kind c.args.clause (raw c.self.inside.state)
+    ∙ ap (λ (h : History g.row.C.Denot). after_load c.args.kind c.args.clause h.present) c.self.view_is)

@@ -1,12 +1,18 @@
-use Rattle.std.proofs.Common.{◌≡◌, ap, sym, ◌∙◌, length}
-use Rattle.ll_resources.specs.History.{History}
-use Rattle.ll_resources.specs.Raw.{Raw, raw, shown}
-use Rattle.std.proofs.lemmas.List.{length-map}
-use Rattle.ll_resources.specs.Saves.{kept_marks}
-use Rattle.ll_resources.specs.Resources.{Resources, saved_as, saved_at, saved_now, after_save}
-use Rattle.ll_resources.proofs.RawLemmas.{shown-kept, within-kept, keeps-more, last-saved}
-use Rattle.ll_resources.proofs.ChangeLemmas.{sound-noted, marks-noted, within-now, within-along}
+use Rattle.std.proofs.Common.{refl, ap}
+use Rattle.ll_resources.specs.Raw.{raw, shown}
+use Rattle.ll_resources.specs.Resources.{saved_as}
+use Rattle.ll_resources.proofs.RawLemmas.{within-kept, save-keeps, save-last}
+use Rattle.ll_resources.proofs.ChangeLemmas.{sound-same, sound-alike, sound-noted, marks-alike, marks-noted, within-now, within-along, number-kept, seen-saved}
 use Rattle.ll_resources.proofs.context.Context.save.Goals as goal
+
+pub invariant_of-self : goal.invariant_of-self
+invariant_of-self g c =
+    sound-same c.self.inside.changes.items c.reserve.new.self.items (raw c.self.inside.state) _ _ c.reserve.ensures.items c.self.invariant
+
+pub returns-in_err-reserve-clause-marks : goal.returns-in_err-reserve-clause-marks
+returns-in_err-reserve-clause-marks g c =
+    marks-alike c.self.inside.changes.items c.reserve.new.self.items (raw c.self.inside.state) (raw c.self.inside.state) c.args.self.now
+    c.reserve.ensures.items refl c.self.view_is
 
 pub invariant_of-self-2 : goal.invariant_of-self-2
 invariant_of-self-2 g c =
@@ -20,32 +26,34 @@ returns-clause-marks g c =
     marks-noted c.self.inside.changes.items _ _ _ c.self.inside.state c.save.new.self _ c.reserve.ensures.items c.push_reserved.ensures.items
     c.in_ok-change.ensures.leads c.self.view_is
 
+pub returns-clause-number : goal.returns-clause-number
+returns-clause-number g c =
+    ap saved_as (number-kept c.self.inside.changes.items (raw c.self.inside.state) c.args.self.now c.len-number.result c.self.view_is c.len-number.ensures)
+
 pub returns-clause-saved : goal.returns-clause-saved
 returns-clause-saved g c =
-    ap (λ (r : Raw g.row.C.Denot). shown r) c.in_ok-change.ensures.saved
-    ∙ (shown-kept c.self.inside.state.live.items (raw c.self.inside.state) (within-now c.self.inside.changes.items c.self.inside.state c.self.invariant)
-    ∙ ap (λ (h : History g.row.C.Denot). after_save h.present) c.self.view_is)
+    seen-saved c.self.inside.changes.items (raw c.self.inside.state) (raw c.save.new.self) c.args.self.now c.self.view_is
+    (within-now c.self.inside.changes.items c.self.inside.state c.self.invariant) c.in_ok-change.ensures.saved
 
 pub returns-clause-kept : goal.returns-clause-kept
 returns-clause-kept g c =
-    let q = c.args.self.now.present in
-    let s : Resources g.row.C.Denot = shown (raw c.save.new.self) in
-    let e : s ≡ after_save q =
-    ap (λ (r : Raw g.row.C.Denot). shown r) c.in_ok-change.ensures.saved
-    ∙ (shown-kept c.self.inside.state.live.items (raw c.self.inside.state) (within-now c.self.inside.changes.items c.self.inside.state c.self.invariant)
-    ∙ ap (λ (h : History g.row.C.Denot). after_save h.present) c.self.view_is) in
-    let n : c.len-number.result ≡ length c.args.self.now.present.kept =
-    c.len-number.ensures
-    ∙ (sym (length-map c.self.inside.state.saves.kept.items (kept_marks c.self.inside.state.saves.marks.items))
-    ∙ ap (λ (h : History g.row.C.Denot). length h.present.kept) c.self.view_is) in
-    ap (λ m. saved_at s.kept (saved_as m)) n ∙ last-saved q s (saved_now q) (ap (λ (r : Resources g.row.C.Denot). r.kept) e)
+    save-last c.args.self.now.present (shown (raw c.save.new.self)) c.len-number.result
+    (number-kept c.self.inside.changes.items (raw c.self.inside.state) c.args.self.now c.len-number.result c.self.view_is c.len-number.ensures)
+    (seen-saved c.self.inside.changes.items (raw c.self.inside.state) (raw c.save.new.self) c.args.self.now c.self.view_is
+    (within-now c.self.inside.changes.items c.self.inside.state c.self.invariant) c.in_ok-change.ensures.saved)
 
 pub returns-clause-same : goal.returns-clause-same
 returns-clause-same g c =
-    let q = c.args.self.now.present in
-    let s : Resources g.row.C.Denot = shown (raw c.save.new.self) in
-    let e : s ≡ after_save q =
-    ap (λ (r : Raw g.row.C.Denot). shown r) c.in_ok-change.ensures.saved
-    ∙ (shown-kept c.self.inside.state.live.items (raw c.self.inside.state) (within-now c.self.inside.changes.items c.self.inside.state c.self.invariant)
-    ∙ ap (λ (h : History g.row.C.Denot). after_save h.present) c.self.view_is) in
-    keeps-more q s (saved_now q) (ap (λ (r : Resources g.row.C.Denot). r.kept) e)
+    save-keeps c.args.self.now.present (shown (raw c.save.new.self))
+    (seen-saved c.self.inside.changes.items (raw c.self.inside.state) (raw c.save.new.self) c.args.self.now c.self.view_is
+    (within-now c.self.inside.changes.items c.self.inside.state c.self.invariant) c.in_ok-change.ensures.saved)
+
+pub invariant_of-self-in_err-change : goal.invariant_of-self-in_err-change
+invariant_of-self-in_err-change g c =
+    sound-alike c.self.inside.changes.items c.reserve.new.self.items (raw c.self.inside.state) (raw c.save.new.self) _ _ _ _ c.reserve.ensures.items
+    c.in_err-change.ensures.refused c.in_err-change.ensures.room.entries c.in_err-change.ensures.room.live c.self.invariant
+
+pub returns-in_err-change-clause-marks : goal.returns-in_err-change-clause-marks
+returns-in_err-change-clause-marks g c =
+    marks-alike c.self.inside.changes.items c.reserve.new.self.items (raw c.self.inside.state) (raw c.save.new.self) c.args.self.now
+    c.reserve.ensures.items c.in_err-change.ensures.refused c.self.view_is

@@ -6,8 +6,17 @@ use Rattle.ll_resources.specs.Raw.{raw, Agrees, Joins, kept_under}
 use Rattle.ll_resources.specs.Changes.{Leads, history}
 use Rattle.ll_resources.specs.declared.state.State.{State}
 use Rattle.ll_resources.proofs.RawLemmas.{number-inside, shown-joined, shown-apart, within-remarked}
-use Rattle.ll_resources.proofs.ChangeLemmas.{sound-noted, marks-noted, within-now, within-along}
+use Rattle.ll_resources.proofs.ChangeLemmas.{sound-same, sound-alike, sound-noted, marks-alike, marks-noted, within-now, within-along}
 use Rattle.ll_resources.proofs.context.Context.with_end.Goals as goal
+
+pub invariant_of-self : goal.invariant_of-self
+invariant_of-self g c =
+    sound-same c.self.inside.changes.items c.reserve.new.self.items (raw c.self.inside.state) _ _ c.reserve.ensures.items c.self.invariant
+
+pub returns-in_err-reserve-clause-marks : goal.returns-in_err-reserve-clause-marks
+returns-in_err-reserve-clause-marks g c =
+    marks-alike c.self.inside.changes.items c.reserve.new.self.items (raw c.self.inside.state) (raw c.self.inside.state) c.args.self.now
+    c.reserve.ensures.items refl c.self.view_is
 
 pub with_end-requires-clause-saved : goal.with_end-requires-clause-saved
 with_end-requires-clause-saved g c = number-inside c.args.saved (raw c.self.inside.state)
@@ -57,3 +66,25 @@ returns-in_default-clause-settles g c =
       ap (λ cs. history cs (raw c.with_end.new.self)) c.reserve.ensures.items
           ∙ (ap (λ (t : State g.row.C.Denot). history c.self.inside.changes.items (raw t)) (same refl) ∙ c.self.view_is),
     )
+
+pub invariant_of-self-in_err-change : goal.invariant_of-self-in_err-change
+invariant_of-self-in_err-change g c =
+    sound-alike c.self.inside.changes.items c.reserve.new.self.items (raw c.self.inside.state) (raw c.with_end.new.self) _ _ _ _ c.reserve.ensures.items
+    c.in_err-change.ensures.refused c.in_err-change.ensures.room.entries c.in_err-change.ensures.room.live c.self.invariant
+
+pub returns-in_err-change-clause-marks : goal.returns-in_err-change-clause-marks
+returns-in_err-change-clause-marks g c =
+    marks-alike c.self.inside.changes.items c.reserve.new.self.items (raw c.self.inside.state) (raw c.with_end.new.self) c.args.self.now
+    c.reserve.ensures.items c.in_err-change.ensures.refused c.self.view_is
+
+pub invariant_of-self-in_default : goal.invariant_of-self-in_default
+invariant_of-self-in_default g c =
+    let same = subst (λ done. IsNone done → c.with_end.new.self ≡ c.self.inside.state) c.in_default.is c.in_ok-change.ensures.same in
+    sound-alike c.self.inside.changes.items c.reserve.new.self.items (raw c.self.inside.state) (raw c.with_end.new.self) _ _ _ _ c.reserve.ensures.items
+    (ap (λ (t : State g.row.C.Denot). raw t) (same refl)) c.in_ok-change.ensures.room.entries c.in_ok-change.ensures.room.live c.self.invariant
+
+pub returns-in_default-clause-marks : goal.returns-in_default-clause-marks
+returns-in_default-clause-marks g c =
+    let same = subst (λ done. IsNone done → c.with_end.new.self ≡ c.self.inside.state) c.in_default.is c.in_ok-change.ensures.same in
+    marks-alike c.self.inside.changes.items c.reserve.new.self.items (raw c.self.inside.state) (raw c.with_end.new.self) c.args.self.now
+    c.reserve.ensures.items (ap (λ (t : State g.row.C.Denot). raw t) (same refl)) c.self.view_is

@@ -18,12 +18,15 @@ use Rattle.ll_resources.specs.declared.state.Stored.{Stored}
 use Rattle.ll_resources.specs.Saves.{block_of, kept_marks}
 use Rattle.ll_resources.specs.Resources.{Resources, saved_at, KeepsSaved, Fits, after_save, after_with_mid}
 use Rattle.ll_resources.specs.Raw.{Raw, raw, shown, front, stored, raw_loaded, raw_picked, raw_closed, raw_kept, kept_now, raw_remarked, kept_under}
-use Rattle.ll_resources.specs.Raw.{block_later, IsSound}
-use Rattle.ll_resources.specs.History.{History, HasMark, state_at, KeepsMarks, KeepsMarksTo}
+use Rattle.ll_resources.specs.Raw.{block_later, IsSound, HasNoLess}
+use Rattle.ll_resources.specs.History.{History, begun, HasMark, state_at, KeepsMarks, KeepsMarksTo}
 use Rattle.ll_resources.specs.Changes.{with_last, without_last, taken_back, before, states_before, history, AreSound, Leads}
 use Rattle.ll_resources.proofs.SeenLemmas.{front-push, front-last}
 use Rattle.ll_resources.proofs.KeptLemmas.{saved-cut}
-use Rattle.ll_resources.proofs.RawLemmas.{HasWithin, shown-kept, shown-mid}
+use Rattle.ll_resources.proofs.RawLemmas.{HasWithin, entries-count, shown-kept, shown-mid}
+
+le-trans : {a b c : ℕ} → a ≤ b → b ≤ c → a ≤ c
+le-trans h k = omega arith
 
 -- a range of no marks
 pub none_kept : KeptRange
@@ -145,6 +148,21 @@ module _ {C : Type 0} where
       sound-more cs ds c (raw old) (raw new) (vec_capacity old.entries) (vec_capacity old.live) (vec_capacity new.entries) (vec_capacity new.live)
       (e ∙ ap (λ xs. xs ++ c ∷ []) f) l.back l.room.entries l.room.live (sound-state new w) h
 
+  -- a state to which changes are taken back in a copy, alone
+  pub sound-alone : (j : ℕ) (cs ds : List (Change C)) (old copy new : State C) → ds ≡ [] → raw new ≡ before (drop j cs) (raw old)
+      → HasNoLess old copy → HasNoLess copy new
+      → AreSound cs (raw old) (vec_capacity old.entries) (vec_capacity old.live) → AreSound ds (raw new) (vec_capacity new.entries) (vec_capacity new.live)
+  sound-alone j cs ds old copy new e f a b h =
+      sound-same [] ds (raw new) (vec_capacity new.entries) (vec_capacity new.live) e
+      (sound-none (raw new) (vec_capacity new.entries) (vec_capacity new.live)
+      (subst (λ (t : Raw C). IsSound (vec_capacity new.entries) (vec_capacity new.live) t) (sym f)
+      (sound-wider (before (drop j cs) (raw old)) (vec_capacity old.entries) (vec_capacity old.live) (vec_capacity new.entries) (vec_capacity new.live)
+      (le-trans a.entries b.entries) (le-trans a.live b.live) (h j))))
+
+  -- what a copy is taken back to
+  pub back-copied : (j : ℕ) (cs ds : List (Change C)) (r s t : Raw C) → ds ≡ cs → s ≡ r → t ≡ before (drop j ds) s → t ≡ before (drop j cs) r
+  back-copied j cs ds r s t e f g = g ∙ (ap (λ xs. before (drop j xs) s) e ∙ ap (before (drop j cs)) f)
+
   -- ---- what each change is taken back to
 
   pub back-loaded : (kind : Kind) (clause : C) (r : Raw C) → taken_back (Loaded r.next r.flag) (raw_loaded kind clause r) ≡ r
@@ -230,10 +248,19 @@ module _ {C : Type 0} where
   mark-within cs r h mark v good = let n = length-states cs r in
       let m : length (states_before cs r) ≡ length h.past = ap (λ (k : History C). length k.past) v in omega arith
 
+  pub mark-along : (cs ds : List (Change C)) (r : Raw C) (h : History C) (mark : ContextMark) → ds ≡ cs → history cs r ≡ h → HasMark mark h
+      → mark.changes ≤ length ds
+  mark-along cs ds r h mark e v good = subst (λ xs. mark.changes ≤ length xs) (sym e) (mark-within cs r h mark v good)
+
   -- the state at a mark is that before the changes past it
   pub state-marked : (cs : List (Change C)) (r : Raw C) (h : History C) (mark : ContextMark) → history cs r ≡ h
       → state_at mark h ≡ shown (before (drop mark.changes cs) r)
   state-marked cs r h mark v = ap (state_at mark) (sym v) ∙ state-before cs mark.changes r
+
+  -- a context that came from no other state, in the state at a mark
+  pub image-is : (cs ds : List (Change C)) (r s : Raw C) (h : History C) (mark : ContextMark) → history cs r ≡ h → ds ≡ []
+      → s ≡ before (drop mark.changes cs) r → history ds s ≡ begun (state_at mark h)
+  image-is cs ds r s h mark v e f = ap (λ xs. history xs s) e ∙ ap begun (ap (λ (t : Raw C). shown t) f ∙ sym (state-marked cs r h mark v))
 
   -- the first states of those from which a context came
   first-states : (ps : List (Resources C)) (r : Resources C) (n m : ℕ) → n ≤ m → n ≤ length ps → m ≤ length ps
@@ -311,6 +338,10 @@ module _ {C : Type 0} where
 
   pub within-along : (r s : Raw C) → s ≡ r → HasWithin r → HasWithin s
   within-along r s e w = subst (λ (t : Raw C). HasWithin t) (sym e) w
+
+  -- there is an entry to be let go
+  pub entry-there : (cs : List (Change C)) (r : Raw C) (h : History C) → history cs r ≡ h → 0 < length h.present.entries → 0 < length r.entries
+  entry-there cs r h v l = subst (λ n. 0 < n) (entries-count r) (subst (λ (k : History C). 0 < length k.present.entries) (sym v) l)
 
   -- ---- what contracts see of the changes that keep marks
 

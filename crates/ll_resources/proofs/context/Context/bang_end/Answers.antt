@@ -1,11 +1,20 @@
-use Rattle.std.proofs.Common.{ap, sym, subst, ◌∙◌}
+use Rattle.std.proofs.Common.{refl, ap, sym, subst, ◌∙◌}
 use Rattle.std.specs.Prelude.{Some}
 use Rattle.ll_resources.specs.History.{History}
 use Rattle.ll_resources.specs.Raw.{Raw, raw, shown, kept_under, block_later}
 use Rattle.ll_resources.specs.Resources.{Fits, settled, bang_end}
 use Rattle.ll_resources.proofs.RawLemmas.{number-inside, shown-bang-end, within-remarked}
-use Rattle.ll_resources.proofs.ChangeLemmas.{sound-alike, sound-noted, marks-noted, within-now, within-along}
+use Rattle.ll_resources.proofs.ChangeLemmas.{sound-same, sound-alike, sound-noted, marks-alike, marks-noted, within-now, within-along}
 use Rattle.ll_resources.proofs.context.Context.bang_end.Goals as goal
+
+pub invariant_of-self : goal.invariant_of-self
+invariant_of-self g c =
+    sound-same c.self.inside.changes.items c.reserve.new.self.items (raw c.self.inside.state) _ _ c.reserve.ensures.items c.self.invariant
+
+pub returns-in_err-reserve-clause-marks : goal.returns-in_err-reserve-clause-marks
+returns-in_err-reserve-clause-marks g c =
+    marks-alike c.self.inside.changes.items c.reserve.new.self.items (raw c.self.inside.state) (raw c.self.inside.state) c.args.self.now
+    c.reserve.ensures.items refl c.self.view_is
 
 pub bang_end-requires : goal.bang_end-requires
 bang_end-requires g c = number-inside c.args.saved (raw c.self.inside.state)
@@ -36,3 +45,8 @@ invariant_of-self-in_err-change g c =
     sound-alike c.self.inside.changes.items c.reserve.new.self.items (raw c.self.inside.state) (raw c.bang_end.new.self) _ _ _ _ c.reserve.ensures.items
     c.in_err-change.ensures.refused
     c.in_err-change.ensures.room.entries c.in_err-change.ensures.room.live c.self.invariant
+
+pub returns-in_err-change-clause-marks : goal.returns-in_err-change-clause-marks
+returns-in_err-change-clause-marks g c =
+    marks-alike c.self.inside.changes.items c.reserve.new.self.items (raw c.self.inside.state) (raw c.bang_end.new.self) c.args.self.now
+    c.reserve.ensures.items c.in_err-change.ensures.refused c.self.view_is

@@ -1,16 +1,46 @@
-use Rattle.std.proofs.Common.{◌<◌, length, ap, sym, ◌∙◌, arith}
+use Rattle.std.proofs.Common.{◌≡◌, refl, ap, sym, subst, ◌∙◌}
+use Rattle.std.specs.Vec.{vec_capacity}
+use Rattle.ll_resources.specs.declared.state.State.{State}
 use Rattle.ll_resources.specs.History.{History}
 use Rattle.ll_resources.specs.Resources.{settled, load_end}
 use Rattle.ll_resources.specs.Raw.{raw}
-use Rattle.ll_resources.proofs.RawLemmas.{entries-count, shown-closed}
-use Rattle.ll_resources.proofs.ChangeLemmas.{sound-noted, marks-noted, within-now, within-along}
+use Rattle.ll_resources.specs.Changes.{AreSound}
+use Rattle.ll_resources.proofs.RawLemmas.{shown-closed, shown-fails}
+use Rattle.ll_resources.proofs.ChangeLemmas.{sound-same, sound-noted, history-alike, marks-alike, marks-noted, within-now, within-along, entry-there}
 use Rattle.ll_resources.proofs.context.Context.close.Goals as goal
 
+pub invariant_of-self : goal.invariant_of-self
+invariant_of-self g c =
+    sound-same c.self.inside.changes.items c.reserve.new.self.items (raw c.self.inside.state) _ _ c.reserve.ensures.items c.self.invariant
+
+pub returns-in_err-reserve-clause-marks : goal.returns-in_err-reserve-clause-marks
+returns-in_err-reserve-clause-marks g c =
+    marks-alike c.self.inside.changes.items c.reserve.new.self.items (raw c.self.inside.state) (raw c.self.inside.state) c.args.self.now
+    c.reserve.ensures.items refl c.self.view_is
+
 pub close-requires : goal.close-requires
-close-requires g c =
-    let n = entries-count (raw c.self.inside.state) in
-    let v = ap (λ (h : History g.row.C.Denot). length h.present.entries) c.self.view_is in
-    omega (arith, n, v, c.requires)
+close-requires g c = entry-there c.self.inside.changes.items (raw c.self.inside.state) c.args.self.now c.self.view_is c.requires
+
+pub invariant_of-self-in_default : goal.invariant_of-self-in_default
+invariant_of-self-in_default g c =
+    let same : c.close.new.self ≡ c.self.inside.state = c.in_default.ensures.same refl in
+    subst (λ (s : State g.row.C.Denot). AreSound c.reserve.new.self.items (raw s) (vec_capacity s.entries) (vec_capacity s.live)) (sym same)
+    (sound-same c.self.inside.changes.items c.reserve.new.self.items (raw c.self.inside.state) _ _ c.reserve.ensures.items c.self.invariant)
+
+pub returns-in_default-clause-settles : goal.returns-in_default-clause-settles
+returns-in_default-clause-settles g c = (
+  ap (λ (h : History g.row.C.Denot). settled (load_end c.args.saved h.present.entries) h.present) (sym c.self.view_is)
+      ∙ shown-fails c.args.saved (raw c.self.inside.state)
+      (entry-there c.self.inside.changes.items (raw c.self.inside.state) c.args.self.now c.self.view_is c.requires)
+      (c.in_default.ensures.fails refl),
+  history-alike c.self.inside.changes.items c.reserve.new.self.items (raw c.self.inside.state) (raw c.close.new.self) c.args.self.now
+      c.reserve.ensures.items (ap (λ (t : State g.row.C.Denot). raw t) (c.in_default.ensures.same refl)) c.self.view_is,
+)
+
+pub returns-in_default-clause-marks : goal.returns-in_default-clause-marks
+returns-in_default-clause-marks g c =
+    marks-alike c.self.inside.changes.items c.reserve.new.self.items (raw c.self.inside.state) (raw c.close.new.self) c.args.self.now
+    c.reserve.ensures.items (ap (λ (t : State g.row.C.Denot). raw t) (c.in_default.ensures.same refl)) c.self.view_is
 
 pub invariant_of-self-2 : goal.invariant_of-self-2
 invariant_of-self-2 g c =
@@ -25,9 +55,7 @@ returns-clause-marks g c =
 
 pub returns-clause-settles : goal.returns-clause-settles
 returns-clause-settles g c =
-    let l : 0 < length c.self.inside.state.entries.items =
-    (let n = entries-count (raw c.self.inside.state) in
-    let v = ap (λ (h : History g.row.C.Denot). length h.present.entries) c.self.view_is in
-    omega (arith, n, v, c.requires)) in
     ap (λ (h : History g.row.C.Denot). settled (load_end c.args.saved h.present.entries) h.present) (sym c.self.view_is)
-    ∙ shown-closed c.args.saved (raw c.self.inside.state) (raw c.close.new.self) l c.in-Some.ensures.closes
+    ∙ shown-closed c.args.saved (raw c.self.inside.state) (raw c.close.new.self)
+    (entry-there c.self.inside.changes.items (raw c.self.inside.state) c.args.self.now c.self.view_is c.requires)
+    c.in-Some.ensures.closes

@@ -1,11 +1,20 @@
-use Rattle.std.proofs.Common.{length, ap, ◌∙◌}
+use Rattle.std.proofs.Common.{refl, length, ap, ◌∙◌}
 use Rattle.std.specs.Prelude.{reverse}
 use Rattle.ll_resources.specs.History.{History}
 use Rattle.ll_resources.specs.Resources.{after_pick}
 use Rattle.ll_resources.specs.Raw.{Raw, raw, shown, raw_picked, mark_slot, first_place}
 use Rattle.ll_resources.proofs.RawLemmas.{shown-picked}
-use Rattle.ll_resources.proofs.ChangeLemmas.{sound-noted, marks-noted, within-now, within-along}
+use Rattle.ll_resources.proofs.ChangeLemmas.{sound-same, sound-noted, marks-alike, marks-noted, within-now, within-along}
 use Rattle.ll_resources.proofs.context.Context.pick.Goals as goal
+
+pub invariant_of-self : goal.invariant_of-self
+invariant_of-self g c =
+    sound-same c.self.inside.changes.items c.reserve.new.self.items (raw c.self.inside.state) _ _ c.reserve.ensures.items c.self.invariant
+
+pub returns-in_err-reserve-clause-marks : goal.returns-in_err-reserve-clause-marks
+returns-in_err-reserve-clause-marks g c =
+    marks-alike c.self.inside.changes.items c.reserve.new.self.items (raw c.self.inside.state) (raw c.self.inside.state) c.args.self.now
+    c.reserve.ensures.items refl c.self.view_is
 
 pub invariant_of-self-2 : goal.invariant_of-self-2
 invariant_of-self-2 g c =

@@ -1,18 +1,17 @@
-use Rattle.std.proofs.Common.{length, drop, ap, sym, ◌∙◌, arith, refl}
+use Rattle.std.proofs.Common.{drop, ap, sym, ◌∙◌}
 use Rattle.ll_resources.specs.Raw.{Raw, raw, shown}
 use Rattle.ll_resources.specs.Changes.{before}
-use Rattle.ll_resources.proofs.ChangeLemmas.{mark-within, state-marked, sound-alike, sound-take, marks-undone, saved-marked}
+use Rattle.ll_resources.proofs.ChangeLemmas.{mark-within, mark-along, state-marked, sound-same, sound-take, marks-undone, saved-marked}
 use Rattle.ll_resources.proofs.context.Context.undo.Goals as goal
 
 pub take_back-requires-clause-from : goal.take_back-requires-clause-from
 take_back-requires-clause-from g c =
-    let l = mark-within c.self.inside.changes.items (raw c.self.inside.state) c.args.self.now c.args.mark c.self.view_is c.requires in
-    omega (arith, l, ap length c.as_slice.ensures.value)
+    mark-along c.self.inside.changes.items c.as_slice.result.now (raw c.self.inside.state) c.args.self.now c.args.mark c.as_slice.ensures.value
+    c.self.view_is c.requires
 
 pub take_back-requires-clause-sound : goal.take_back-requires-clause-sound
 take_back-requires-clause-sound g c =
-    sound-alike c.self.inside.changes.items c.as_slice.result.now (raw c.self.inside.state) (raw c.self.inside.state) _ _ _ _ c.as_slice.ensures.value refl
-    (omega arith) (omega arith) c.self.invariant
+    sound-same c.self.inside.changes.items c.as_slice.result.now (raw c.self.inside.state) _ _ c.as_slice.ensures.value c.self.invariant
 
 pub invariant_of-self : goal.invariant_of-self
 invariant_of-self g c =

@@ -1,5 +1,5 @@
 -- What holds of each pool, through its calls.
-use Rattle.std.proofs.Common.{◌≡◌, ℕ, zero, suc, ◌+◌, ◌<◌, ◌≤◌, List, [], ◌∷◌, ◌++◌, true, false, length, map, refl, sym, ap, ◌∙◌, subst, ⊎_elim, arith}
+use Rattle.std.proofs.Common.{◌≡◌, ℕ, zero, suc, ◌+◌, ◌<◌, ◌≤◌, List, [], ◌∷◌, ◌++◌, Bool, true, false, length, map, refl, sym, ap, ◌∙◌, subst, ⊎_elim, arith}
 use Rattle.std.proofs.Common.{append_assoc, Some}
 use Rattle.std.specs.Prelude.{slice_get, slice_index}
 use Rattle.std.specs.Arc.{arc_value}
@@ -18,7 +18,7 @@ use Rattle.std.specs.declared.sync.Arc.{Arc}
 use Rattle.std.proofs.Common.{Global}
 use Rattle.ll_core.specs.declared.room.Slot.{Slot}
 use Rattle.ll_core.specs.declared.cursor.Stop.{Stop}
-use Rattle.ll_core.specs.Slots.{piece_in, stop_in}
+use Rattle.ll_core.specs.Slots.{piece_in, stop_in, data_of}
 use Rattle.ll_laws.specs.declared.Event.{Event}
 use Rattle.ll_core.specs.declared.room.Waiting.{Waiting}
 use Rattle.std.specs.List.{list_all}
@@ -252,3 +252,58 @@ module _ {N : Type 0} (alternatives : N → List (Owed Event)) where
       → Whole alternatives v waiting starts (map stop_in stops') capacity stack_capacity
   whole_stack v waiting starts stops stops' capacity stack_capacity e h =
       subst (λ ss. Whole alternatives v waiting starts (map stop_in ss) capacity stack_capacity) (sym e) h
+
+  -- in no less room
+  pub whole_wider : (v : PoolData N Event) (waiting : List (Waiting N)) (starts : List ℕ) (stack : List Alternative)
+      (capacity capacity' stack_capacity stack_capacity' : ℕ) → capacity ≤ capacity' → stack_capacity ≤ stack_capacity'
+      → Whole alternatives v waiting starts stack capacity stack_capacity → Whole alternatives v waiting starts stack capacity' stack_capacity'
+  whole_wider v waiting starts stack capacity capacity' stack_capacity stack_capacity' a b h = record {
+    formed = record {
+      order = h.formed.order;
+      copies = h.formed.copies;
+      room = below (length v.pieces + length waiting) capacity capacity' h.formed.room a;
+      small = h.formed.small;
+      few = h.formed.few;
+      busy = h.formed.busy;
+    };
+    shaped = h.shaped;
+    points = h.points;
+    filled = h.filled;
+    begins = h.begins;
+    long = h.long;
+    wide = below (length v.batches) stack_capacity stack_capacity' h.wide b;
+  }
+    where
+      below : (i n m : ℕ) → i ≤ n → n ≤ m → i ≤ m
+      below i n m h k = omega arith
+
+  module _ (arcs arcs' : List (Arc N Global)) (slots slots' : List Slot) (waiting waiting' : List (Waiting N)) (workers busy : ℕ) (starved stopped : Bool)
+      (a : arcs' ≡ arcs) (p : map piece_in slots' ≡ map piece_in slots) (w : waiting' ≡ waiting) where
+    -- a pool that is as before is seen as before
+    pub data_alike : data_of arcs' slots' (length waiting') workers busy starved stopped ≡ data_of arcs slots (length waiting) workers busy starved stopped
+    data_alike =
+        let l : length slots' ≡ length slots = sym (length-map slots' piece_in) ∙ (ap length p ∙ length-map slots piece_in) in
+        λ j. record {
+          batches = map arc_value (a j);
+          pieces = p j;
+          workers = workers;
+          busy = busy;
+          total = l j + length (w j);
+          untried = length (w j);
+          starved = starved;
+          stopped = stopped;
+        }
+
+    -- and is as sound in no less room
+    pub whole_alike : (starts starts' : List ℕ) (stops stops' : List Stop) (capacity capacity' stack_capacity stack_capacity' : ℕ)
+        → starts' ≡ starts → stops' ≡ stops → capacity ≤ capacity' → stack_capacity ≤ stack_capacity'
+        → Whole alternatives (data_of arcs slots (length waiting) workers busy starved stopped) waiting starts (map stop_in stops) capacity stack_capacity
+        → Whole alternatives (data_of arcs' slots' (length waiting') workers busy starved stopped) waiting' starts' (map stop_in stops') capacity'
+        stack_capacity'
+    whole_alike starts starts' stops stops' capacity capacity' stack_capacity stack_capacity' s t c d h =
+        let v : PoolData N Event = data_of arcs slots (length waiting) workers busy starved stopped in
+        subst (λ (u : PoolData N Event). Whole alternatives u waiting' starts' (map stop_in stops') capacity' stack_capacity') (sym data_alike)
+        (subst (λ ws. Whole alternatives v ws starts' (map stop_in stops') capacity' stack_capacity') (sym w)
+        (subst (λ ss. Whole alternatives v waiting ss (map stop_in stops') capacity' stack_capacity') (sym s)
+        (subst (λ ts. Whole alternatives v waiting starts (map stop_in ts) capacity' stack_capacity') (sym t)
+        (whole_wider v waiting starts (map stop_in stops) capacity capacity' stack_capacity stack_capacity' c d h))))

@@ -1,17 +1,25 @@
-use Rattle.std.proofs.Common.{◌≡◌, refl, ◌∙◌, ℕ, ◌<◌, ◌≤◌, ◌+◌, ◌-◌, ◌++◌, ◌∷◌, [], map, ap, subst, sym, length, arith}
+use Rattle.std.proofs.Common.{◌≡◌, refl, ◌∙◌, ℕ, ◌<◌, ◌≤◌, ◌+◌, ◌-◌, ◌++◌, ◌∷◌, [], map, ap, subst, sym, length, Fits, w32, arith}
 use Rattle.std.specs.Arc.{arc_value}
 use Rattle.std.proofs.lemmas.List.{length-map, length-set, map_push}
 use Rattle.ll_laws.specs.Pool.{PoolData}
 use Rattle.ll_laws.specs.declared.Event.{Event}
 use Rattle.ll_laws.specs.CoreEvents.{with_batch, change, IsOpenAt}
+use Rattle.std.specs.Vec.{vec_len, vec_capacity}
+use Rattle.ll_core.specs.declared.room.Slot.{Slot}
 use Rattle.ll_core.specs.Slots.{piece_in, status_in, stop_in, data_of}
 use Rattle.ll_core.proofs.sound.Wholes.{whole_grown, whole_stack, data_alike, whole_alike}
-use Rattle.ll_core.proofs.sound.Forming.{slot_changed, below_kept, publish_forms, publish_is, publish_total}
+use Rattle.ll_core.proofs.sound.Forming.{slot_changed, slot_below, below_kept, publish_forms, publish_is, publish_total}
 use Rattle.ll_core.proofs.pool.Pool.publish.Goals as goal
 
 -- with the batch there are no more alternatives than there may be
 fits : (a b p w m : ℕ) → a ≡ p → b ≡ w → p + w ≤ 4294967295 → m ≤ 4294967295 - (a + b) → p + w + m ≤ 4294967295
 fits a b p w m e f s h = omega arith
+
+total_fits : (a b p w : ℕ) → a ≡ p → b ≡ w → p + w ≤ 4294967295 → Fits w32 (a + b)
+total_fits a b p w e f s = omega arith
+
+number_fits : (r b p w : ℕ) → r ≡ b → b ≤ p + w → p + w ≤ 4294967295 → Fits w32 r
+number_fits r b p w e f s = omega arith
 
 -- room for one stop more than there are batches
 stack_room : (s k n cap : ℕ) → s + (1 + k) ≤ cap → k ≡ n → n + 1 ≤ cap
@@ -38,6 +46,18 @@ full before now a b p w m m' is e x y t h = (
   (λ j. x j + y j) ∙ (sym t ∙ ap (λ v. v.total) is),
   refl,
 )
+
+pub overflow_cast-total : goal.overflow_cast-total
+overflow_cast-total g c =
+    let i = c.self.inside in
+    total_fits c.len.result c.len-2.result (length i.pieces.items) (length i.waiting.items) (c.len.ensures ∙ i.pieces.ok.0) (c.len-2.ensures ∙ i.waiting.ok.0)
+    (subst (λ k. k + length i.waiting.items ≤ 4294967295) (length-map i.pieces.items piece_in) c.self.invariant.formed.small)
+
+pub overflow_cast-number : goal.overflow_cast-number
+overflow_cast-number g c =
+    let i = c.self.inside in let f = c.self.invariant.formed in
+    number_fits c.len-number.result (length (map arc_value i.batches.items)) (length (map piece_in i.pieces.items)) (length i.waiting.items)
+    (c.len-number.ensures ∙ (i.batches.ok.0 ∙ sym (length-map i.batches.items arc_value))) f.few f.small
 
 pub returns-then-total-len-clause-event : goal.returns-then-total-len-clause-event
 returns-then-total-len-clause-event g c =
@@ -98,6 +118,11 @@ returns-in_default-reserve-2-clause-event g c =
     (data_of i.batches.items i.pieces.items (length i.waiting.items) i.workers i.busy i.starved i.stopped) c.len-len.result _ c.self.view_is len small
     refl
 
+pub take_room-requires : goal.take_room-requires
+take_room-requires g c =
+    let o = subst (λ v. IsOpenAt v c.args.piece) (sym c.self.view_is) c.requires.open in
+    (c.type_bounds.send-N, (c.type_bounds.sync-N, slot_below c.self.inside.pieces.items c.args.piece o.0 o.1))
+
 pub invariant_of-self-in_default-take_room : goal.invariant_of-self-in_default-take_room
 invariant_of-self-in_default-take_room g c =
     let i = c.self.inside in let t = c.take_room.ensures in let r = c.take_room.new in
@@ -156,6 +181,19 @@ invariant_of-self-2 g c =
     c.self.invariant.formed o (c.push_reserved.ensures.items ∙ ap (λ l. l ++ c.args.batch ∷ []) t.batches) changed
     (c.len-number.ensures ∙ (i.batches.ok.0 ∙ sym (length-map i.batches.items arc_value))) c.in-Ok.ensures len some small ok.0
     (subst (λ k. k + length c.take_room.new.waiting.items ≤ c.take_room.new.pieces.cap) (sym (wide _)) ok.2)))
+
+pub push_reserved-requires : goal.push_reserved-requires
+push_reserved-requires g c = c.in-Ok-take_room.ensures.ok.1
+
+pub index_mut-requires : goal.index_mut-requires
+index_mut-requires g c =
+    let o = subst (λ v. IsOpenAt v c.args.piece) (sym c.self.view_is) c.requires.open in
+    subst (λ k. c.args.piece < k) (sym c.take_room.new.pieces.ok.0) (below_kept _ _ _ o.1 c.take_room.ensures.pieces)
+
+pub push_reserved-requires-3 : goal.push_reserved-requires-3
+push_reserved-requires-3 g c =
+    subst (λ (s : Slot). vec_len s.published < vec_capacity s.published) (sym c.index_mut.ensures.value)
+    (c.in-Ok-take_room.ensures.ok.3 c.index_mut.result.now)
 
 pub returns-clause-event : goal.returns-clause-event
 returns-clause-event g c =

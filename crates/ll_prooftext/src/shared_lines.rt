@@ -1,5 +1,5 @@
 //! What a line says over a table of shared terms.
-ghost use Rattle.std.specs.Prelude.{◌≡◌, ◌+◌, ◌<◌, ◌^◌, ◌++◌, ℕ, [], All, None, length, IfOk, IfErr, MatchOption};
+ghost use Rattle.std.specs.Prelude.{◌≡◌, ◌+◌, ◌<◌, ◌^◌, ◌∷◌, ◌++◌, ℕ, [], All, None, length, IfOk, IfErr, MatchOption};
 ghost use Rattle.ll_bank.specs.Nodes.{term_trees};
 ghost use Rattle.ll_prooftext.specs.Admitted.{IsPlainHead};
 ghost use Rattle.ll_prooftext.specs.Cells.{Stays, IsSignHead};
@@ -12,7 +12,7 @@ ghost use Rattle.ll_prooftext.specs.Terms.{Grows, IsSpelledAt};
 use crate::bytes::split_before;
 use crate::cells::{Front, cell_field, cell_fields, front_field, last_cell};
 use crate::rows::{NodeWord, Refusal, no_more, node, node_word, number_field, part_fields};
-use ll_bank::{At, Bank, Head, Names};
+use ll_bank::{At, Bank, Head, Names, OutOfMemory};
 use ll_laws::Rule;
 use std::alloc::Global;
 
@@ -183,10 +183,18 @@ fn plain_share(
     let (first, behind_first) = cell_field(bytes, rows, names, bank)?;
     let (others, rest) = cell_fields(alloc, behind_first, rows, names, bank)?;
     no_more(rest)?;
+    let args = with_first(alloc, first, &others)?;
+    Ok(bank.app(head, &args)?)
+}
+
+/// A first argument and the others.
+fn with_first(alloc: Global, first: At, others: &[At]) -> Result<Vec<At>, OutOfMemory>
+    ensures { IfOk result (λ args. args.items ≡ first ∷ others.now) }
+{
     let mut args = Vec::new(alloc);
     args.push(first)?;
-    args.extend_from_slice(&others)?;
-    Ok(bank.app(head, &args)?)
+    args.extend_from_slice(others)?;
+    Ok(args)
 }
 
 /// The term of the sign `::` and the two arguments behind it.

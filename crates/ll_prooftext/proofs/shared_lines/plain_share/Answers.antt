@@ -1,4 +1,4 @@
-use Rattle.std.proofs.Common.{length, subst, ◌∙◌, ap, List, [], ◌∷◌, ◌++◌}
+use Rattle.std.proofs.Common.{ℕ, ◌<◌, ◌≤◌, length, subst, ◌∙◌, ap, arith, List, ◌∷◌}
 use Rattle.std.proofs.lemmas.Result.{err_from_is_err_and}
 use Rattle.std.proofs.lemmas.List.{length-map}
 use Rattle.ll_bank.specs.declared.At.{At}
@@ -9,7 +9,11 @@ use Rattle.ll_prooftext.specs.Cells.{AreCellFields, StopsAtCell}
 use Rattle.ll_prooftext.proofs.reading.CellsRead.{stops_cell, cell_then, more_fields, rows_same, rows_stay}
 use Rattle.ll_prooftext.proofs.reading.LinesOver.{spine_made, spine_inside, more_bad, more_end}
 use Rattle.ll_prooftext.proofs.reading.Rest.{stops_here, stops_after, refuses_weaker}
+use Rattle.ll_prooftext.proofs.spelling.Kept.{grows_on}
 use Rattle.ll_prooftext.proofs.shared_lines.plain_share.Goals as goal
+
+below : (a b n : ℕ) → a ≤ b → b < n → a < n
+below a b n h k = omega arith
 
 pub returns-in_err-first-clause-err : goal.returns-in_err-first-clause-err
 returns-in_err-first-clause-err c =
@@ -17,6 +21,12 @@ returns-in_err-first-clause-err c =
     let p = err_from_is_err_and c.from_residual.result c.from_residual.ensures.1 in
     rw (p.1, p.2) (refuses_weaker (LacksField (Cell n) c.args.bytes.now) (StopsAt (Then (Cell n) (More n)) c.args.bytes.now)
     (λ k h. stops_here (Cell n) (More n) c.args.bytes.now k h) c.in_err-first.field-0.0 c.in_err-first.ensures.err)
+
+pub cell_fields-requires-clause-end : goal.cell_fields-requires-clause-end
+cell_fields-requires-clause-end c = c.in_ok-first.ensures.ok.end
+
+pub cell_fields-requires-clause-room : goal.cell_fields-requires-clause-room
+cell_fields-requires-clause-room c = below _ _ _ c.in_ok-first.ensures.ok.moves.few c.requires.room
 
 pub cell_fields-requires-clause-rows : goal.cell_fields-requires-clause-rows
 cell_fields-requires-clause-rows c = rows_stay c.args.names.now c.args.bank.now c.cell_field.new.names c.cell_field.new.bank c.args.rows.now
@@ -60,9 +70,7 @@ app-requires c =
     c.in_ok-first.first c.in_ok-first.behind_first.now c.cell_fields.new.names c.cell_fields.new.bank c.in_ok-others.others.items c.deref-2.result.now
     c.in_ok-others.rest.now
     c.in_ok-first.ensures.ok t
-    (c.deref-2.ensures.value ∙ (c.in_ok-extend_from_slice.ensures.items
-    ∙ (ap (λ (z : List At). z ++ c.deref.result.now) (c.in_ok-push.ensures.items
-    ∙ ap (λ (z : List At). z ++ c.in_ok-first.first ∷ []) c.new-args.ensures.items) ∙ ap (λ (z : List At). c.in_ok-first.first ∷ z) c.deref.ensures.value)))
+    (c.deref-2.ensures.value ∙ (c.in_ok-args.ensures ∙ ap (λ (z : List At). c.in_ok-first.first ∷ z) c.deref.ensures.value))
 
 pub returns-clause-ok : goal.returns-clause-ok
 returns-clause-ok c =
@@ -73,7 +81,25 @@ returns-clause-ok c =
     c.cell_field.new.bank c.in_ok-first.first c.in_ok-first.behind_first.now c.cell_fields.new.names c.cell_fields.new.bank c.app.new.self
     c.in_ok-others.others.items c.deref-2.result.now
     c.in_ok-others.rest.now c.in_ok-app.field-0.0 c.requires.plain c.in_ok-first.ensures.ok t c.in_ok-no_more.ensures.ok
-    (c.deref-2.ensures.value ∙ (c.in_ok-extend_from_slice.ensures.items
-    ∙ (ap (λ (z : List At). z ++ c.deref.result.now) (c.in_ok-push.ensures.items
-    ∙ ap (λ (z : List At). z ++ c.in_ok-first.first ∷ []) c.new-args.ensures.items) ∙ ap (λ (z : List At). c.in_ok-first.first ∷ z) c.deref.ensures.value)))
+    (c.deref-2.ensures.value ∙ (c.in_ok-args.ensures ∙ ap (λ (z : List At). c.in_ok-first.first ∷ z) c.deref.ensures.value))
     c.in_ok-app.ensures.shows c.in_ok-app.ensures.keeps
+
+pub returns-in_err-others-clause-grows : goal.returns-in_err-others-clause-grows
+returns-in_err-others-clause-grows c = grows_on c.args.names.now c.cell_field.new.names c.cell_fields.new.names c.cell_field.ensures.grows
+    c.cell_fields.ensures.grows
+
+pub returns-in_err-no_more-clause-grows : goal.returns-in_err-no_more-clause-grows
+returns-in_err-no_more-clause-grows c = grows_on c.args.names.now c.cell_field.new.names c.cell_fields.new.names c.cell_field.ensures.grows
+    c.cell_fields.ensures.grows
+
+pub returns-in_err-args-clause-grows : goal.returns-in_err-args-clause-grows
+returns-in_err-args-clause-grows c = grows_on c.args.names.now c.cell_field.new.names c.cell_fields.new.names c.cell_field.ensures.grows
+    c.cell_fields.ensures.grows
+
+pub returns-in_err-app-clause-grows : goal.returns-in_err-app-clause-grows
+returns-in_err-app-clause-grows c = grows_on c.args.names.now c.cell_field.new.names c.cell_fields.new.names c.cell_field.ensures.grows
+    c.cell_fields.ensures.grows
+
+pub returns-clause-grows : goal.returns-clause-grows
+returns-clause-grows c = grows_on c.args.names.now c.cell_field.new.names c.cell_fields.new.names c.cell_field.ensures.grows
+    c.cell_fields.ensures.grows

@@ -1,7 +1,16 @@
-use Rattle.std.proofs.Common.{sym, ap, ◌∙◌, refl, Some}
+use Rattle.std.proofs.Common.{sym, ap, subst, ◌∙◌, refl, Some}
 use Rattle.ll_lists.proofs.CallerLemmas.{IfOk-each as if_ok}
-use Rattle.ll_prooftext.proofs.spelling.Close.{closed_term, ends_whole, closes_argument, closes_leaf, item_step, none_popped}
+use Rattle.ll_bank.specs.Nodes.{AllInTerms}
+use Rattle.ll_prooftext.proofs.spelling.Close.{closed_term, ends_whole, closes_none, closes_argument, closes_leaf, item_step, none_popped}
+use Rattle.ll_prooftext.proofs.spelling.Kept.{grows_none}
 use Rattle.ll_prooftext.proofs.terms.Open.close.Goals as goal
+
+pub returns-then-not-is_compound-clause-step : goal.returns-then-not-is_compound-clause-step
+returns-then-not-is_compound-clause-step c = closes_none c.args.self.now c.args.part c.args.rest.now c.requires.part
+    (sym c.is_compound.ensures ∙ c.if-not-is_compound.true)
+
+pub term_of-requires : goal.term_of-requires
+term_of-requires c = subst (AllInTerms c.args.bank.now) (sym c.deref.ensures.value) (λ k d l. (c.requires.good.top.args k d l).inside)
 
 pub returns-in_default-clause-step : goal.returns-in_default-clause-step
 returns-in_default-clause-step c =
@@ -41,3 +50,24 @@ returns-in_default-part-clause-step c =
     (record { top = c.in-Some.outer; outer = c.pop.new.self }) c.in-Some.ensures.items c.in_default-part.is c.is_chain-is_chain.result
     c.is_chain-is_chain.ensures c.close_item.new.names c.close_item.new.self step i)
     c.close_item.ensures.step
+
+pub returns-then-not-is_compound-clause-grows : goal.returns-then-not-is_compound-clause-grows
+returns-then-not-is_compound-clause-grows c = grows_none c.args.names.now
+
+pub returns-in_err-last-clause-grows : goal.returns-in_err-last-clause-grows
+returns-in_err-last-clause-grows c = grows_none c.args.names.now
+
+pub returns-in_err-at-clause-grows : goal.returns-in_err-at-clause-grows
+returns-in_err-at-clause-grows c = grows_none c.args.names.now
+
+pub returns-in_default-clause-grows : goal.returns-in_default-clause-grows
+returns-in_default-clause-grows c = grows_none c.args.names.now
+
+pub returns-in_err-push-in-Head-clause-grows : goal.returns-in_err-push-in-Head-clause-grows
+returns-in_err-push-in-Head-clause-grows c = grows_none c.args.names.now
+
+pub returns-in_ok-push-in-Head-clause-grows : goal.returns-in_ok-push-in-Head-clause-grows
+returns-in_ok-push-in-Head-clause-grows c = grows_none c.args.names.now
+
+pub returns-in-Term-clause-grows : goal.returns-in-Term-clause-grows
+returns-in-Term-clause-grows c = grows_none c.args.names.now

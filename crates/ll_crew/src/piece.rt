@@ -233,6 +233,15 @@ fn engine_for<'p, R, O>(
     }
 }
 
+// Keeps a value in place of the one that there was.
+fn keep<T>(kept: &mut Option<T>, value: T)
+where
+    T: Drop,
+    ensures { kept.new ≡ Some value }
+{
+    *kept = Some(value);
+}
+
 // Runs an alternative of a batch that came back to its end. Adds its events, and answers its inferences. None where the pool is starved or
 // stopped.
 fn run_one<'p, R: Wait, O: Outlet>(
@@ -263,7 +272,7 @@ fn run_one<'p, R: Wait, O: Outlet>(
     let mut engine = engine_for(job, kept, batch, k)?;
     let done = run_alone(job, seat, &mut engine, events, told, out);
     let inferences = engine.cost();
-    *kept = Some(engine);
+    keep(kept, engine);
     if done? {
         return Ok(Some(inferences));
     }
@@ -377,7 +386,7 @@ fn run_claimed<'p, R: Wait, O: Outlet>(
 {
     let mut engine = engine_for(job, kept, batch, k)?;
     let ending = run_to_end(job, seat, &mut engine, events, told, out);
-    *kept = Some(engine);
+    keep(kept, engine);
     ending
 }
 

@@ -1,5 +1,5 @@
 //! From the words of a check, or of a cover, to what it finds.
-ghost use Rattle.std.specs.Prelude.{◌≡◌, ◌≤◌, length, true, IfOk, IfErr, IfSome, OnOk};
+ghost use Rattle.std.specs.Prelude.{◌≡◌, ◌≤◌, ℕ, List, length, true, unwrap_or, IfOk, IfErr, IfSome, OnOk};
 ghost use Rattle.std.specs.List.{position_from};
 ghost use Rattle.ll_bank.specs.Names.{with_names};
 ghost use Rattle.ll_edge.specs.Counts.{Rose};
@@ -10,6 +10,7 @@ ghost use Rattle.ll_prooftext.specs.Mentions.{text_names};
 ghost use Rattle.ll_prooftext.specs.Terms.{Grows};
 ghost use Rattle.ll_prooftext.specs.Versions.{IsProofText};
 ghost use Rattle.ll_top.specs.Counting.{is_counting};
+ghost use Rattle.ll_top.specs.Judging.{TextsAsk};
 ghost use Rattle.ll_top.specs.Words.{shown_check};
 ghost use Rattle.ll_top.specs.Endings.{IsFinding, IsNoDerivation, Finds, CheckFinds, CheckEnds};
 
@@ -87,8 +88,24 @@ fn finding_of(
     ensures { Finds program.now query.now proof.now bound result }
 {
     let mut problem = problem_of(alloc, program, query, bound.unwrap_or(0))?;
+    let finding = finding_over(alloc, &mut problem, proof, bound);
+    drop(problem);
+    finding
+}
+
+// What is found of a derivation's text over a problem, with the bound of a cover or none. The names that it mentions come to the problem's.
+fn finding_over(
+    alloc: Global,
+    problem: &mut Problem,
+    proof: &[u8],
+    bound: Option<u32>,
+) -> Result<Finding, Refusal>
+    requires valid { IsValid problem.now }
+    requires proof { length proof.now ≤ 16777216 }
+    ensures { (program query : List ℕ) → TextsAsk program query (unwrap_or bound 0) problem.old → Finds program query proof.now bound result }
+{
     let derivation = derivation_of(alloc, proof, &mut problem.names)?;
-    let finding = judged(alloc, &problem, &derivation, bound.is_some())?;
+    let finding = judged(alloc, problem, &derivation, bound.is_some())?;
     Ok(finding)
 }
 

@@ -1,9 +1,10 @@
 //! From the words of a conversion to its bytes.
-ghost use Rattle.std.specs.Prelude.{◌≡◌, ◌≤◌, ◌⊎◌, length, IfOk};
+ghost use Rattle.std.specs.Prelude.{◌≡◌, ◌≤◌, ◌⊎◌, ℕ, List, length, IfOk};
 ghost use Rattle.ll_edge.specs.Counts.{Rose};
 ghost use Rattle.ll_prooftext.specs.Sizes.{text_in};
+ghost use Rattle.ll_prooftext.specs.Versions.{IsProofText};
 ghost use Rattle.ll_top.specs.Calls.{Ends};
-ghost use Rattle.ll_top.specs.Converting.{ConvertComesTo};
+ghost use Rattle.ll_top.specs.Converting.{own_names, ConvertComesTo};
 ghost use Rattle.ll_top.specs.ConvertEnds.{IsConversionOf, Converts};
 ghost use Rattle.ll_top.specs.Words.{shown_convert};
 
@@ -79,7 +80,7 @@ fn conversion<F: Shelf>(
     converted(alloc, &proof, convert.version)
 }
 
-// What a text of a derivation comes to in a version. Its length is found first, so no text that is too long is made.
+// What a text of a derivation comes to in a version.
 fn converted(alloc: Global, proof: &[u8], version: u8) -> Result<NewText, Refusal>
     requires short { length proof.now ≤ 16777216 }
     requires version { (version ≡ 1) ⊎ (version ≡ 2) }
@@ -87,10 +88,23 @@ fn converted(alloc: Global, proof: &[u8], version: u8) -> Result<NewText, Refusa
 {
     let mut names = Names::new(alloc);
     let derivation = derivation_of(alloc, proof, &mut names)?;
-    if size(alloc, &names, &derivation, version)? > LONGEST_TEXT as u64 {
+    new_text(alloc, &names, &derivation, version)
+}
+
+// What a derivation comes to in a version. The length of its text is found first, so no text that is too long is made.
+fn new_text(
+    alloc: Global,
+    names: &Names,
+    derivation: &Derivation,
+    version: u8,
+) -> Result<NewText, Refusal>
+    requires { (version ≡ 1) ⊎ (version ≡ 2) }
+    ensures { (proof : List ℕ) → names.now ≡ own_names proof → IsProofText names.now proof derivation.now → IsConversionOf proof version result }
+{
+    if size(alloc, names, derivation, version)? > LONGEST_TEXT as u64 {
         return Ok(NewText::TooLong);
     }
-    let text = text_as(alloc, &names, &derivation, version)?;
+    let text = text_as(alloc, names, derivation, version)?;
     Ok(NewText::Whole(text))
 }
 

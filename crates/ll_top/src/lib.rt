@@ -23,13 +23,18 @@ mod silent;
 mod team;
 mod words;
 
-ghost use Rattle.std.specs.Prelude.{◌≡◌, ◌≤◌, ◌<◌, ◌↔◌, ◌⊎◌, ℕ, List, Option, None, Some, IfSome};
+ghost use Rattle.std.specs.Prelude.{◌≡◌, ◌≤◌, ◌<◌, ◌↔◌, ◌⊎◌, ℕ, List, Option, None, Some, IfSome, IfOk, IfErr, OnOk, OnErr};
+ghost use Rattle.std.specs.Io.KnownBytes.{append_known};
 ghost use Rattle.ll_edge.specs.Counts.{Rose};
+ghost use Rattle.ll_edge.specs.Pieces.{AppendsFront};
 ghost use Rattle.ll_edge.specs.Texts.{Texts};
+ghost use Rattle.ll_laws.specs.Valid.{IsValid};
 ghost use Rattle.ll_top.specs.Words.{FitsForm, cover_form, IsInForm, IsInWorkersForm, RunWords, IsRun, shown_words, shown_check};
 ghost use Rattle.ll_top.specs.Outcome.{word_texts, name_of, name_in_check, RunComesTo, PrintComesTo, CheckComesTo, IsDenied, IsCoveredCall, IsUncoveredCall};
+ghost use Rattle.ll_top.specs.Outcome.{text_of_run, status_of_run};
 ghost use Rattle.ll_top.specs.Calls.{ComesTo, Ends, Completes, Headline};
 ghost use Rattle.ll_top.specs.Endings.{status_of_found, status_of_finding, RunEnds};
+ghost use Rattle.ll_top.specs.Running.{IsRunRefusal};
 ghost use Rattle.ll_top.specs.Proved.{WritesShown};
 ghost use Rattle.ll_top.specs.Nothing.{AsksInVain};
 
@@ -41,7 +46,7 @@ use finding::Finding;
 use first_run::run_first;
 use judge::Role;
 use ll_edge::{Gate, Shelf, Sink};
-use ll_laws::{answers_are_shown, search_is_complete};
+use ll_laws::{Problem, answers_are_shown, search_is_complete};
 use ll_lexer::one_reading;
 use ll_parser::{one_program, one_query};
 use ll_prooftext::one_derivation_in_any;
@@ -296,9 +301,31 @@ fn run_texts<R: Threads + Wait + Sync, F: Shelf, O: Sink, G: Gate>(
         (Rose (O.faults sink.old) (O.faults sink.new)) (shown_words command.now) (O.written sink.old) (O.written sink.new) result }
 {
     let problem = prepare(team.alloc, command, shelf)?;
-    match command.first {
-        None => run(team, &problem, command.proofs, sink),
-        Some(wanted) => run_first(team, &problem, command.proofs, wanted, sink),
+    let found = run_problem(team, &problem, command.proofs, command.first, sink);
+    drop(problem);
+    found
+}
+
+// Runs a problem, to its end or until so many answers are found.
+fn run_problem<R: Threads + Wait + Sync, O: Sink, G: Gate>(
+    team: &Team<'_, R, G>,
+    problem: &Problem,
+    proofs: bool,
+    first: Option<u32>,
+    sink: &mut O,
+) -> Result<Found, Refusal>
+    requires valid { IsValid problem.now }
+    requires first { IfSome first (λ wanted. 0 < wanted) }
+
+    ensures faults_kept { O.faults sink.old ≤ O.faults sink.new }
+    ensures found { IfOk result (λ found. status_of_found found ≡ status_of_run first problem.now) }
+    ensures text { OnOk result (O.written sink.new ≡ append_known (O.written sink.old) (text_of_run first proofs problem.now)) }
+    ensures refused { IfErr result (IsRunRefusal (O.faults sink.old) (O.faults sink.new)) }
+    ensures prefix { OnErr result (AppendsFront (O.written sink.old) (text_of_run first proofs problem.now) (O.written sink.new)) }
+{
+    match first {
+        None => run(team, problem, proofs, sink),
+        Some(wanted) => run_first(team, problem, proofs, wanted, sink),
     }
 }
 

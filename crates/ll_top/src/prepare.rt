@@ -94,8 +94,7 @@ pub fn load_text(alloc: Global, text: &[u8]) -> Result<Loaded, TextFault>
     ensures cause { IfErr result (IsProgramCause text.now) }
 {
     let program = judge_program(alloc, text)?;
-    let loaded = load(alloc, &program)?;
-    Ok(loaded)
+    load(alloc, &program)
 }
 
 // The problem that a query's text asks of a part, or the text's fault. The part is spent in every case.
@@ -106,8 +105,7 @@ fn ask_text(alloc: Global, loaded: Loaded, text: &[u8], bound: u32) -> Result<Pr
     ensures cause { IfErr result (IsQueryCause loaded text.now) }
 {
     let query = judge_query(alloc, text)?;
-    let problem = ask(alloc, loaded, &query, bound)?;
-    Ok(problem)
+    ask(alloc, loaded, &query, bound)
 }
 
 /// The refusal of a text that has a fault.

@@ -1,6 +1,8 @@
 //! From the words of a print to its bytes.
 ghost use Rattle.std.specs.Prelude.{◌≡◌, ◌≤◌, length, IfOk, IfErr};
 ghost use Rattle.ll_edge.specs.Counts.{Rose};
+ghost use Rattle.ll_parser.specs.Printed.{program_text};
+ghost use Rattle.ll_top.specs.declared.refusal.Refusal.TheVariants.{OutOfMemory};
 ghost use Rattle.ll_top.specs.Outcome.{IsPrintedAs};
 ghost use Rattle.ll_top.specs.Endings.{IsNotPrinted, IsMadeOf, IsNotMadeOf, PrintEnds};
 
@@ -8,6 +10,7 @@ use crate::judge::{Role, judge_program};
 use crate::prepare::{read, refusal};
 use crate::refusal::Refusal;
 use ll_edge::{Shelf, Sink, write_all};
+use ll_parser::RawProgram;
 use std::alloc::Global;
 
 /// Writes the program of this name as it is printed. After a refusal of the text nothing was written, else a prefix.
@@ -54,7 +57,15 @@ fn printed_text(alloc: Global, text: &[u8]) -> Result<Vec<u8>, Refusal>
         Ok(program) => program,
         Err(fault) => return Err(refusal(Role::Program, fault)),
     };
+    program_bytes(alloc, &program)
+}
+
+// The bytes that a program is printed as.
+fn program_bytes(alloc: Global, program: &RawProgram) -> Result<Vec<u8>, Refusal>
+    ensures bytes { IfOk result (λ bytes. bytes.items ≡ program_text program.now) }
+    ensures refused { IfErr result (λ e. e ≡ OutOfMemory) }
+{
     let mut bytes = Vec::new(alloc);
-    ll_printer::program(alloc, &program, &mut bytes)?;
+    ll_printer::program(alloc, program, &mut bytes)?;
     Ok(bytes)
 }

@@ -202,7 +202,11 @@ fn reply_to_line<R: Threads + Wait + Sync, O: Sink, G: Gate>(
 {
     let part = loaded.copy(team.alloc)?;
     match ask_text(team.alloc, part, line, session.bound) {
-        Ok(problem) => reply_with_run(team, session, number, &problem, index, sink),
+        Ok(problem) => {
+            let reply = reply_with_run(team, session, number, &problem, index, sink);
+            drop(problem);
+            reply
+        }
         Err(TextFault::Text(fault)) => { reply_with_fault(session, on_line(number, fault), sink) }
         Err(TextFault::OutOfMemory) => Err(Refusal::OutOfMemory),
     }

@@ -93,20 +93,30 @@ pub program-unread : (text : List ℕ) (e : TextFault) → IsReadingCause Progra
 program-unread text (text_fault.Text f) h = of_program_reading h
 program-unread text text_fault.OutOfMemory h = tt
 
-pub program-unloaded : (text : List ℕ) (tree : ProgramTree) (e : TextFault) → IsProgramText text tree → IsCauseOf (HasProgramFault tree) e
+program-unloaded : (text : List ℕ) (tree : ProgramTree) (e : TextFault) → IsProgramText text tree → IsCauseOf (HasProgramFault tree) e
     → IsProgramCause text e
 program-unloaded text tree (text_fault.Text f) p h = of_program_scope tree p h
 program-unloaded text tree text_fault.OutOfMemory p h = tt
+
+pub program-loaded : {A : Type 0} (text : List ℕ) (tree : ProgramTree) (r : Result A TextFault) → IsProgramText text tree
+    → IfErr r (IsCauseOf (HasProgramFault tree)) → IfErr r (IsProgramCause text)
+program-loaded text tree (Ok x) p h = tt
+program-loaded text tree (Err e) p h = program-unloaded text tree e p h
 
 -- a query's text that is not read, or asks nothing
 pub query-unread : (part : ProgramPart) (text : List ℕ) (e : TextFault) → IsReadingCause Query text e → IsQueryCause part text e
 query-unread part text (text_fault.Text f) h = λ program is. of_query_reading h
 query-unread part text text_fault.OutOfMemory h = tt
 
-pub query-unasked : (part : ProgramPart) (text : List ℕ) (tree : Raw) (e : TextFault) → IsQueryText text tree
+query-unasked : (part : ProgramPart) (text : List ℕ) (tree : Raw) (e : TextFault) → IsQueryText text tree
     → IsCauseOf (λ fault. (program : ProgramTree) → part ≡ part_of program → HasQueryFault program tree fault) e → IsQueryCause part text e
 query-unasked part text tree (text_fault.Text f) q h = λ program is. of_query_scope tree q (h program is)
 query-unasked part text tree text_fault.OutOfMemory q h = tt
+
+pub query-asked : {A : Type 0} (part : ProgramPart) (text : List ℕ) (tree : Raw) (r : Result A TextFault) → IsQueryText text tree
+    → IfErr r (IsCauseOf (λ fault. (program : ProgramTree) → part ≡ part_of program → HasQueryFault program tree fault)) → IfErr r (IsQueryCause part text)
+query-asked part text tree (Ok x) q h = tt
+query-asked part text tree (Err e) q h = query-unasked part text tree e q h
 
 -- ---- prints
 

@@ -1,10 +1,5 @@
-use Rattle.std.proofs.Common.{sym, subst}
-use Rattle.std.specs.Prelude.{unwrap_or}
 use Rattle.std.proofs.lemmas.Result.{err_from_is_err_and}
-use Rattle.ll_laws.specs.Valid.{IsValid}
-use Rattle.ll_laws.specs.contracts.Problem.{the_view}
-use Rattle.ll_top.specs.Judging.{TextsAsk}
-use Rattle.ll_top.proofs.calls.CheckLemmas.{small-bound, run-texts-refused, proof-refused, found-of, valid-grown}
+use Rattle.ll_top.proofs.calls.CheckLemmas.{small-bound, run-texts-refused}
 use Rattle.ll_top.proofs.checking.finding_of.Goals as goal
 
 pub returns-in_err-problem : goal.returns-in_err-problem
@@ -12,29 +7,8 @@ returns-in_err-problem c =
     let p = err_from_is_err_and c.from_residual.result c.from_residual.ensures.1 in
     rw (p.1, p.2) (run-texts-refused c.args.program.now c.args.query.now c.args.proof.now c.args.bound _ c.in_err-problem.ensures.judges)
 
-pub returns-in_err-derivation : goal.returns-in_err-derivation
-returns-in_err-derivation c =
-    let p = err_from_is_err_and c.from_residual-in_err-derivation.result c.from_residual-in_err-derivation.ensures.1 in
-    rw (p.1, p.2) (proof-refused c.args.program.now c.args.query.now c.args.proof.now c.args.bound _ (rw c.unwrap_or.ensures at c.in_ok-problem.ensures.judges)
-    _ c.in_err-derivation.ensures.refused)
-
-pub returns-in_err-finding : goal.returns-in_err-finding
-returns-in_err-finding c =
-    let p = err_from_is_err_and c.from_residual-in_err-finding.result c.from_residual-in_err-finding.ensures.1 in
-    rw (p.1, p.2) tt
-
-pub judged-requires-clause-valid : goal.judged-requires-clause-valid
-judged-requires-clause-valid c = valid-grown (the_view c.problem.inside) _ c.in_ok-derivation.ensures.grows
-    (subst IsValid (sym c.problem.view_is) c.in_ok-problem.ensures.valid)
-
 pub returns : goal.returns
-returns c =
-    let program = c.args.program.now in
-    let query = c.args.query.now in
-    let asks = subst (TextsAsk program query (unwrap_or c.args.bound 0)) (sym c.problem.view_is) (rw c.unwrap_or.ensures at c.in_ok-problem.ensures.judges) in
-    found-of program query c.args.proof.now c.args.bound (the_view c.problem.inside) asks c.derivation_of.new.names c.in_ok-derivation.ensures.names
-    c.in_ok-derivation.derivation c.in_ok-derivation.ensures.read
-    c.in_ok-finding.finding (rw c.is_some.ensures at c.in_ok-finding.ensures)
+returns c = c.finding_over-finding.ensures c.args.program.now c.args.query.now (rw c.unwrap_or.ensures at c.in_ok-problem.ensures.judges)
 
 pub problem_of-requires-clause-bound : goal.problem_of-requires-clause-bound
 problem_of-requires-clause-bound c = rw c.unwrap_or.ensures (small-bound c.args.bound c.requires.bound)

@@ -1,5 +1,5 @@
 use Rattle.std.proofs.lemmas.Result.{err_from_is_err_and}
-use Rattle.ll_top.proofs.calls.PrepareLemmas.{query-unread, query-unasked}
+use Rattle.ll_top.proofs.calls.PrepareLemmas.{query-unread, query-asked}
 use Rattle.ll_top.proofs.prepare.ask_text.Goals as goal
 
 pub returns-in_err-query-clause-cause : goal.returns-in_err-query-clause-cause
@@ -7,7 +7,5 @@ returns-in_err-query-clause-cause c =
     let p = err_from_is_err_and c.from_residual.result c.from_residual.ensures.1 in
     rw (p.1, p.2) (query-unread c.args.loaded c.args.text.now _ c.in_err-query.ensures.err)
 
-pub returns-in_err-problem-clause-cause : goal.returns-in_err-problem-clause-cause
-returns-in_err-problem-clause-cause c =
-    let p = err_from_is_err_and c.from_residual-in_err-problem.result c.from_residual-in_err-problem.ensures.1 in
-    rw (p.1, p.2) (query-unasked c.args.loaded c.args.text.now _ _ c.in_ok-query.ensures.ok c.in_err-problem.ensures.fault)
+pub returns-clause-cause : goal.returns-clause-cause
+returns-clause-cause c = query-asked c.args.loaded c.args.text.now _ c.ask.result c.in_ok-query.ensures.ok c.ask.ensures.fault

@@ -8,12 +8,12 @@ use Rattle.ll_top.specs.SessionEnds.{WritesReply, CutsReply}
 use Rattle.ll_top.proofs.calls.SessionLemmas.{query-indexed}
 use Rattle.ll_top.proofs.session.reply_to_line.Goals as goal
 
-pub reply_with_run-requires-clause-valid : goal.reply_with_run-requires-clause-valid
-reply_with_run-requires-clause-valid g c κs within = let l = c.requires.loaded in
+pub reply_with_run-reply-requires-clause-valid : goal.reply_with_run-reply-requires-clause-valid
+reply_with_run-reply-requires-clause-valid g c κs within = let l = c.requires.loaded in
     (c.in-Ok.ensures.asks l.0 (subst (IsProgramOf l.0) (sym c.in_ok-part.ensures) l.1)).1
 
-pub reply_with_run-requires-clause-index : goal.reply_with_run-requires-clause-index
-reply_with_run-requires-clause-index g c κs within =
+pub reply_with_run-reply-requires-clause-index : goal.reply_with_run-reply-requires-clause-index
+reply_with_run-reply-requires-clause-index g c κs within =
     let l = c.requires.loaded in
     query-indexed l.0 c.args.loaded.now c.args.line.now c.args.session.now.bound c.in-Ok.problem _ l.1
     (c.in-Ok.ensures.asks l.0 (subst (IsProgramOf l.0) (sym c.in_ok-part.ensures) l.1)).0 c.requires.index
@@ -24,14 +24,14 @@ returns-in-Ok-clause-replies g c =
     on-ok
     {Q = (program : ProgramTree) → IsProgramOf program c.args.loaded.now
     → Replies (WritesReply s.proofs s.queries.now) (CutsReply s.proofs s.queries.now) program s.bound c.args.number c.args.line.now
-    (g.O.Sink.written c.args.sink.now) (g.O.Sink.written c.reply_with_run.new.sink)}
-    c.reply_with_run.result
+    (g.O.Sink.written c.args.sink.now) (g.O.Sink.written c.reply_with_run-reply.new.sink)}
+    c.reply_with_run-reply.result
     (λ taken program is. record {
       what = Ok c.in-Ok.problem;
       asks =
           (c.in-Ok.ensures.asks program (subst (IsProgramOf program) (sym c.in_ok-part.ensures) is)).0;
       taken = taken;
-    }) c.reply_with_run.ensures.text
+    }) c.reply_with_run-reply.ensures.text
 
 pub returns-in-Ok-clause-cut : goal.returns-in-Ok-clause-cut
 returns-in-Ok-clause-cut g c =
@@ -39,10 +39,10 @@ returns-in-Ok-clause-cut g c =
     on-err
     {Q = (program : ProgramTree) → IsProgramOf program c.args.loaded.now
     → RefusesLine (WritesReply s.proofs s.queries.now) (CutsReply s.proofs s.queries.now) program s.bound c.args.number c.args.line.now
-    (g.O.Sink.written c.args.sink.now) (g.O.Sink.written c.reply_with_run.new.sink)}
-    c.reply_with_run.result
+    (g.O.Sink.written c.args.sink.now) (g.O.Sink.written c.reply_with_run-reply.new.sink)}
+    c.reply_with_run-reply.result
     (λ broke program is. line_refused (Ok c.in-Ok.problem) (c.in-Ok.ensures.asks program (subst (IsProgramOf program) (sym c.in_ok-part.ensures) is)).0 broke)
-    c.reply_with_run.ensures.prefix
+    c.reply_with_run-reply.ensures.prefix
 
 pub returns-in-Err-Text-clause-replies : goal.returns-in-Err-Text-clause-replies
 returns-in-Err-Text-clause-replies g c =

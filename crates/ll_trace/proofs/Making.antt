@@ -1,8 +1,6 @@
 -- What a line makes of the trees after it, by how many it takes.
-use Rattle.std.proofs.Common.{◌≡◌, ℕ, ◌+◌, ◌<◌, refl, ap, sym, ◌∙◌, List, [], ◌∷◌, ◌++◌, length, get_or, drop, reverse, suc, drop-cons, arith}
+use Rattle.std.proofs.Common.{◌≡◌, ℕ, ◌+◌, ◌<◌, refl, ap, sym, ◌∙◌, List, [], ◌∷◌, ◌++◌, length, get_or, drop, suc, drop-cons, arith}
 use Rattle.std.specs.Prelude.{Option, Some, None, option_and_then}
-use Rattle.std.proofs.lemmas.List.{reverse-append}
-use Rattle.ll_lists.proofs.CallerLemmas.{reverse-push as newest}
 use Rattle.ll_bank.specs.Term.{Term}
 use Rattle.ll_laws.specs.Dealing.{erases, deal}
 use Rattle.ll_laws.specs.Line.{PartLine, Labels, Free, Line, OneLine, EraseLine, WithLine, LeftLine, RightLine, BangLine, UseLine, TensorLine, LolliLine}

@@ -27,10 +27,10 @@ use Rattle.ll_bank.specs.declared.At.{At}
 use Rattle.ll_laws.specs.declared.Rule.TheVariants.{One, Erase, Tensor, With, Left, Right, Bang, Lolli, Imp, Forall, Exists, Use, Clause, Num}
 use Rattle.ll_laws.specs.Shows.{LeftNode, RightNode, ImpNode, ForallNode, ExistsNode, UseNode}
 use Rattle.std.proofs.Common.{Vec, Global, get_or, drop-cons, ◌≤◌}
-use Rattle.std.specs.Prelude.{true, false, Result, Ok, Err, IfOk}
+use Rattle.std.specs.Prelude.{true, false}
 use Rattle.std.proofs.lemmas.List.{drop_all, drop-map}
-use Rattle.ll_lists.proofs.CallerLemmas.{empty_from_length as no_items, IfOk-each as if_ok-more, reverse-push as newest}
-use Rattle.ll_trace.specs.Shares.{GivesRule, GivesTensor}
+use Rattle.ll_lists.proofs.CallerLemmas.{reverse-push as newest}
+use Rattle.ll_trace.specs.Shares.{GivesRule, GivesTensor, GivesAnywhere}
 use Rattle.ll_trace.specs.Spans.{AreSpans}
 use Rattle.ll_trace.proofs.Making.{IsPassing, left-passing, right-passing, use-passing, imp-passing, forall-passing, exists-passing, IsCutStep, cut-step}
 use Rattle.ll_trace.proofs.Making.{IsCutEnd, cut-end, IsClauseMade, clause-made, first-made, some-made}
@@ -567,3 +567,8 @@ pub given-tensor : (outline : Outline) (at : ℕ) (rule : Rule) (share : Share) 
     → GivesTensor outline at share old new dealt → GivesRule outline at rule share old new dealt
 given-tensor outline at rule share old new dealt s t e g = λ bank ts vs h f1 f2 d.
     g s.items t.items bank ts vs (subst (λ (r : Rule). put (line_of bank r) ts ≡ Some vs) e h) f1 f2 d
+
+pub given-anywhere : (outline : Outline) (at : ℕ) (rule : Rule) (share : Share) (old new : List Share) (dealt : Rule) (l : Line)
+    → ((bank : Nodes) → line_of bank rule ≡ l) → GivesAnywhere l share old new dealt → GivesRule outline at rule share old new dealt
+given-anywhere outline at rule share old new dealt l e g = λ bank ts vs h f1 f2 d.
+    g outline at bank ts vs (subst (λ (x : Line). put x ts ≡ Some vs) (e bank) h) f1 f2 d

@@ -50,6 +50,10 @@ GivesRule outline at rule share old new dealt = GivesLine outline at (λ bank. l
 abbrev pub GivesTensor : Outline → ℕ → Share → List Share → List Share → Rule → Type 0
 GivesTensor outline at share old new dealt = (s t : List ℕ) → GivesLine outline at (λ _. TensorLine s t) share old new (λ bank. line_of bank dealt)
 
+-- the same of a node that is dealt out alike wherever it stands
+abbrev pub GivesAnywhere : Line → Share → List Share → List Share → Rule → Type 0
+GivesAnywhere line share old new dealt = (outline : Outline) (at : ℕ) → GivesLine outline at (λ _. line) share old new (λ bank. line_of bank dealt)
+
 -- the same of a clause node, whose premises become these
 abbrev pub GivesClause : Outline → ℕ → ℕ → List Part → Share → List Share → List Share → List Part → Type 0
 GivesClause outline at label parts share old new dealt =

@@ -2,10 +2,10 @@
 ghost use Rattle.std.specs.Prelude.{◌≡◌, ◌<◌, ◌+◌, ◌∷◌, [], OnOk, IfOk, Some, List, filter, map, not};
 ghost use Rattle.ll_bank.specs.Nodes.{Nodes};
 ghost use Rattle.ll_laws.specs.Dealing.{deal as deal_labels, without as labels_without};
-ghost use Rattle.ll_laws.specs.Line.{lines, trees_of};
+ghost use Rattle.ll_laws.specs.Line.{WithLine, BangLine, LolliLine, lines, trees_of};
 ghost use Rattle.ll_laws.specs.Shows.{Tree};
 ghost use Rattle.ll_laws.specs.ShownLines.{line_of, HasLine, HasLines};
-ghost use Rattle.ll_trace.specs.Shares.{goes_to_first, GivesRule, GivesTensor, GivesClause, GivesParts, KeepsTerms};
+ghost use Rattle.ll_trace.specs.Shares.{goes_to_first, GivesRule, GivesTensor, GivesAnywhere, GivesClause, GivesParts, KeepsTerms};
 
 use crate::picks::{deeper, picks};
 use crate::places::Uses;
@@ -87,25 +87,9 @@ fn deal_node(
         Rule::Erase => Ok(Rule::Erase),
         Rule::Num => Ok(Rule::Num),
         Rule::Tensor(_, _) => deal_tensor(alloc, outline, at, share, pending),
-        Rule::With => {
-            let labels = Vec::from_slice(alloc, &share.labels)?;
-            let level = share.level;
-            pending.push(share)?;
-            pending.push(Share { labels, level })?;
-            Ok(Rule::With)
-        }
-        Rule::Bang => {
-            let level = deeper(share.level)?;
-            let labels = Vec::new(alloc);
-            pending.push(Share { labels, level })?;
-            Ok(Rule::Bang)
-        }
-        Rule::Lolli(label) => {
-            let mut share = share;
-            share.labels.push(label)?;
-            pending.push(share)?;
-            Ok(Rule::Lolli(label))
-        }
+        Rule::With => deal_with(alloc, share, pending),
+        Rule::Bang => deal_bang(alloc, &share, pending),
+        Rule::Lolli(label) => deal_lolli(label, share, pending),
         Rule::Clause {
             label,
             leaf,
@@ -125,6 +109,39 @@ fn deal_node(
             Ok(other)
         }
     }
+}
+
+// A with node with its share, all of which goes to both trees.
+fn deal_with(alloc: Global, share: Share, pending: &mut Vec<Share>) -> Result<Rule, OutOfMemory>
+    ensures dealt { IfOk result (λ dealt. GivesAnywhere WithLine share pending.old.items pending.new.items dealt) }
+    ensures keeps { IfOk result (λ dealt. (bank : Nodes) → HasLine bank dealt) }
+{
+    let labels = Vec::from_slice(alloc, &share.labels)?;
+    let level = share.level;
+    pending.push(share)?;
+    pending.push(Share { labels, level })?;
+    Ok(Rule::With)
+}
+
+// A bang node with its share, none of which goes to the tree below it.
+fn deal_bang(alloc: Global, share: &Share, pending: &mut Vec<Share>) -> Result<Rule, OutOfMemory>
+    ensures dealt { IfOk result (λ dealt. GivesAnywhere BangLine share.now pending.old.items pending.new.items dealt) }
+    ensures keeps { IfOk result (λ dealt. (bank : Nodes) → HasLine bank dealt) }
+{
+    let level = deeper(share.level)?;
+    let labels = Vec::new(alloc);
+    pending.push(Share { labels, level })?;
+    Ok(Rule::Bang)
+}
+
+// A lolli node with its share, which goes to the tree below it with one label more.
+fn deal_lolli(label: u32, mut share: Share, pending: &mut Vec<Share>) -> Result<Rule, OutOfMemory>
+    ensures dealt { IfOk result (λ dealt. GivesAnywhere (LolliLine label) share pending.old.items pending.new.items dealt) }
+    ensures keeps { IfOk result (λ dealt. (bank : Nodes) → HasLine bank dealt) }
+{
+    share.labels.push(label)?;
+    pending.push(share)?;
+    Ok(Rule::Lolli(label))
 }
 
 // A tensor node at a place with its share.

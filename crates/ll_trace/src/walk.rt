@@ -35,6 +35,21 @@ pub(crate) struct Loading {
     pub goal: FormAt,
 }
 
+impl Loading {
+    /// A whole load of a module with so many locals.
+    fn new(locals: u32, module: u32, goal: FormAt) -> Self
+        ensures { result ≡ record { locals = locals; «module» = «module»; next = 0; goal = goal } }
+    {
+        let next = 0;
+        Self {
+            locals,
+            module,
+            next,
+            goal,
+        }
+    }
+}
+
 /// Where a walk along a branch stands.
 #[derive(Drop)]
 pub(crate) struct Walker {
@@ -123,17 +138,13 @@ impl Walker {
         match forms.form_at(form) {
             FormNode::One => Ok(Rule::One),
             FormNode::Top => Ok(Rule::Erase),
-            FormNode::Is(_, _) => Ok(Rule::Num),
-            FormNode::Less(_, _) => Ok(Rule::Num),
-            FormNode::Most(_, _) => Ok(Rule::Num),
+            FormNode::Is(_, _) | FormNode::Less(_, _) | FormNode::Most(_, _) => Ok(Rule::Num),
             FormNode::Tensor(first, second) => {
-                self.goals
-                    .extend_from_slice(&[Goal::Plain(second), Goal::Plain(first)])?;
+                push_two(&mut self.goals, first, second)?;
                 Ok(Rule::Tensor(Vec::new(alloc), Vec::new(alloc)))
             }
             FormNode::With(first, second) => {
-                self.goals
-                    .extend_from_slice(&[Goal::Plain(second), Goal::Plain(first)])?;
+                push_two(&mut self.goals, first, second)?;
                 Ok(Rule::With)
             }
             FormNode::Plus(left, right) => self.take_side(left, right, step),
@@ -141,31 +152,14 @@ impl Walker {
                 self.goals.push(Goal::Plain(goal))?;
                 Ok(Rule::Bang)
             }
-            FormNode::Lolli(clause, goal) => {
-                let label = self.load(clause, Goal::Plain(goal))?;
-                Ok(Rule::Lolli(label))
-            }
-            FormNode::Imp(clause, goal) => {
-                let label = self.load(clause, Goal::Plain(goal))?;
-                Ok(Rule::Imp(label))
-            }
-            FormNode::Forall(body) => {
-                let eigen = self.open(Goal::Plain(body))?;
-                Ok(Rule::Forall(eigen))
-            }
-            FormNode::Exists(body) => {
-                let term = self.fill(terms, body)?;
-                Ok(Rule::Exists(term))
-            }
+            FormNode::Lolli(clause, goal) => Ok(Rule::Lolli(self.load(clause, Goal::Plain(goal))?)),
+            FormNode::Imp(clause, goal) => Ok(Rule::Imp(self.load(clause, Goal::Plain(goal))?)),
+            FormNode::Forall(body) => Ok(Rule::Forall(self.open(Goal::Plain(body))?)),
+            FormNode::Exists(body) => Ok(Rule::Exists(self.fill(terms, body)?)),
             FormNode::Use(module, _, goal) => {
                 let locals = modules[module as usize].locals;
-                let next = 0;
-                self.goals.push(Goal::Loading(Loading {
-                    locals,
-                    module,
-                    next,
-                    goal,
-                }))?;
+                let loading = Loading::new(locals, module, goal);
+                self.goals.push(Goal::Loading(loading))?;
                 Ok(Rule::Use)
             }
             FormNode::Atom(_) => self.take_atom(alloc, forms, terms, step),
@@ -291,6 +285,13 @@ impl Walker {
         self.used += 1;
         Ok(*term)
     }
+}
+
+/// Puts two formulas in front of the goals, the first one foremost.
+fn push_two(goals: &mut Vec<Goal>, first: FormAt, second: FormAt) -> Result<(), OutOfMemory>
+    ensures { OnOk result (goals.new.items ≡ goals.old.items ++ Plain second ∷ Plain first ∷ []) }
+{
+    goals.extend_from_slice(&[Goal::Plain(second), Goal::Plain(first)])
 }
 
 /// So many of the terms after those that have been used.

@@ -1,13 +1,13 @@
-use Rattle.std.proofs.Common.{◌≡◌, List, sym, subst, refl, ◌∙◌, map}
+use Rattle.std.proofs.Common.{◌≡◌, List, sym, ap, subst, map}
 use Rattle.std.specs.Prelude.{Some}
 use Rattle.ll_lists.proofs.CallerLemmas.{IfOk-each as if_ok-more}
 use Rattle.ll_bank.specs.Nodes.{term_trees}
 use Rattle.ll_laws.specs.declared.Part.{Part}
 use Rattle.ll_laws.specs.declared.Rule.{Rule}
-use Rattle.ll_laws.specs.Line.{put, ClauseLine}
+use Rattle.ll_laws.specs.Line.{put, ClauseLine, WithLine, BangLine, LolliLine}
 use Rattle.ll_laws.specs.ShownLines.{line_of, part_line}
-use Rattle.ll_trace.proofs.Sharing.{one-step, num-step, erase-step, with-step, bang-step, lolli-step, passing-step, passing-rule, given-tensor}
-use Rattle.ll_trace.specs.Shares.{GivesTensor, GivesRule}
+use Rattle.ll_trace.proofs.Sharing.{one-step, num-step, erase-step, passing-step, passing-rule, given-tensor, given-anywhere}
+use Rattle.ll_trace.specs.Shares.{GivesTensor, GivesAnywhere, GivesRule}
 use Rattle.ll_trace.proofs.deal.deal_node.Goals as goal
 
 pub returns-in-One-clause-dealt : goal.returns-in-One-clause-dealt
@@ -31,31 +31,38 @@ returns-in-Tensor-clause-dealt c =
     (λ r g. given-tensor c.args.outline.now c.args.at c.args.rule c.args.share c.args.pending.now.items c.deal_tensor.new.pending.items r c.in-Tensor.field-0
     c.in-Tensor.field-1 c.in-Tensor.is g) c.deal_tensor.ensures.dealt
 
-pub returns-in_ok-push-in-With-2-clause-dealt : goal.returns-in_ok-push-in-With-2-clause-dealt
-returns-in_ok-push-in-With-2-clause-dealt c = λ bank ts vs h f1 f2 d.
-    with-step c.args.outline.now c.args.at c.args.share (record { labels = c.in_ok-labels-in-With.labels; level = c.args.share.level }) c.args.share
-    c.args.pending.now.items c.push.new.self.items c.push-in-With.new.self.items ts vs
-    (c.in_ok-labels-in-With.ensures.items ∙ c.deref.ensures.value) refl refl refl c.in_ok-push-in-With.ensures.items c.in_ok-push-in-With-2.ensures.items
-    (subst (λ (r : Rule). put (line_of bank r) ts ≡ Some vs) c.in-With.is h) d
+pub returns-in-With-clause-dealt : goal.returns-in-With-clause-dealt
+returns-in-With-clause-dealt c =
+    let old = c.args.pending.now.items in
+    let new = c.deal_with.new.pending.items in
+    let line = WithLine in
+    if_ok-more c.deal_with.result (GivesAnywhere line c.args.share old new) (GivesRule c.args.outline.now c.args.at c.args.rule c.args.share old new)
+    (λ r g. given-anywhere c.args.outline.now c.args.at c.args.rule c.args.share old new r line (λ bank. ap (line_of bank) c.in-With.is) g)
+    c.deal_with.ensures.dealt
 
-pub returns-in_ok-push-in-Bang-clause-dealt : goal.returns-in_ok-push-in-Bang-clause-dealt
-returns-in_ok-push-in-Bang-clause-dealt c = λ bank ts vs h f1 f2 d.
-    bang-step c.args.outline.now c.args.at c.args.share (record { labels = c.new-labels.result; level = c.in_ok-level-in-Bang.level }) c.args.pending.now.items
-    c.push-in-Bang.new.self.items ts vs
-    c.new-labels.ensures.items c.in_ok-level-in-Bang.ensures c.in_ok-push-in-Bang.ensures.items
-    (subst (λ (r : Rule). put (line_of bank r) ts ≡ Some vs) c.in-Bang.is h) d
+pub returns-in-Bang-clause-dealt : goal.returns-in-Bang-clause-dealt
+returns-in-Bang-clause-dealt c =
+    let old = c.args.pending.now.items in
+    let new = c.deal_bang.new.pending.items in
+    let line = BangLine in
+    if_ok-more c.deal_bang.result (GivesAnywhere line c.args.share old new) (GivesRule c.args.outline.now c.args.at c.args.rule c.args.share old new)
+    (λ r g. given-anywhere c.args.outline.now c.args.at c.args.rule c.args.share old new r line (λ bank. ap (line_of bank) c.in-Bang.is) g)
+    c.deal_bang.ensures.dealt
 
-pub returns-in_ok-push-in-Lolli-2-clause-dealt : goal.returns-in_ok-push-in-Lolli-2-clause-dealt
-returns-in_ok-push-in-Lolli-2-clause-dealt c = λ bank ts vs h f1 f2 d.
-    lolli-step c.in-Lolli.label c.args.outline.now c.args.at c.args.share (record { labels = c.push-in-Lolli.new.self; level = c.args.share.level })
-    c.args.pending.now.items c.push-in-Lolli-2.new.self.items ts vs
-    c.in_ok-push-in-Lolli.ensures.items refl c.in_ok-push-in-Lolli-2.ensures.items (subst (λ (r : Rule). put (line_of bank r) ts ≡ Some vs) c.in-Lolli.is h) d
+pub returns-in-Lolli-clause-dealt : goal.returns-in-Lolli-clause-dealt
+returns-in-Lolli-clause-dealt c =
+    let old = c.args.pending.now.items in
+    let new = c.deal_lolli.new.pending.items in
+    let line = LolliLine c.in-Lolli.label in
+    if_ok-more c.deal_lolli.result (GivesAnywhere line c.args.share old new) (GivesRule c.args.outline.now c.args.at c.args.rule c.args.share old new)
+    (λ r g. given-anywhere c.args.outline.now c.args.at c.args.rule c.args.share old new r line (λ bank. ap (line_of bank) c.in-Lolli.is) g)
+    c.deal_lolli.ensures.dealt
 
 pub returns-in_ok-parts-in-Clause-clause-dealt : goal.returns-in_ok-parts-in-Clause-clause-dealt
 returns-in_ok-parts-in-Clause-clause-dealt c = λ bank ts vs h f1 f2 d.
     c.in_ok-parts-in-Clause.ensures c.in-Clause.leaf (λ b. term_trees b c.in-Clause.terms.items) bank ts vs
     (subst (λ (ps : List Part). put (ClauseLine c.in-Clause.label c.in-Clause.leaf (term_trees bank c.in-Clause.terms.items) (map part_line ps)) ts ≡ Some vs)
-    (sym c.deref-in-Clause.ensures.value)
+    (sym c.deref.ensures.value)
     (subst (λ (r : Rule). put (line_of bank r) ts ≡ Some vs) c.in-Clause.is h)) f1 f2 d
 
 pub returns-in_ok-push-in_default-clause-dealt : goal.returns-in_ok-push-in_default-clause-dealt
@@ -63,4 +70,4 @@ returns-in_ok-push-in_default-clause-dealt c = λ bank ts vs h f1 f2 d.
     let p = passing-rule c.args.rule c.in_default.not-Num c.in_default.not-One c.in_default.not-Erase c.in_default.not-Tensor c.in_default.not-With
     c.in_default.not-Bang c.in_default.not-Lolli c.in_default.not-Clause in
     passing-step (line_of bank c.args.rule) (p.mk bank) (p.passing bank) c.args.outline.now c.args.at c.args.share c.args.pending.now.items
-    c.push-in_default.new.self.items ts vs c.in_ok-push-in_default.ensures.items h d
+    c.push.new.self.items ts vs c.in_ok-push-in_default.ensures.items h d

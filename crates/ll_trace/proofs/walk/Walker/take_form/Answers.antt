@@ -8,6 +8,7 @@ use Rattle.ll_laws.specs.declared.Rule.TheVariants.{Forall as ForallRule, Exists
 use Rattle.ll_laws.specs.Line.{TensorLine, WithLine, BangLine, LolliLine, ImpLine, ForallLine}
 use Rattle.ll_trace.specs.declared.walk.Goal.{Goal}
 use Rattle.ll_trace.specs.declared.walk.Goal.TheVariants.{Plain, Loading as LoadingGoal}
+use Rattle.ll_trace.specs.declared.walk.Loading.{Loading}
 use Rattle.ll_trace.specs.Bare.{bare}
 use Rattle.ll_trace.specs.Goals.{HasGoal}
 use Rattle.ll_trace.specs.Walker.{Takes, MayTake, TakesSide}
@@ -15,8 +16,8 @@ use Rattle.ll_trace.proofs.TakeLemmas.{if_ok, takes_tree, takes_goals, takes_loa
 use Rattle.ll_trace.proofs.SideLemmas.{takes_side}
 use Rattle.ll_trace.proofs.walk.Walker.take_form.Goals as goal
 
-pub returns-in_ok-extend_from_slice-in-Tensor : goal.returns-in_ok-extend_from_slice-in-Tensor
-returns-in_ok-extend_from_slice-in-Tensor c =
+pub returns-in_ok-push_two-in-Tensor : goal.returns-in_ok-push_two-in-Tensor
+returns-in_ok-push_two-in-Tensor c =
     let forms = c.args.forms.now in
     let old = c.args.self.now in
     let p = c.in-Tensor.ensures.shown.parts.0 in
@@ -31,12 +32,12 @@ returns-in_ok-extend_from_slice-in-Tensor c =
     (Tensor (form_tree forms f.0) (form_tree forms g.0)) rule _ c.in-Tensor.ensures.shown.tree
     (takes_goals forms c.args.modules.now c.args.terms.now old c.args.step c.requires.inside c.requires.used
     (Tensor (bare (form_tree forms f.0)) (bare (form_tree forms g.0))) rule (TensorLine [] []) (Plain g ∷ Plain f ∷ [])
-    (record old { goals = c.extend_from_slice.new.self }) c.in_ok-extend_from_slice-in-Tensor.ensures.items refl refl refl
+    (record old { goals = c.push_two.new.goals }) c.in_ok-push_two-in-Tensor.ensures refl refl refl
     (All-cons P (Plain g) (Plain f ∷ []) (omega (arith, h, q)) (All-cons P (Plain f) [] (omega (arith, h, p)) (All-nil P)))
     (λ bank. λ i. TensorLine (c.new.ensures.items i) (c.new-in-Tensor.ensures.items i)) (λ all. refl) (λ bank k. tt))
 
-pub returns-in_ok-extend_from_slice-in-With : goal.returns-in_ok-extend_from_slice-in-With
-returns-in_ok-extend_from_slice-in-With c =
+pub returns-in_ok-push_two-in-With : goal.returns-in_ok-push_two-in-With
+returns-in_ok-push_two-in-With c =
     let forms = c.args.forms.now in
     let old = c.args.self.now in
     let p = c.in-With.ensures.shown.parts.0 in
@@ -50,7 +51,7 @@ returns-in_ok-extend_from_slice-in-With c =
     (With (form_tree forms f.0) (form_tree forms g.0)) WithRule _ c.in-With.ensures.shown.tree
     (takes_goals forms c.args.modules.now c.args.terms.now old c.args.step c.requires.inside c.requires.used
     (With (bare (form_tree forms f.0)) (bare (form_tree forms g.0))) WithRule WithLine (Plain g ∷ Plain f ∷ [])
-    (record old { goals = c.extend_from_slice-in-With.new.self }) c.in_ok-extend_from_slice-in-With.ensures.items refl refl refl
+    (record old { goals = c.push_two-in-With.new.goals }) c.in_ok-push_two-in-With.ensures refl refl refl
     (All-cons P (Plain g) (Plain f ∷ []) (omega (arith, h, q)) (All-cons P (Plain f) [] (omega (arith, h, p)) (All-nil P)))
     (λ bank. refl) (λ all. refl) (λ bank k. tt))
 
@@ -87,8 +88,8 @@ returns-in_ok-push-in-Bang c =
     BangLine (Plain g ∷ []) (record old { goals = c.push.new.self })
     c.in_ok-push-in-Bang.ensures.items refl refl refl (All-cons P (Plain g) [] (omega (arith, h, p)) (All-nil P)) (λ bank. refl) (λ all. refl) (λ bank k. tt))
 
-pub returns-in_ok-label-in-Lolli : goal.returns-in_ok-label-in-Lolli
-returns-in_ok-label-in-Lolli c =
+pub returns-in_ok-load-in-Lolli : goal.returns-in_ok-load-in-Lolli
+returns-in_ok-load-in-Lolli c =
     let forms = c.args.forms.now in
     let old = c.args.self.now in
     let p = c.in-Lolli.ensures.shown.parts.0 in
@@ -96,17 +97,17 @@ returns-in_ok-label-in-Lolli c =
     let h = c.requires.form in
     let r = c.in-Lolli.clause in
     let g = c.in-Lolli.goal in
-    let rule = LolliRule c.in_ok-label-in-Lolli.label in
-    let lab = label_is forms c.args.modules.now c.args.terms.now old c.args.step c.requires.inside c.requires.used c.in_ok-label-in-Lolli.label
-    c.in_ok-label-in-Lolli.ensures.label in
+    let rule = LolliRule c.in_ok-load-in-Lolli.field-0 in
+    let lab = label_is forms c.args.modules.now c.args.terms.now old c.args.step c.requires.inside c.requires.used c.in_ok-load-in-Lolli.field-0
+    c.in_ok-load-in-Lolli.ensures.label in
     takes_tree forms c.args.modules.now c.args.terms.now old c.args.step c.requires.inside c.requires.used c.args.form.0
     (Lolli (form_tree forms r.0) (form_tree forms g.0)) rule _ c.in-Lolli.ensures.shown.tree
     (takes_load forms c.args.modules.now c.args.terms.now old c.args.step c.requires.inside c.requires.used
     (Lolli (bare (form_tree forms r.0)) (bare (form_tree forms g.0))) (Plain g) r rule _ c.load.new.self
-    c.in_ok-label-in-Lolli.ensures.pushed (omega (arith, h, q)) (omega (arith, h, p)) (λ bank. ap LolliLine lab) (λ all. refl) (λ bank k. tt))
+    c.in_ok-load-in-Lolli.ensures.pushed (omega (arith, h, q)) (omega (arith, h, p)) (λ bank. ap LolliLine lab) (λ all. refl) (λ bank k. tt))
 
-pub returns-in_ok-label-in-Imp : goal.returns-in_ok-label-in-Imp
-returns-in_ok-label-in-Imp c =
+pub returns-in_ok-load-in-Imp : goal.returns-in_ok-load-in-Imp
+returns-in_ok-load-in-Imp c =
     let forms = c.args.forms.now in
     let old = c.args.self.now in
     let p = c.in-Imp.ensures.shown.parts.0 in
@@ -114,42 +115,42 @@ returns-in_ok-label-in-Imp c =
     let h = c.requires.form in
     let r = c.in-Imp.clause in
     let g = c.in-Imp.goal in
-    let rule = ImpRule c.in_ok-label-in-Imp.label in
-    let lab = label_is forms c.args.modules.now c.args.terms.now old c.args.step c.requires.inside c.requires.used c.in_ok-label-in-Imp.label
-    c.in_ok-label-in-Imp.ensures.label in
+    let rule = ImpRule c.in_ok-load-in-Imp.field-0 in
+    let lab = label_is forms c.args.modules.now c.args.terms.now old c.args.step c.requires.inside c.requires.used c.in_ok-load-in-Imp.field-0
+    c.in_ok-load-in-Imp.ensures.label in
     takes_tree forms c.args.modules.now c.args.terms.now old c.args.step c.requires.inside c.requires.used c.args.form.0
     (Imp (form_tree forms r.0) (form_tree forms g.0)) rule _ c.in-Imp.ensures.shown.tree
     (takes_load forms c.args.modules.now c.args.terms.now old c.args.step c.requires.inside c.requires.used
     (Imp (bare (form_tree forms r.0)) (bare (form_tree forms g.0))) (Plain g) r rule _ c.load-in-Imp.new.self
-    c.in_ok-label-in-Imp.ensures.pushed (omega (arith, h, q)) (omega (arith, h, p)) (λ bank. ap ImpLine lab) (λ all. refl) (λ bank k. tt))
+    c.in_ok-load-in-Imp.ensures.pushed (omega (arith, h, q)) (omega (arith, h, p)) (λ bank. ap ImpLine lab) (λ all. refl) (λ bank k. tt))
 
-pub returns-in_ok-eigen-in-Forall : goal.returns-in_ok-eigen-in-Forall
-returns-in_ok-eigen-in-Forall c =
+pub returns-in_ok-open-in-Forall : goal.returns-in_ok-open-in-Forall
+returns-in_ok-open-in-Forall c =
     let forms = c.args.forms.now in
     let old = c.args.self.now in
     let p = c.in-Forall.ensures.shown.parts in
     let h = c.requires.form in
     let g = c.in-Forall.body in
-    let rule = ForallRule c.in_ok-eigen-in-Forall.eigen in
+    let rule = ForallRule c.in_ok-open-in-Forall.field-0 in
     takes_tree forms c.args.modules.now c.args.terms.now old c.args.step c.requires.inside c.requires.used c.args.form.0 (Forall (form_tree forms g.0)) rule _
     c.in-Forall.ensures.shown.tree
     (takes_open forms c.args.modules.now c.args.terms.now old c.args.step c.requires.inside c.requires.used (Forall (bare (form_tree forms g.0))) (Plain g) rule
-    c.open.new.self c.in_ok-eigen-in-Forall.ensures.pushed
-    (omega (arith, h, p)) (λ bank. ap ForallLine c.in_ok-eigen-in-Forall.ensures.eigen) (λ all. refl) (λ bank k. tt))
+    c.open.new.self c.in_ok-open-in-Forall.ensures.pushed
+    (omega (arith, h, p)) (λ bank. ap ForallLine c.in_ok-open-in-Forall.ensures.eigen) (λ all. refl) (λ bank k. tt))
 
-pub returns-in_ok-term-in-Exists : goal.returns-in_ok-term-in-Exists
-returns-in_ok-term-in-Exists c =
+pub returns-in_ok-fill-in-Exists : goal.returns-in_ok-fill-in-Exists
+returns-in_ok-fill-in-Exists c =
     let forms = c.args.forms.now in
     let old = c.args.self.now in
     let p = c.in-Exists.ensures.shown.parts in
     let h = c.requires.form in
     let g = c.in-Exists.body in
-    let rule = ExistsRule c.in_ok-term-in-Exists.term in
+    let rule = ExistsRule c.in_ok-fill-in-Exists.field-0 in
     takes_tree forms c.args.modules.now c.args.terms.now old c.args.step c.requires.inside c.requires.used c.args.form.0 (Exists (form_tree forms g.0)) rule _
     c.in-Exists.ensures.shown.tree
     (takes_fill forms c.args.modules.now c.args.terms.now old c.args.step c.requires.inside c.requires.used (bare (form_tree forms g.0)) g
-    c.in_ok-term-in-Exists.term c.fill.new.self c.in_ok-term-in-Exists.ensures.pushed
-    (omega (arith, h, p)) c.in_ok-term-in-Exists.ensures.term refl)
+    c.in_ok-fill-in-Exists.field-0 c.fill.new.self c.in_ok-fill-in-Exists.ensures.pushed
+    (omega (arith, h, p)) c.in_ok-fill-in-Exists.ensures.term refl)
 
 pub returns-in_ok-push-in-Use : goal.returns-in_ok-push-in-Use
 returns-in_ok-push-in-Use c =
@@ -168,6 +169,7 @@ returns-in_ok-push-in-Use c =
     (takes_use forms c.args.modules.now c.args.terms.now old c.args.step c.requires.inside c.requires.used k d g []
     (record old { goals = c.push-in-Use.new.self }) may c.index-modules-module.is (omega (arith, h, p))
     (c.in_ok-push-in-Use.ensures.items
+    ∙ ap (λ (x : Loading). old.goals.items ++ LoadingGoal x ∷ []) c.new-loading.ensures
     ∙ ap (λ (x : Module). old.goals.items ++ LoadingGoal (record { locals = x.locals; «module» = k; next = 0; goal = g }) ∷ []) (sym c.index-modules-module.is))
     refl refl refl)
 

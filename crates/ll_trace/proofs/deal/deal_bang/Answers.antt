@@ -1,0 +1,7 @@
+use Rattle.ll_trace.proofs.Sharing.{bang-step}
+use Rattle.ll_trace.proofs.deal.deal_bang.Goals as goal
+
+pub returns-clause-dealt : goal.returns-clause-dealt
+returns-clause-dealt c = λ outline at bank ts vs h f1 f2 d.
+    bang-step outline at c.args.share.now (record { labels = c.new-labels.result; level = c.in_ok-level.level }) c.args.pending.now.items
+    c.push.new.self.items ts vs c.new-labels.ensures.items c.in_ok-level.ensures c.in_ok-push.ensures.items h d

@@ -1,6 +1,6 @@
 -- Images that are known: one more, and a bank that grows.
 use Rattle.std.proofs.Common.{◌≡◌, ℕ, Bool, true, false, cond, eqb, refl, ap, sym, subst, ◌∙◌, inl, inr, Option, Some, None}
-use Rattle.std.specs.Prelude.{◌⊎◌}
+use Rattle.std.specs.Prelude.{◌⊎◌, Result, Ok, Err, OnOk}
 use Rattle.std.proofs.lemmas.Bool.{eqb-true, and_parts}
 use Rattle.ll_bank.specs.Term.{Env, close}
 use Rattle.ll_bank.specs.Form.{close_form}
@@ -47,3 +47,8 @@ module _ (old new : Nodes) (e : Extends old new) (env : Env) where
 
   pub form_images_extend : (lookup : Spot → Option ℕ) → AreImages (IsFormImage old env) lookup → AreImages (IsFormImage new env) lookup
   form_images_extend lookup h = λ k image s. form_image_extends k image (h k image s)
+
+-- what holds in any case holds of a result
+pub on_ok : {A E P : Type 0} (r : Result A E) → P → OnOk r P
+on_ok (Ok x) p = p
+on_ok (Err e) p = tt

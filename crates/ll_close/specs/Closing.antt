@@ -1,8 +1,8 @@
 -- Terms and formulas closed by many values at once: what stands for their bound places, and the images of their parts.
-use Rattle.std.specs.Prelude.{◌≡◌, ◌≤◌, ◌+◌, ◌&&◌, ◌⊎◌, ℕ, zero, suc, Bool, true, List, map, reverse, ◌∷◌, Option, Some, None, nat_eq}
+use Rattle.std.specs.Prelude.{◌≡◌, ◌≤◌, ◌+◌, ◌&&◌, ◌⊎◌, ⊤, ℕ, zero, suc, Bool, true, List, map, reverse, ◌∷◌, Option, Some, None, nat_eq}
 use Rattle.ll_bank.specs.declared.At.{At}
 use Rattle.ll_bank.specs.Term.{Env, close, applies_heads}
-use Rattle.ll_bank.specs.Form.{close_form, form_applies_heads}
+use Rattle.ll_bank.specs.Form.{Form, Num, close_form, form_applies_heads}
 use Rattle.ll_bank.specs.Nodes.{Nodes, term_tree, form_tree, HasTerm, HasForm, ShowsTerm, ShowsForm}
 use Rattle.ll_bank.specs.Opened.{Spot}
 
@@ -26,6 +26,11 @@ IsTermImage bank env k image = HasTerm bank k.0 × ShowsTerm bank image (close (
 -- and a formula's part likewise
 abbrev pub IsFormImage : Nodes → Env → Spot → ℕ → Type 0
 IsFormImage bank env k image = HasForm bank k.0 × ShowsForm bank image (close_form (under env k.1) (form_tree bank k.0))
+
+-- a whole-number goal
+abbrev pub IsNum : Form → Type 0
+IsNum (Num r t u) = ⊤
+IsNum _ = ⊥
 
 -- no image is known that was not known before, but this one
 abbrev pub AddsImage : (Spot → Option ℕ) → (Spot → Option ℕ) → Spot → ℕ → Type 0

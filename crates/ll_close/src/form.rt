@@ -5,7 +5,7 @@ ghost use Rattle.ll_bank.specs.Term.{close, applies_heads};
 ghost use Rattle.ll_bank.specs.Form.{close_form, form_applies_heads};
 ghost use Rattle.ll_bank.specs.Nodes.{term_tree, form_tree, term_trees, form_of, HasTerm, HasForm, AllInTerms, HasParts, ShowsTerm, ShowsForm, Extends};
 ghost use Rattle.ll_bank.specs.Opened.{Spot, AreImages, ArePartsOf, form_parts_at, form_size_at};
-ghost use Rattle.ll_close.specs.Closing.{env_of, under, same_spot, IsTermImage, IsFormImage, IsGoodForm};
+ghost use Rattle.ll_close.specs.Closing.{env_of, under, same_spot, IsTermImage, IsFormImage, IsGoodForm, IsNum};
 ghost use Rattle.ll_close.specs.Stacks.{visit, ready, AreImagesOf, EndsWith};
 
 use crate::images::Images;
@@ -233,6 +233,33 @@ fn closed_node(
             let args = closed_terms(alloc, bank, &args, level, values, terms)?;
             share_form(bank, at, FormNode::Use(module, &args, inner))
         }
+        FormNode::Is(_, _) => closed_number_goal(alloc, bank, task, values, terms),
+        FormNode::Less(_, _) => closed_number_goal(alloc, bank, task, values, terms),
+        FormNode::Most(_, _) => closed_number_goal(alloc, bank, task, values, terms),
+    }
+}
+
+/// The image of a whole-number goal.
+fn closed_number_goal(
+    alloc: Global,
+    bank: &mut Bank,
+    task: Task,
+    values: &[At],
+    terms: &mut Images,
+) -> Result<FormAt, OutOfMemory>
+    requires inside { HasForm bank.old task.place }
+    requires number { IsNum (form_tree bank.old task.place) }
+    requires values { AllInTerms bank.old values.now }
+    requires heads { form_applies_heads (close_form (under (env_of bank.old values.now) task.level) (form_tree bank.old task.place)) ≡ true }
+    requires terms { AreImages (IsTermImage bank.old (env_of bank.old values.now)) (get same_spot terms.old.places) }
+    ensures shows { IfOk result (λ image. ShowsForm bank.new image.0
+        (close_form (under (env_of bank.old values.now) task.level) (form_tree bank.old task.place))) }
+    ensures terms { OnOk result (AreImages (IsTermImage bank.new (env_of bank.old values.now)) (get same_spot terms.new.places)) }
+    ensures keeps { Extends bank.old bank.new }
+{
+    let level = task.level;
+    let at = FormAt(task.place);
+    match bank.form_at(at) {
         FormNode::Is(left, right) => {
             let (left, right) = closed_two(alloc, bank, left, right, level, values, terms)?;
             share_form(bank, at, FormNode::Is(left, right))
@@ -245,6 +272,7 @@ fn closed_node(
             let (left, right) = closed_two(alloc, bank, left, right, level, values, terms)?;
             share_form(bank, at, FormNode::Most(left, right))
         }
+        _ => unreachable!(),
     }
 }
 

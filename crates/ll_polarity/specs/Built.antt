@@ -1,5 +1,5 @@
 -- How the trees of terms and formulas are put together from raw trees, part by part.
-use Rattle.std.specs.Prelude.{ℕ, zero, suc, pos, List, [], ◌∷◌, ◌++◌, length, Option, Some, None}
+use Rattle.std.specs.Prelude.{⊤, ℕ, zero, suc, pos, List, [], ◌∷◌, ◌++◌, length, Option, Some, None}
 use Rattle.ll_bank.specs.Term.{Term, Var, Int, Con, Ap, apply}
 use Rattle.ll_bank.specs.Form.{Form, Top, One, Atom, Bang, Forall, Exists, Use, Num, Relation, Is, Less, Most}
 use Rattle.ll_parser.specs.Raw.{Raw, truth, erasure, braces, universal, existential, load, binary, is_goal, less_goal, most_goal, head, anything, int, RawList}
@@ -63,6 +63,13 @@ abbrev mutual
 -- a whole-number goal that stands there
 abbrev pub built_number : Relation → Around → Met → Raw → Raw → Read Form
 built_number q a met l r = let t = built_term a met l in let u = built_term a t.met r in record { it = Num q t.it u.it; met = u.met }
+
+-- a tree that is a whole-number goal
+abbrev pub IsNumberGoal : Raw → Type 0
+IsNumberGoal (is_goal at l r) = ⊤
+IsNumberGoal (less_goal at l r) = ⊤
+IsNumberGoal (most_goal at l r) = ⊤
+IsNumberGoal _ = ⊥
 
 -- a formula that stands there, where the modules with these names have these places
 abbrev pub built_form : (List ℕ → ℕ) → Around → Met → Raw → Read Form

@@ -11,7 +11,7 @@ ghost use Rattle.ll_polarity.specs.declared.put_forms.Frame.{Frame as FrameView}
 ghost use Rattle.ll_polarity.specs.declared.put_forms.Step.TheVariants.{Read as ReadStep};
 ghost use Rattle.ll_polarity.specs.Scope.{Binder, Scope};
 ghost use Rattle.ll_polarity.specs.Reading.{Met as MetView, Read, joined};
-ghost use Rattle.ll_polarity.specs.Built.{Around, built_term, built_form};
+ghost use Rattle.ll_polarity.specs.Built.{Around, IsNumberGoal, built_term, built_form};
 ghost use Rattle.ll_polarity.specs.Standing.{met_of, around, outermost, HasRoom, StandsIn};
 ghost use Rattle.ll_polarity.specs.Calls.{IsReady};
 ghost use Rattle.ll_polarity.specs.Places.{place_in};
@@ -240,6 +240,44 @@ fn loads(
     waits(frames, Frame::Load(module, args), goal)
 }
 
+/// Gives the whole-number goal at a place to what waits for it.
+fn number_goal(
+    alloc: Global,
+    text: &Text<'_>,
+    binders: &Binders<'_>,
+    place: Place,
+    met: &mut Met,
+    bank: &mut Bank,
+    at: RawAt,
+) -> Result<Step, OutOfMemory>
+    requires stands { StandsIn text.now.names.now binders.now place }
+    requires ready { IsReady text.now.names.now text.now.forms.now at.0 }
+    requires number { IsNumberGoal (raw_at text.now.names.now text.now.forms.now at.0) }
+    requires room { HasRoom (built_form (ground text.now).modules (around place binders.now.scope) (met_of text.now.names.now met.old)
+        (raw_at text.now.names.now text.now.forms.now at.0)).met }
+    ensures step { (frames : List FrameView) → IfOk result (λ step. Advances (ground text.now) bank.new (around place binders.now.scope)
+        (built_form (ground text.now).modules (around place binders.now.scope) (met_of text.now.names.now met.old)
+        (raw_at text.now.names.now text.now.forms.now at.0)) (5 * weight (raw_at text.now.names.now text.now.forms.now at.0)) frames frames step
+        (met_of text.now.names.now met.new) (around place binders.now.scope)) }
+    ensures keeps { Extends bank.old bank.new }
+{
+    match text.forms.node(at) {
+        RawNode::Is(left, right) => {
+            let sides = both_sides(alloc, text, binders, place, met, bank, left, right)?;
+            gives(bank, FormNode::Is(sides.left, sides.right))
+        }
+        RawNode::Less(left, right) => {
+            let sides = both_sides(alloc, text, binders, place, met, bank, left, right)?;
+            gives(bank, FormNode::Less(sides.left, sides.right))
+        }
+        RawNode::Most(left, right) => {
+            let sides = both_sides(alloc, text, binders, place, met, bank, left, right)?;
+            gives(bank, FormNode::Most(sides.left, sides.right))
+        }
+        _ => unreachable!(),
+    }
+}
+
 /// Begins the formula at a place.
 fn begun(
     alloc: Global,
@@ -284,18 +322,9 @@ fn begun(
             let form = atom(alloc, text, binders, *place, met, bank, at)?;
             Ok(Step::Give(form))
         }
-        RawNode::Is(left, right) => {
-            let sides = both_sides(alloc, text, binders, *place, met, bank, left, right)?;
-            gives(bank, FormNode::Is(sides.left, sides.right))
-        }
-        RawNode::Less(left, right) => {
-            let sides = both_sides(alloc, text, binders, *place, met, bank, left, right)?;
-            gives(bank, FormNode::Less(sides.left, sides.right))
-        }
-        RawNode::Most(left, right) => {
-            let sides = both_sides(alloc, text, binders, *place, met, bank, left, right)?;
-            gives(bank, FormNode::Most(sides.left, sides.right))
-        }
+        RawNode::Is(_, _) => number_goal(alloc, text, binders, *place, met, bank, at),
+        RawNode::Less(_, _) => number_goal(alloc, text, binders, *place, met, bank, at),
+        RawNode::Most(_, _) => number_goal(alloc, text, binders, *place, met, bank, at),
     }
 }
 

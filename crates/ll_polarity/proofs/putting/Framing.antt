@@ -77,6 +77,10 @@ pub part_ready : (texts : List (List ℕ)) (forms : List Node) (at part : ℕ) �
     → IsReady texts forms part
 part_ready texts forms at part below inside named = record { inside = omega arith; named = named }
 
+-- more is left to do than in a formula that is given
+pub two_below : (n : ℕ) → 2 < 5 * suc n
+two_below n = omega arith
+
 -- a formula is given that is the whole of what is read
 pub begun_gives : {E : Type 0} (r : Result Step E) (g : Ground) (new : Nodes) (a : Around) (first met : Met) (frames : List Frame) (f : Form) {raw seen : Raw}
     → raw ≡ seen → (let x : Read Form = record { it = f; met = met } in x) ≡ built_form g.modules a first seen → 2 < 5 * weight seen

@@ -1,25 +1,19 @@
 use Rattle.std.proofs.Common.{◌≡◌, ap, sym, subst, ◌∙◌, refl, map, All, true, ◌+◌, add-one}
-use Rattle.std.specs.Prelude.{IfOk, OnOk, Result, Ok, Err}
+use Rattle.std.specs.Prelude.{IfOk}
 use Rattle.std.specs.HashMap.{get}
 use Rattle.std.specs.List.{list_all}
 use Rattle.std.proofs.lemmas.Bool.{and_parts}
-use Rattle.std.specs.declared.alloc.AllocError.{AllocError}
 use Rattle.ll_bank.specs.declared.At.{At}
-use Rattle.ll_bank.specs.declared.FormAt.{FormAt}
 use Rattle.ll_bank.specs.declared.FormNode.TheVariants.{With as WithView, Tensor as TensorView, Plus as PlusView, Bang as BangView, Lolli as LolliView}
 use Rattle.ll_bank.specs.declared.FormNode.TheVariants.{Imp as ImpView, Forall as ForallView, Exists as ExistsView, Use as UseView}
 use Rattle.ll_bank.specs.Term.{close, applies_heads}
-use Rattle.ll_bank.specs.Form.{Atom, With, Tensor, Plus, Bang, Lolli, Imp, Forall, Exists, Use, Num, Is, Less, Most, close_form, form_applies_heads}
+use Rattle.ll_bank.specs.Form.{Atom, With, Tensor, Plus, Bang, Lolli, Imp, Forall, Exists, Use, close_form, form_applies_heads}
 use Rattle.ll_bank.specs.Nodes.{term_tree, term_trees, form_tree, node_of, AllInTerms, ShowsForm}
 use Rattle.ll_bank.proofs.CallerLemmas.{Extends-refl, Extends-trans, HasForm-extends, form_tree-extends, load_heads}
-use Rattle.ll_close.specs.Closing.{env_of, under, same_spot}
-use Rattle.ll_close.proofs.Known.{term_images_extend}
+use Rattle.ll_close.specs.Closing.{env_of, under, same_spot, IsNum}
+use Rattle.ll_close.proofs.Known.{on_ok, term_images_extend}
 use Rattle.ll_close.proofs.Parts.{one_image, two_inside, first_inside, second_inside, joins_one, joins_two}
 use Rattle.ll_close.proofs.form.closed_node.Goals as goal
-
-on_ok : {P : Type 0} (r : Result FormAt AllocError) → P → OnOk r P
-on_ok (Ok x) p = p
-on_ok (Err e) p = tt
 
 pub form_at-requires : goal.form_at-requires
 form_at-requires c =
@@ -464,194 +458,50 @@ pub returns-in_ok-atom-in-Atom-clause-keeps : goal.returns-in_ok-atom-in-Atom-cl
 returns-in_ok-atom-in-Atom-clause-keeps c =
     Extends-trans c.closed_term.ensures.keeps c.share_form.ensures.keeps
 
-pub closed_two-requires-clause-left : goal.closed_two-requires-clause-left
-closed_two-requires-clause-left c =
-    c.in-Is.ensures.shown.parts.0
+pub closed_number_goal-requires-clause-inside : goal.closed_number_goal-requires-clause-inside
+closed_number_goal-requires-clause-inside c = c.requires.inside
 
-pub closed_two-requires-clause-right : goal.closed_two-requires-clause-right
-closed_two-requires-clause-right c =
-    c.in-Is.ensures.shown.parts.1
+pub closed_number_goal-requires-clause-values : goal.closed_number_goal-requires-clause-values
+closed_number_goal-requires-clause-values c = c.requires.values
 
-pub closed_two-requires-clause-values : goal.closed_two-requires-clause-values
-closed_two-requires-clause-values c =
-    c.requires.values
+pub closed_number_goal-requires-clause-heads : goal.closed_number_goal-requires-clause-heads
+closed_number_goal-requires-clause-heads c = c.requires.heads
 
-pub closed_two-requires-clause-left_heads : goal.closed_two-requires-clause-left_heads
-closed_two-requires-clause-left_heads c =
-    let bank = c.args.bank.now in
-    let e = under (env_of bank c.args.values.now) c.args.task.level in
-    (and_parts (applies_heads (close e (term_tree bank c.in-Is.left.0)))
-    (applies_heads (close e (term_tree bank c.in-Is.right.0)))
-    (sym (ap (λ x. form_applies_heads (close_form e x)) c.in-Is.ensures.shown.tree) ∙ c.requires.heads)).0
+pub closed_number_goal-requires-clause-terms : goal.closed_number_goal-requires-clause-terms
+closed_number_goal-requires-clause-terms c = c.requires.terms
 
-pub closed_two-requires-clause-right_heads : goal.closed_two-requires-clause-right_heads
-closed_two-requires-clause-right_heads c =
-    let bank = c.args.bank.now in
-    let e = under (env_of bank c.args.values.now) c.args.task.level in
-    (and_parts (applies_heads (close e (term_tree bank c.in-Is.left.0)))
-    (applies_heads (close e (term_tree bank c.in-Is.right.0)))
-    (sym (ap (λ x. form_applies_heads (close_form e x)) c.in-Is.ensures.shown.tree) ∙ c.requires.heads)).1
+pub closed_number_goal-requires-clause-number : goal.closed_number_goal-requires-clause-number
+closed_number_goal-requires-clause-number c = subst IsNum (sym c.in-Is.ensures.shown.tree) tt
 
-pub closed_two-requires-clause-terms : goal.closed_two-requires-clause-terms
-closed_two-requires-clause-terms c =
-    c.requires.terms
+pub closed_number_goal-requires-in-Less-clause-inside : goal.closed_number_goal-requires-in-Less-clause-inside
+closed_number_goal-requires-in-Less-clause-inside c = c.requires.inside
 
-pub returns-in_err-left-in-Is-clause-keeps : goal.returns-in_err-left-in-Is-clause-keeps
-returns-in_err-left-in-Is-clause-keeps c =
-    c.closed_two.ensures.keeps
+pub closed_number_goal-requires-in-Less-clause-values : goal.closed_number_goal-requires-in-Less-clause-values
+closed_number_goal-requires-in-Less-clause-values c = c.requires.values
 
-pub share_form-requires-in-Is-clause-inside : goal.share_form-requires-in-Is-clause-inside
-share_form-requires-in-Is-clause-inside c =
-    HasForm-extends c.closed_two.ensures.keeps c.args.task.place c.requires.inside
+pub closed_number_goal-requires-in-Less-clause-heads : goal.closed_number_goal-requires-in-Less-clause-heads
+closed_number_goal-requires-in-Less-clause-heads c = c.requires.heads
 
-pub share_form-requires-in-Is-clause-parts : goal.share_form-requires-in-Is-clause-parts
-share_form-requires-in-Is-clause-parts c =
-    (c.in_ok-left-in-Is.ensures.left.inside, c.in_ok-left-in-Is.ensures.right.inside)
+pub closed_number_goal-requires-in-Less-clause-terms : goal.closed_number_goal-requires-in-Less-clause-terms
+closed_number_goal-requires-in-Less-clause-terms c = c.requires.terms
 
-pub returns-in_ok-left-in-Is-clause-shows : goal.returns-in_ok-left-in-Is-clause-shows
-returns-in_ok-left-in-Is-clause-shows c =
-    let e = under (env_of c.args.bank.now c.args.values.now) c.args.task.level in
-    subst (λ u. IfOk c.share_form-in-Is.result (λ image. ShowsForm c.share_form-in-Is.new.bank image.0 u))
-    ((λ i. Num Is (c.in_ok-left-in-Is.ensures.left.tree i) (c.in_ok-left-in-Is.ensures.right.tree i))
-    ∙ sym (ap (close_form e) c.in-Is.ensures.shown.tree))
-    c.share_form-in-Is.ensures.shows
+pub closed_number_goal-requires-in-Less-clause-number : goal.closed_number_goal-requires-in-Less-clause-number
+closed_number_goal-requires-in-Less-clause-number c = subst IsNum (sym c.in-Less.ensures.shown.tree) tt
 
-pub returns-in_ok-left-in-Is-clause-terms : goal.returns-in_ok-left-in-Is-clause-terms
-returns-in_ok-left-in-Is-clause-terms c =
-    let env = env_of c.args.bank.now c.args.values.now in
-    on_ok c.share_form-in-Is.result
-    (term_images_extend c.closed_two.new.bank c.share_form-in-Is.new.bank c.share_form-in-Is.ensures.keeps env
-    (get same_spot c.closed_two.new.terms.places) c.in_ok-left-in-Is.ensures.terms)
+pub closed_number_goal-requires-in-Most-clause-inside : goal.closed_number_goal-requires-in-Most-clause-inside
+closed_number_goal-requires-in-Most-clause-inside c = c.requires.inside
 
-pub returns-in_ok-left-in-Is-clause-keeps : goal.returns-in_ok-left-in-Is-clause-keeps
-returns-in_ok-left-in-Is-clause-keeps c =
-    Extends-trans c.closed_two.ensures.keeps c.share_form-in-Is.ensures.keeps
+pub closed_number_goal-requires-in-Most-clause-values : goal.closed_number_goal-requires-in-Most-clause-values
+closed_number_goal-requires-in-Most-clause-values c = c.requires.values
 
-pub closed_two-requires-in-Less-clause-left : goal.closed_two-requires-in-Less-clause-left
-closed_two-requires-in-Less-clause-left c =
-    c.in-Less.ensures.shown.parts.0
+pub closed_number_goal-requires-in-Most-clause-heads : goal.closed_number_goal-requires-in-Most-clause-heads
+closed_number_goal-requires-in-Most-clause-heads c = c.requires.heads
 
-pub closed_two-requires-in-Less-clause-right : goal.closed_two-requires-in-Less-clause-right
-closed_two-requires-in-Less-clause-right c =
-    c.in-Less.ensures.shown.parts.1
+pub closed_number_goal-requires-in-Most-clause-terms : goal.closed_number_goal-requires-in-Most-clause-terms
+closed_number_goal-requires-in-Most-clause-terms c = c.requires.terms
 
-pub closed_two-requires-in-Less-clause-values : goal.closed_two-requires-in-Less-clause-values
-closed_two-requires-in-Less-clause-values c =
-    c.requires.values
-
-pub closed_two-requires-in-Less-clause-left_heads : goal.closed_two-requires-in-Less-clause-left_heads
-closed_two-requires-in-Less-clause-left_heads c =
-    let bank = c.args.bank.now in
-    let e = under (env_of bank c.args.values.now) c.args.task.level in
-    (and_parts (applies_heads (close e (term_tree bank c.in-Less.left.0)))
-    (applies_heads (close e (term_tree bank c.in-Less.right.0)))
-    (sym (ap (λ x. form_applies_heads (close_form e x)) c.in-Less.ensures.shown.tree) ∙ c.requires.heads)).0
-
-pub closed_two-requires-in-Less-clause-right_heads : goal.closed_two-requires-in-Less-clause-right_heads
-closed_two-requires-in-Less-clause-right_heads c =
-    let bank = c.args.bank.now in
-    let e = under (env_of bank c.args.values.now) c.args.task.level in
-    (and_parts (applies_heads (close e (term_tree bank c.in-Less.left.0)))
-    (applies_heads (close e (term_tree bank c.in-Less.right.0)))
-    (sym (ap (λ x. form_applies_heads (close_form e x)) c.in-Less.ensures.shown.tree) ∙ c.requires.heads)).1
-
-pub closed_two-requires-in-Less-clause-terms : goal.closed_two-requires-in-Less-clause-terms
-closed_two-requires-in-Less-clause-terms c =
-    c.requires.terms
-
-pub returns-in_err-left-in-Less-clause-keeps : goal.returns-in_err-left-in-Less-clause-keeps
-returns-in_err-left-in-Less-clause-keeps c =
-    c.closed_two-in-Less.ensures.keeps
-
-pub share_form-requires-in-Less-clause-inside : goal.share_form-requires-in-Less-clause-inside
-share_form-requires-in-Less-clause-inside c =
-    HasForm-extends c.closed_two-in-Less.ensures.keeps c.args.task.place c.requires.inside
-
-pub share_form-requires-in-Less-clause-parts : goal.share_form-requires-in-Less-clause-parts
-share_form-requires-in-Less-clause-parts c =
-    (c.in_ok-left-in-Less.ensures.left.inside, c.in_ok-left-in-Less.ensures.right.inside)
-
-pub returns-in_ok-left-in-Less-clause-shows : goal.returns-in_ok-left-in-Less-clause-shows
-returns-in_ok-left-in-Less-clause-shows c =
-    let e = under (env_of c.args.bank.now c.args.values.now) c.args.task.level in
-    subst (λ u. IfOk c.share_form-in-Less.result (λ image. ShowsForm c.share_form-in-Less.new.bank image.0 u))
-    ((λ i. Num Less (c.in_ok-left-in-Less.ensures.left.tree i) (c.in_ok-left-in-Less.ensures.right.tree i))
-    ∙ sym (ap (close_form e) c.in-Less.ensures.shown.tree))
-    c.share_form-in-Less.ensures.shows
-
-pub returns-in_ok-left-in-Less-clause-terms : goal.returns-in_ok-left-in-Less-clause-terms
-returns-in_ok-left-in-Less-clause-terms c =
-    let env = env_of c.args.bank.now c.args.values.now in
-    on_ok c.share_form-in-Less.result
-    (term_images_extend c.closed_two-in-Less.new.bank c.share_form-in-Less.new.bank c.share_form-in-Less.ensures.keeps env
-    (get same_spot c.closed_two-in-Less.new.terms.places) c.in_ok-left-in-Less.ensures.terms)
-
-pub returns-in_ok-left-in-Less-clause-keeps : goal.returns-in_ok-left-in-Less-clause-keeps
-returns-in_ok-left-in-Less-clause-keeps c =
-    Extends-trans c.closed_two-in-Less.ensures.keeps c.share_form-in-Less.ensures.keeps
-
-pub closed_two-requires-in-Most-clause-left : goal.closed_two-requires-in-Most-clause-left
-closed_two-requires-in-Most-clause-left c =
-    c.in-Most.ensures.shown.parts.0
-
-pub closed_two-requires-in-Most-clause-right : goal.closed_two-requires-in-Most-clause-right
-closed_two-requires-in-Most-clause-right c =
-    c.in-Most.ensures.shown.parts.1
-
-pub closed_two-requires-in-Most-clause-values : goal.closed_two-requires-in-Most-clause-values
-closed_two-requires-in-Most-clause-values c =
-    c.requires.values
-
-pub closed_two-requires-in-Most-clause-left_heads : goal.closed_two-requires-in-Most-clause-left_heads
-closed_two-requires-in-Most-clause-left_heads c =
-    let bank = c.args.bank.now in
-    let e = under (env_of bank c.args.values.now) c.args.task.level in
-    (and_parts (applies_heads (close e (term_tree bank c.in-Most.left.0)))
-    (applies_heads (close e (term_tree bank c.in-Most.right.0)))
-    (sym (ap (λ x. form_applies_heads (close_form e x)) c.in-Most.ensures.shown.tree) ∙ c.requires.heads)).0
-
-pub closed_two-requires-in-Most-clause-right_heads : goal.closed_two-requires-in-Most-clause-right_heads
-closed_two-requires-in-Most-clause-right_heads c =
-    let bank = c.args.bank.now in
-    let e = under (env_of bank c.args.values.now) c.args.task.level in
-    (and_parts (applies_heads (close e (term_tree bank c.in-Most.left.0)))
-    (applies_heads (close e (term_tree bank c.in-Most.right.0)))
-    (sym (ap (λ x. form_applies_heads (close_form e x)) c.in-Most.ensures.shown.tree) ∙ c.requires.heads)).1
-
-pub closed_two-requires-in-Most-clause-terms : goal.closed_two-requires-in-Most-clause-terms
-closed_two-requires-in-Most-clause-terms c =
-    c.requires.terms
-
-pub returns-in_err-left-in-Most-clause-keeps : goal.returns-in_err-left-in-Most-clause-keeps
-returns-in_err-left-in-Most-clause-keeps c =
-    c.closed_two-in-Most.ensures.keeps
-
-pub share_form-requires-in-Most-clause-inside : goal.share_form-requires-in-Most-clause-inside
-share_form-requires-in-Most-clause-inside c =
-    HasForm-extends c.closed_two-in-Most.ensures.keeps c.args.task.place c.requires.inside
-
-pub share_form-requires-in-Most-clause-parts : goal.share_form-requires-in-Most-clause-parts
-share_form-requires-in-Most-clause-parts c =
-    (c.in_ok-left-in-Most.ensures.left.inside, c.in_ok-left-in-Most.ensures.right.inside)
-
-pub returns-in_ok-left-in-Most-clause-shows : goal.returns-in_ok-left-in-Most-clause-shows
-returns-in_ok-left-in-Most-clause-shows c =
-    let e = under (env_of c.args.bank.now c.args.values.now) c.args.task.level in
-    subst (λ u. IfOk c.share_form-in-Most.result (λ image. ShowsForm c.share_form-in-Most.new.bank image.0 u))
-    ((λ i. Num Most (c.in_ok-left-in-Most.ensures.left.tree i) (c.in_ok-left-in-Most.ensures.right.tree i))
-    ∙ sym (ap (close_form e) c.in-Most.ensures.shown.tree))
-    c.share_form-in-Most.ensures.shows
-
-pub returns-in_ok-left-in-Most-clause-terms : goal.returns-in_ok-left-in-Most-clause-terms
-returns-in_ok-left-in-Most-clause-terms c =
-    let env = env_of c.args.bank.now c.args.values.now in
-    on_ok c.share_form-in-Most.result
-    (term_images_extend c.closed_two-in-Most.new.bank c.share_form-in-Most.new.bank c.share_form-in-Most.ensures.keeps env
-    (get same_spot c.closed_two-in-Most.new.terms.places) c.in_ok-left-in-Most.ensures.terms)
-
-pub returns-in_ok-left-in-Most-clause-keeps : goal.returns-in_ok-left-in-Most-clause-keeps
-returns-in_ok-left-in-Most-clause-keeps c =
-    Extends-trans c.closed_two-in-Most.ensures.keeps c.share_form-in-Most.ensures.keeps
+pub closed_number_goal-requires-in-Most-clause-number : goal.closed_number_goal-requires-in-Most-clause-number
+closed_number_goal-requires-in-Most-clause-number c = subst IsNum (sym c.in-Most.ensures.shown.tree) tt
 
 pub bounds-parts-0-in-Use : goal.bounds-parts-0-in-Use
 bounds-parts-0-in-Use c =

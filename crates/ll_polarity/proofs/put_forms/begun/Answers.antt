@@ -1,28 +1,22 @@
 use Rattle.std.proofs.Common.{◌≡◌, ℕ, suc, ◌+◌, ◌*◌, ◌<◌, ◌≤◌, List, length, refl, sym, subst, ap, arith}
 use Rattle.std.specs.Prelude.{◌^◌, unwrap_or}
-use Rattle.ll_bank.specs.Form.{One, Top, Num, Is, Less, Most}
-use Rattle.ll_bank.specs.Nodes.{term_tree}
-use Rattle.ll_bank.proofs.CallerLemmas.{Extends-refl, Extends-trans}
+use Rattle.ll_bank.specs.Form.{One, Top}
+use Rattle.ll_bank.proofs.CallerLemmas.{Extends-refl}
 use Rattle.ll_parser.specs.Nodes.{raw_at, raws_in, raw_trees}
 use Rattle.ll_parser.specs.Seen.{places}
-use Rattle.ll_parser.specs.Raw.{Raw, raw_place}
+use Rattle.ll_parser.specs.Raw.{raw_place}
 use Rattle.ll_parser.specs.Weights.{weight}
 use Rattle.ll_polarity.specs.declared.put_forms.Frame.TheVariants as frame
 use Rattle.ll_polarity.specs.Named.{IsNamed}
-use Rattle.ll_polarity.specs.Built.{built_form}
-use Rattle.ll_polarity.specs.Places.{place_in}
-use Rattle.ll_polarity.specs.Standing.{around, met_of, HasRoom}
+use Rattle.ll_polarity.specs.Built.{IsNumberGoal}
+use Rattle.ll_polarity.specs.Standing.{around, met_of}
 use Rattle.ll_polarity.specs.Grounds.{ground}
 use Rattle.ll_polarity.proofs.naming.Named.{number-within}
-use Rattle.ll_polarity.proofs.putting.Framing.{always, part_ready, begun_gives, begun_read, sides_read, stands_entered, scope_entered, around_entered}
+use Rattle.ll_polarity.proofs.putting.Framing.{always, part_ready, two_below, begun_gives, begun_read, stands_entered, scope_entered, around_entered}
 use Rattle.ll_polarity.proofs.put_forms.begun.Goals as goal
 
 one_more : (n : ℕ) → n ≤ n + 1
 one_more n = omega arith
-
--- more is left to do than in a formula that is given
-two_below : (n : ℕ) → 2 < 5 * suc n
-two_below n = omega arith
 
 -- less is left to do in a part, and in a left operand
 part_less : (n : ℕ) → 1 + 5 * n < 5 * suc n
@@ -68,60 +62,6 @@ loads-requires-clause-name c =
 
 pub loads-requires-clause-goal : goal.loads-requires-clause-goal
 loads-requires-clause-goal c = c.in-Load.ensures.parts.1
-
-pub both_sides-requires-clause-left : goal.both_sides-requires-clause-left
-both_sides-requires-clause-left c =
-    let texts = c.args.text.now.names.now in
-    part_ready texts c.args.text.now.forms.now c.args.at.0 c.in-Is.left.0 c.in-Is.ensures.parts.0 c.requires.ready.inside
-    (subst IsNamed (c.in-Is.ensures.tree texts) c.requires.ready.named).0
-
-pub both_sides-requires-clause-right : goal.both_sides-requires-clause-right
-both_sides-requires-clause-right c =
-    let texts = c.args.text.now.names.now in
-    part_ready texts c.args.text.now.forms.now c.args.at.0 c.in-Is.right.0 c.in-Is.ensures.parts.1 c.requires.ready.inside
-    (subst IsNamed (c.in-Is.ensures.tree texts) c.requires.ready.named).1
-
-pub both_sides-requires-clause-room : goal.both_sides-requires-clause-room
-both_sides-requires-clause-room c =
-    let texts = c.args.text.now.names.now in
-    subst (λ (r : Raw). HasRoom (built_form (place_in c.args.text.now.modules.now.places) (around c.args.place.now c.args.binders.now.scope)
-    (met_of texts c.args.met.now) r).met) (c.in-Is.ensures.tree texts) c.requires.room
-
-pub both_sides-requires-in-Less-clause-left : goal.both_sides-requires-in-Less-clause-left
-both_sides-requires-in-Less-clause-left c =
-    let texts = c.args.text.now.names.now in
-    part_ready texts c.args.text.now.forms.now c.args.at.0 c.in-Less.left.0 c.in-Less.ensures.parts.0 c.requires.ready.inside
-    (subst IsNamed (c.in-Less.ensures.tree texts) c.requires.ready.named).0
-
-pub both_sides-requires-in-Less-clause-right : goal.both_sides-requires-in-Less-clause-right
-both_sides-requires-in-Less-clause-right c =
-    let texts = c.args.text.now.names.now in
-    part_ready texts c.args.text.now.forms.now c.args.at.0 c.in-Less.right.0 c.in-Less.ensures.parts.1 c.requires.ready.inside
-    (subst IsNamed (c.in-Less.ensures.tree texts) c.requires.ready.named).1
-
-pub both_sides-requires-in-Less-clause-room : goal.both_sides-requires-in-Less-clause-room
-both_sides-requires-in-Less-clause-room c =
-    let texts = c.args.text.now.names.now in
-    subst (λ (r : Raw). HasRoom (built_form (place_in c.args.text.now.modules.now.places) (around c.args.place.now c.args.binders.now.scope)
-    (met_of texts c.args.met.now) r).met) (c.in-Less.ensures.tree texts) c.requires.room
-
-pub both_sides-requires-in-Most-clause-left : goal.both_sides-requires-in-Most-clause-left
-both_sides-requires-in-Most-clause-left c =
-    let texts = c.args.text.now.names.now in
-    part_ready texts c.args.text.now.forms.now c.args.at.0 c.in-Most.left.0 c.in-Most.ensures.parts.0 c.requires.ready.inside
-    (subst IsNamed (c.in-Most.ensures.tree texts) c.requires.ready.named).0
-
-pub both_sides-requires-in-Most-clause-right : goal.both_sides-requires-in-Most-clause-right
-both_sides-requires-in-Most-clause-right c =
-    let texts = c.args.text.now.names.now in
-    part_ready texts c.args.text.now.forms.now c.args.at.0 c.in-Most.right.0 c.in-Most.ensures.parts.1 c.requires.ready.inside
-    (subst IsNamed (c.in-Most.ensures.tree texts) c.requires.ready.named).1
-
-pub both_sides-requires-in-Most-clause-room : goal.both_sides-requires-in-Most-clause-room
-both_sides-requires-in-Most-clause-room c =
-    let texts = c.args.text.now.names.now in
-    subst (λ (r : Raw). HasRoom (built_form (place_in c.args.text.now.modules.now.places) (around c.args.place.now c.args.binders.now.scope)
-    (met_of texts c.args.met.now) r).met) (c.in-Most.ensures.tree texts) c.requires.room
 
 pub returns-in-True : goal.returns-in-True
 returns-in-True c =
@@ -240,64 +180,35 @@ returns-in-Binary c =
       keeps = Extends-refl c.args.bank.now;
     }
 
-pub returns-in_ok-sides-in-Is : goal.returns-in_ok-sides-in-Is
-returns-in_ok-sides-in-Is c =
-    let texts = c.args.text.now.names.now in let a = around c.args.place.now c.args.binders.now.scope in let met = met_of texts c.args.met.now in
-    record {
-      step =
-          let met' = met_of texts c.both_sides.new.met in let t = term_tree c.both_sides.new.bank c.in_ok-sides-in-Is.sides.left.0 in
-          let u = term_tree c.both_sides.new.bank c.in_ok-sides-in-Is.sides.right.0 in
-          let l = raw_at texts c.args.text.now.forms.now c.in-Is.left.0 in let r = raw_at texts c.args.text.now.forms.now c.in-Is.right.0 in
-          begun_gives c.gives-in-Is.result (ground c.args.text.now) c.gives-in-Is.new.bank a met met' c.args.frames.now.items (Num Is t u)
-          (c.in-Is.ensures.tree texts)
-          (sides_read Is a met met' l r t u c.in_ok-sides-in-Is.ensures.left.tree c.in_ok-sides-in-Is.ensures.right.tree c.in_ok-sides-in-Is.ensures.met)
-          (two_below (weight l + weight r)) c.gives-in-Is.ensures.step;
-      stands = always c.gives-in-Is.result _ c.requires.stands;
-      scope = always c.gives-in-Is.result _ (one_more (length c.args.binders.now.scope));
-      keeps = Extends-trans c.both_sides.ensures.keeps c.gives-in-Is.ensures.keeps;
-    }
+pub number_goal-requires-clause-number : goal.number_goal-requires-clause-number
+number_goal-requires-clause-number c = subst IsNumberGoal (sym (c.in-Is.ensures.tree c.args.text.now.names.now)) tt
 
-pub gives-requires-in-Is : goal.gives-requires-in-Is
-gives-requires-in-Is c = (c.in_ok-sides-in-Is.ensures.left.inside, c.in_ok-sides-in-Is.ensures.right.inside)
+pub returns-in-Is : goal.returns-in-Is
+returns-in-Is c = record {
+  step = c.number_goal.ensures.step c.args.frames.now.items;
+  stands = always c.number_goal.result _ c.requires.stands;
+  scope = always c.number_goal.result _ (one_more (length c.args.binders.now.scope));
+  keeps = c.number_goal.ensures.keeps;
+}
 
-pub returns-in_ok-sides-in-Less : goal.returns-in_ok-sides-in-Less
-returns-in_ok-sides-in-Less c =
-    let texts = c.args.text.now.names.now in let a = around c.args.place.now c.args.binders.now.scope in let met = met_of texts c.args.met.now in
-    record {
-      step =
-          let met' = met_of texts c.both_sides-in-Less.new.met in let t = term_tree c.both_sides-in-Less.new.bank c.in_ok-sides-in-Less.sides.left.0 in
-          let u = term_tree c.both_sides-in-Less.new.bank c.in_ok-sides-in-Less.sides.right.0 in
-          let l = raw_at texts c.args.text.now.forms.now c.in-Less.left.0 in let r = raw_at texts c.args.text.now.forms.now c.in-Less.right.0 in
-          begun_gives c.gives-in-Less.result (ground c.args.text.now) c.gives-in-Less.new.bank a met met' c.args.frames.now.items (Num Less t u)
-          (c.in-Less.ensures.tree texts)
-          (sides_read Less a met met' l r t u c.in_ok-sides-in-Less.ensures.left.tree c.in_ok-sides-in-Less.ensures.right.tree
-          c.in_ok-sides-in-Less.ensures.met)
-          (two_below (weight l + weight r)) c.gives-in-Less.ensures.step;
-      stands = always c.gives-in-Less.result _ c.requires.stands;
-      scope = always c.gives-in-Less.result _ (one_more (length c.args.binders.now.scope));
-      keeps = Extends-trans c.both_sides-in-Less.ensures.keeps c.gives-in-Less.ensures.keeps;
-    }
+pub number_goal-requires-in-Less-clause-number : goal.number_goal-requires-in-Less-clause-number
+number_goal-requires-in-Less-clause-number c = subst IsNumberGoal (sym (c.in-Less.ensures.tree c.args.text.now.names.now)) tt
 
-pub gives-requires-in-Less : goal.gives-requires-in-Less
-gives-requires-in-Less c = (c.in_ok-sides-in-Less.ensures.left.inside, c.in_ok-sides-in-Less.ensures.right.inside)
+pub returns-in-Less : goal.returns-in-Less
+returns-in-Less c = record {
+  step = c.number_goal-in-Less.ensures.step c.args.frames.now.items;
+  stands = always c.number_goal-in-Less.result _ c.requires.stands;
+  scope = always c.number_goal-in-Less.result _ (one_more (length c.args.binders.now.scope));
+  keeps = c.number_goal-in-Less.ensures.keeps;
+}
 
-pub returns-in_ok-sides-in-Most : goal.returns-in_ok-sides-in-Most
-returns-in_ok-sides-in-Most c =
-    let texts = c.args.text.now.names.now in let a = around c.args.place.now c.args.binders.now.scope in let met = met_of texts c.args.met.now in
-    record {
-      step =
-          let met' = met_of texts c.both_sides-in-Most.new.met in let t = term_tree c.both_sides-in-Most.new.bank c.in_ok-sides-in-Most.sides.left.0 in
-          let u = term_tree c.both_sides-in-Most.new.bank c.in_ok-sides-in-Most.sides.right.0 in
-          let l = raw_at texts c.args.text.now.forms.now c.in-Most.left.0 in let r = raw_at texts c.args.text.now.forms.now c.in-Most.right.0 in
-          begun_gives c.gives-in-Most.result (ground c.args.text.now) c.gives-in-Most.new.bank a met met' c.args.frames.now.items (Num Most t u)
-          (c.in-Most.ensures.tree texts)
-          (sides_read Most a met met' l r t u c.in_ok-sides-in-Most.ensures.left.tree c.in_ok-sides-in-Most.ensures.right.tree
-          c.in_ok-sides-in-Most.ensures.met)
-          (two_below (weight l + weight r)) c.gives-in-Most.ensures.step;
-      stands = always c.gives-in-Most.result _ c.requires.stands;
-      scope = always c.gives-in-Most.result _ (one_more (length c.args.binders.now.scope));
-      keeps = Extends-trans c.both_sides-in-Most.ensures.keeps c.gives-in-Most.ensures.keeps;
-    }
+pub number_goal-requires-in-Most-clause-number : goal.number_goal-requires-in-Most-clause-number
+number_goal-requires-in-Most-clause-number c = subst IsNumberGoal (sym (c.in-Most.ensures.tree c.args.text.now.names.now)) tt
 
-pub gives-requires-in-Most : goal.gives-requires-in-Most
-gives-requires-in-Most c = (c.in_ok-sides-in-Most.ensures.left.inside, c.in_ok-sides-in-Most.ensures.right.inside)
+pub returns-in-Most : goal.returns-in-Most
+returns-in-Most c = record {
+  step = c.number_goal-in-Most.ensures.step c.args.frames.now.items;
+  stands = always c.number_goal-in-Most.result _ c.requires.stands;
+  scope = always c.number_goal-in-Most.result _ (one_more (length c.args.binders.now.scope));
+  keeps = c.number_goal-in-Most.ensures.keeps;
+}

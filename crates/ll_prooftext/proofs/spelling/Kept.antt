@@ -1,5 +1,5 @@
 -- Names and terms that were added, and what stays the same then.
-use Rattle.std.proofs.Common.{◌≡◌, ℕ, List, [], ◌∷◌, ◌++◌, All, refl, ap, sym, ◌∙◌, append_assoc, append-nil}
+use Rattle.std.proofs.Common.{◌≡◌, ℕ, ◌<◌, ◌≤◌, arith, List, [], ◌∷◌, ◌++◌, All, refl, ap, sym, ◌∙◌, append_assoc, append-nil}
 use Rattle.std.specs.List.{flat_map}
 use Rattle.std.proofs.lemmas.List.Elements.{All-head, All-tail}
 use Rattle.ll_bank.specs.declared.At.{At}
@@ -16,6 +16,10 @@ grows_none names = record { more = []; is = sym (append-nil names) }
 
 pub grows_on : (a b c : List (List ℕ)) → Grows a b → Grows b c → Grows a c
 grows_on a b c g h = record { more = g.more ++ h.more; is = h.is ∙ (ap (λ z. z ++ h.more) g.is ∙ append_assoc a g.more h.more) }
+
+-- fewer than there is room for, with no more behind a step than before it
+pub below : (a b n : ℕ) → a ≤ b → b < n → a < n
+below a b n h k = omega arith
 
 -- ---- terms
 

@@ -1,4 +1,4 @@
-use Rattle.std.proofs.Common.{ℕ, ◌<◌, ◌≤◌, length, subst, ◌∙◌, ap, arith, List, ◌∷◌}
+use Rattle.std.proofs.Common.{length, subst, ◌∙◌, ap, List, ◌∷◌}
 use Rattle.std.proofs.lemmas.Result.{err_from_is_err_and}
 use Rattle.std.proofs.lemmas.List.{length-map}
 use Rattle.ll_bank.specs.declared.At.{At}
@@ -9,11 +9,8 @@ use Rattle.ll_prooftext.specs.Cells.{AreCellFields, StopsAtCell}
 use Rattle.ll_prooftext.proofs.reading.CellsRead.{stops_cell, cell_then, more_fields, rows_same, rows_stay}
 use Rattle.ll_prooftext.proofs.reading.LinesOver.{spine_made, spine_inside, more_bad, more_end}
 use Rattle.ll_prooftext.proofs.reading.Rest.{stops_here, stops_after, refuses_weaker}
-use Rattle.ll_prooftext.proofs.spelling.Kept.{grows_on}
+use Rattle.ll_prooftext.proofs.spelling.Kept.{below, grows_on}
 use Rattle.ll_prooftext.proofs.shared_lines.plain_share.Goals as goal
-
-below : (a b n : ℕ) → a ≤ b → b < n → a < n
-below a b n h k = omega arith
 
 pub returns-in_err-first-clause-err : goal.returns-in_err-first-clause-err
 returns-in_err-first-clause-err c =

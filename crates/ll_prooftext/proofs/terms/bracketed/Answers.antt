@@ -1,11 +1,7 @@
-use Rattle.std.proofs.Common.{ℕ, ◌<◌, ◌≤◌, arith}
 use Rattle.ll_prooftext.specs.Brackets.{Turns}
 use Rattle.ll_prooftext.proofs.spelling.Arguments.{reading_begins, reading_on, reading_stuck, reading_ends, reading_other, not_ended}
-use Rattle.ll_prooftext.proofs.spelling.Kept.{grows_on}
+use Rattle.ll_prooftext.proofs.spelling.Kept.{below, grows_on}
 use Rattle.ll_prooftext.proofs.terms.bracketed.Goals as goal
-
-below : (a b n : ℕ) → a ≤ b → b < n → a < n
-below a b n h k = omega arith
 
 pub loop-open-init : goal.loop-open-init
 loop-open-init c = reading_begins c.args.names.now c.args.bank.now c.args.inside.now _ c.new-2.ensures.items c.new.ensures.items c.new.ensures.part

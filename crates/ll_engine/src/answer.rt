@@ -1,16 +1,16 @@
 //! The end of a branch: whether a state is an answer, and which one.
 ghost use Rattle.std.specs.Prelude.{◌≡◌, IfOk};
-ghost use Rattle.ll_bank.specs.Nodes.{no_nodes};
+ghost use Rattle.ll_bank.specs.Nodes.{AllInTerms, no_nodes, term_trees};
 ghost use Rattle.ll_laws.specs.Settle.{has_live};
 ghost use Rattle.ll_freeze.specs.Parts.{parts_of};
 ghost use Rattle.ll_freeze.specs.Shown.{state_of};
 ghost use Rattle.ll_freeze.specs.Fits.{Fits};
 ghost use Rattle.ll_engine.specs.Turned.{is_empty, answers};
 
-use ll_bank::{Bank, FormAt, OutOfMemory};
+use ll_bank::{At, Bank, FormAt, OutOfMemory};
 use ll_bindings::{Carrier, read_into};
 use ll_freeze::Machine;
-use ll_laws::Branch;
+use ll_laws::{Branch, Step};
 use ll_resources::Context;
 use std::alloc::Global;
 
@@ -60,7 +60,6 @@ pub fn branch(
     let carrier = &mut workshop.carrier;
     let grown = &mut workshop.grown;
     let store = &machine.store;
-    let steps = Vec::from_slice(alloc, machine.steps.as_slice())?;
     clear(alloc, grown);
     let terms = read_into(
         alloc,
@@ -72,6 +71,20 @@ pub fn branch(
     )?;
     let size = grown.size();
     let bank = grown.image(size)?;
+    with_steps(alloc, bank, terms, machine.steps.as_slice())
+}
+
+// A branch of these terms, with a copy of the steps.
+fn with_steps(
+    alloc: Global,
+    bank: Bank,
+    terms: Vec<At>,
+    steps: &[Step],
+) -> Result<Branch, OutOfMemory>
+    requires { AllInTerms bank terms.items }
+    ensures { IfOk result (λ b. b ≡ record { terms = term_trees bank terms.items; steps = steps.now }) }
+{
+    let steps = Vec::from_slice(alloc, steps)?;
     Ok(Branch { bank, terms, steps })
 }
 

@@ -11,8 +11,8 @@ use crate::words::{name_of, write_number};
 use ll_bank::{At, Bank, Names, OutOfMemory};
 use std::alloc::Global;
 
-/// Appends the first line of an answer. After a refusal some first bytes of it may have been appended.
-pub(crate) fn write_title(number: u64, out: &mut Vec<u8>) -> Result<(), OutOfMemory>
+/// Appends the first line of an answer, with its number. After a refusal some first bytes of it may have been appended.
+pub fn title(number: u64, out: &mut Vec<u8>) -> Result<(), OutOfMemory>
     ensures text { OnOk result (out.new.items ≡ out.old.items ++ line (codes "answer " ++ decimal number)) }
     ensures begun { BeginsText (line (codes "answer " ++ decimal number)) out.old.items out.new.items }
 {

@@ -13,7 +13,8 @@ mod pieces;
 mod programs;
 mod words;
 
-use crate::answers::{has_names, write_bindings, write_title, write_yes};
+pub use crate::answers::title;
+use crate::answers::{has_names, write_bindings, write_yes};
 use crate::pieces::{Piece, print_piece};
 pub use crate::programs::program;
 use crate::words::write_number;
@@ -58,7 +59,23 @@ pub fn answer(
     ensures text { OnOk result (out.new.items ≡ out.old.items ++ (line (codes "answer " ++ decimal number) ++ bindings_text problem.now branch.now)) }
     ensures begun { BeginsText (line (codes "answer " ++ decimal number) ++ bindings_text problem.now branch.now) out.old.items out.new.items }
 {
-    write_title(number, out)?;
+    title(number, out)?;
+    bindings(alloc, problem, branch, out)
+}
+
+/// Appends the lines of an answer behind its number: a line for each named variable of the query, or `yes` if none has a name.
+///
+/// After a refusal some first bytes of them may have been appended.
+pub fn bindings(
+    alloc: Global,
+    problem: &Problem,
+    branch: &Branch,
+    out: &mut Vec<u8>,
+) -> Result<(), OutOfMemory>
+    requires { length problem.now.asked ≤ length branch.now.terms }
+    ensures text { OnOk result (out.new.items ≡ out.old.items ++ bindings_text problem.now branch.now) }
+    ensures begun { BeginsText (bindings_text problem.now branch.now) out.old.items out.new.items }
+{
     if has_names(&problem.asked) {
         write_bindings(
             alloc,

@@ -44,7 +44,7 @@ module _ {N : Type 0} where
   abbrev pub LooksAs : (N → List (Owed Event)) → PoolData N Event → Look → PoolData N Event → Type 0
   LooksAs alternatives p look q = Looks alternatives p (overview look) q
 
-abbrev pub ready_answer : Ready → ReadyAnswer Event
+abbrev pub ready_answer : {E : Type 0} → Ready E → ReadyAnswer Event
 ready_answer (Events report) = event.Events report
 ready_answer (NotYet piece) = event.NotYet piece
 ready_answer All = event.All

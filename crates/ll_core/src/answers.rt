@@ -1,5 +1,5 @@
 //! What the calls of a pool answer.
-use ll_laws::Report;
+use ll_laws::{Notice, Report};
 use std::sync::Arc;
 
 /// What a worker that asks for work is answered.
@@ -39,9 +39,9 @@ pub struct Look {
 
 /// The next report in the order of one worker.
 #[derive(Drop)]
-pub enum Ready {
+pub enum Ready<E: Notice> {
     /// The report of the next piece, which is now taken.
-    Events(Report),
+    Events(Report<E>),
     /// The next is this piece, which is open, or an alternative that is not claimed.
     NotYet { piece: Option<u32> },
     /// Every piece is taken, and no alternative is untried.

@@ -6,7 +6,7 @@ ghost use Rattle.ll_core.specs.Slots.{TakesReport, stop_in};
 ghost use Rattle.ll_core.specs.declared.cursor.Stop.{Stop};
 
 use crate::room::State;
-use ll_laws::Report;
+use ll_laws::{Notice, Report};
 
 /// The alternatives of a batch from this one on.
 #[derive(Clone, Copy)]
@@ -16,7 +16,7 @@ pub(crate) struct Stop {
 }
 
 /// The report, where it is closed, which is then taken.
-pub(crate) fn take_report(state: &mut State) -> Option<Report>
+pub(crate) fn take_report<E: Notice>(state: &mut State<E>) -> Option<Report<E>>
     ensures { TakesReport state.old result state.new }
 {
     match std::mem::replace(state, State::Taken) {

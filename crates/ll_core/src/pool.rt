@@ -26,7 +26,7 @@ use std::sync::Arc;
 #[derive(Drop)]
 pub struct Pool<N: Batch> {
     batches: Vec<Arc<N>>,
-    pieces: Vec<Slot>,
+    pieces: Vec<Slot<N::Found>>,
     // The alternatives that are not claimed, in the order in which they were published.
     waiting: VecDeque<Waiting<N>>,
     // For each batch the number of its first alternative in the order of publishing.
@@ -172,7 +172,7 @@ impl<N: Batch> Pool<N> {
     }
 
     /// Closes an open piece with its report. It takes no memory.
-    pub fn report(&mut self, piece: u32, report: Report)
+    pub fn report(&mut self, piece: u32, report: Report<N::Found>)
         requires { IsOpenAt self.old piece }
         ensures { self.new ≡ reported self.old piece report }
     {
@@ -212,7 +212,7 @@ impl<N: Batch> Pool<N> {
     ///
     /// `NotYet` exactly where this next piece is open, with its number, or is an alternative that is not claimed. `All` exactly where
     /// every piece is taken and none is untried. Either leaves the pool as it is. It takes no memory.
-    pub fn ready(&mut self) -> Ready
+    pub fn ready(&mut self) -> Ready<N::Found>
         ensures event { Readies N.alternatives self.old (ready_answer result) self.new }
         ensures shaped { Shaped N.alternatives self.old }
     {

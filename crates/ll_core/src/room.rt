@@ -6,27 +6,27 @@ ghost use Rattle.ll_core.specs.Copies.{AreCopies};
 ghost use Rattle.ll_core.specs.Slots.{piece_in};
 
 use ll_bank::OutOfMemory;
-use ll_laws::{Batch, Report};
+use ll_laws::{Batch, Notice, Report};
 use std::alloc::Global;
 use std::collections::VecDeque;
 use std::sync::Arc;
 
 /// How far a piece is.
 #[derive(Drop)]
-pub(crate) enum State {
+pub(crate) enum State<E: Notice> {
     Open,
-    Closed(Report),
+    Closed(Report<E>),
     Taken,
 }
 
 /// A piece: alternative `k` of a batch, who claimed it, and the batches that it published.
 #[derive(Drop)]
-pub(crate) struct Slot {
+pub(crate) struct Slot<E: Notice> {
     pub(crate) batch: u32,
     pub(crate) k: u32,
     pub(crate) worker: u32,
     pub(crate) published: Vec<u32>,
-    pub(crate) state: State,
+    pub(crate) state: State<E>,
 }
 
 /// An alternative that is not claimed, with a copy of its batch to be handed out.
@@ -61,7 +61,7 @@ pub(crate) fn copies_of<N: Batch>(
 /// Room for one batch more, published by the piece at `at`, and for the pieces of its copies, which then wait.
 pub(crate) fn take_room<N: Batch>(
     batches: &mut Vec<Arc<N>>,
-    pieces: &mut Vec<Slot>,
+    pieces: &mut Vec<Slot<N::Found>>,
     waiting: &mut VecDeque<Waiting<N>>,
     copies: &mut VecDeque<Waiting<N>>,
     at: usize,

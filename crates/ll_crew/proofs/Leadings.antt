@@ -145,12 +145,12 @@ module _ {O : Type 0} (takes breaks : O → Event → O → Type 0) (welcome : O
 
 -- ---- turns that take no report, and those that end the work
 
-pub calm_ready : (answer : ReadyCall) → ((report : Owed Event) → answer ≡ ready.Events report → ⊥) → (a b : Sat)
+pub calm_ready : {E : Type 0} (answer : ReadyCall E) → ((report : Owed Event) → answer ≡ ready.Events report → ⊥) → (a b : Sat)
     → OneTurn of_batch alternatives_in (λ found left. Does alternatives_in found (Ready (ready_answer answer)) left) a b → Calm a b
 calm_ready (ready.Events report) other a b t = absurd (other report refl)
-calm_ready (ready.NotYet None) other a b t = calm_turn _ a b t (Ready (ready_answer (ready.NotYet None))) tt tt t.changed
-calm_ready (ready.NotYet (Some piece)) other a b t = calm_turn _ a b t (Ready (ready_answer (ready.NotYet (Some piece)))) tt tt t.changed
-calm_ready ready.All other a b t = calm_turn _ a b t (Ready (ready_answer ready.All)) tt tt t.changed
+calm_ready {E = E} (ready.NotYet None) other a b t = calm_turn _ a b t (Ready (ready_answer {E = E} (ready.NotYet None))) tt tt t.changed
+calm_ready {E = E} (ready.NotYet (Some piece)) other a b t = calm_turn _ a b t (Ready (ready_answer {E = E} (ready.NotYet (Some piece)))) tt tt t.changed
+calm_ready {E = E} ready.All other a b t = calm_turn _ a b t (Ready (ready_answer {E = E} ready.All)) tt tt t.changed
 
 pub left_by_stop : (a b : Sat) → OneTurn of_batch alternatives_in (λ found left. Does alternatives_in found Stop left) a b → HasLeft b
 left_by_stop a b t = inr (ap (λ (p : PoolData FrozenSight Event). p.stopped) (turn_seen _ a b t ∙ t.changed))

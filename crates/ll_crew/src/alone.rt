@@ -1,5 +1,5 @@
 //! A search by the caller alone.
-ghost use Rattle.std.specs.Prelude.{◌≡◌, ◌+◌, ◌≤◌, Err, IfOk, OnOk, OnErr, count_by};
+ghost use Rattle.std.specs.Prelude.{◌≡◌, ◌+◌, ◌≤◌, Err, IfOk, OnOk, OnErr, count_by, map};
 ghost use Rattle.std.specs.Arc.{arc_value};
 ghost use Rattle.ll_laws.specs.Problem.{problem_events, problem_cost};
 ghost use Rattle.ll_laws.specs.Search.{cut_count, is_answer, is_reached};
@@ -16,23 +16,23 @@ use crate::piece::stretch;
 use crate::whole::{CrewFault, fault_of};
 use ll_engine::Engine;
 use ll_index::Index;
-use ll_laws::{Counts, Event, Problem};
+use ll_laws::{Counts, Problem};
 use ll_order::{Outlet, give};
 use std::alloc::Global;
 use std::sync::Arc;
 
 // Gives the outlet events, which are welcome, and counts them.
 fn give_some<O: Outlet>(
-    events: Vec<Event>,
+    events: Vec<O::Found>,
     counts: Counts,
     out: &mut O,
 ) -> Result<Counts, CrewFault>
-    requires welcome { Every (O.welcome out.old) events.items }
+    requires welcome { Every (O.welcome out.old) (map O.Found.stands_for events.items) }
     requires few { (counts.answers ≤ 18446744073709551615) × (counts.reached ≤ 18446744073709551615) }
-    ensures given { OnOk result (Gives O.takes out.old events.items out.new) }
-    ensures answers { IfOk result (λ new. new.answers ≡ cut_count (counts.answers + count_by is_answer events.items)) }
-    ensures reached { IfOk result (λ new. new.reached ≡ cut_count (counts.reached + count_by is_reached events.items)) }
-    ensures refused { OnErr result (GivesPrefix O.takes O.breaks out.old events.items out.new) }
+    ensures given { OnOk result (Gives O.takes out.old (map O.Found.stands_for events.items) out.new) }
+    ensures answers { IfOk result (λ new. new.answers ≡ cut_count (counts.answers + count_by is_answer (map O.Found.stands_for events.items))) }
+    ensures reached { IfOk result (λ new. new.reached ≡ cut_count (counts.reached + count_by is_reached (map O.Found.stands_for events.items))) }
+    ensures refused { OnErr result (GivesPrefix O.takes O.breaks out.old (map O.Found.stands_for events.items) out.new) }
     ensures write { result ≡ Err CrewFault.Write → Rose (O.faults out.old) (O.faults out.new) }
     ensures kept { Kept O.takes O.breaks O.welcome O.faults out.old out.new }
 {
@@ -51,6 +51,7 @@ pub(crate) fn search_alone<'p, O: Outlet>(
     out: &mut O,
 ) -> Result<Counts, CrewFault>
     requires valid { IsValid problem.now }
+    requires suits { O.Found.suits problem.now }
     requires index { IsIndexOf problem.now (arc_value index) }
     requires welcome { Every (O.welcome out.old) (problem_events problem.now) }
     ensures given { OnOk result (Gives O.takes out.old (problem_events problem.entry.now) out.new) }
@@ -62,16 +63,18 @@ pub(crate) fn search_alone<'p, O: Outlet>(
     let Ok(mut engine) = Engine::start_with(alloc, problem, index) else {
         return Err(CrewFault::OutOfMemory);
     };
-    give_each(alloc, &mut engine, out)
+    give_each(alloc, problem, &mut engine, out)
 }
 
 // Gives the outlet all events of a new engine, those of one stretch of its steps at a time.
 fn give_each<'p, O: Outlet>(
     alloc: Global,
+    problem: &'p Problem,
     engine: &mut Engine<'p>,
     out: &mut O,
 ) -> Result<Counts, CrewFault>
     requires starts { engine.old ≡ fresh engine.old.problem }
+    requires suits { O.Found.suits problem.now }
     requires welcome { Every (O.welcome out.old) (problem_events engine.old.problem) }
     ensures given { OnOk result (Gives O.takes out.old (problem_events engine.old.problem) out.new) }
     ensures counts { IfOk result (λ counts. CountsOf counts (problem_events engine.old.problem) (problem_cost engine.old.problem)) }
@@ -86,7 +89,7 @@ fn give_each<'p, O: Outlet>(
     };
     'stretches: loop {
         let mut events = Vec::new(alloc);
-        let Ok(done) = stretch(engine, &mut events, false) else {
+        let Ok(done) = stretch(alloc, problem, engine, &mut events, false) else {
             return Err(CrewFault::OutOfMemory);
         };
         match give_some(events, counts, out) {

@@ -34,6 +34,7 @@ pub fn crew_apart<'p, R: Threads + Wait + Sync, G: Gate, O: Outlet>(
 ) -> Result<Counts, CrewFault>
     requires workers { (0 < workers) × (workers ≤ 64) }
     requires valid { IsValid problem.now }
+    requires suits { O.Found.suits problem.now }
     requires welcome { Every (O.welcome out.old) (problem_events problem.now) }
     ensures given { OnOk result (Gives O.takes out.old (problem_events problem.entry.now) out.new) }
     ensures counts { IfOk result (λ counts. CountsOf counts (problem_events problem.entry.now) (problem_cost problem.entry.now)) }

@@ -11,14 +11,15 @@ use crate::bell::Bell;
 use crate::beside::join_beside;
 use crate::job::{Job, Sharing};
 use crate::lead::{Mute, Told};
+use crate::offer::Offer;
 use crate::worker::work_as;
 use ll_bank::OutOfMemory;
 use ll_edge::Gate;
-use ll_freeze::Frozen;
-use ll_laws::Problem;
+use ll_laws::{Notice, Problem};
 use ll_order::Outlet;
 use ll_pool::{Seat, SharedPool};
 use std::alloc::Global;
+use std::marker::PhantomData;
 use std::snapshot::Snapshot;
 use std::sync::Wait;
 use std::sync::atomic::AtomicU64;
@@ -26,35 +27,35 @@ use std::thread::{Threads, join};
 
 // A worker that tells nothing: its seat, and all that it works with.
 #[derive(Drop)]
-struct Hand<'a, 'p, R, G> {
+struct Hand<'a, 'p, R, G, E: Notice> {
     rt: &'a R,
     alloc: Global,
     problem: &'p Problem,
-    pool: &'a SharedPool<Frozen<'p>>,
+    pool: &'a SharedPool<Offer<'p, E>>,
     bell: &'a Bell,
     gate: &'a G,
     sharing: Sharing,
     came_back: &'a AtomicU64,
-    seat: Seat<Frozen<'p>>,
+    seat: Seat<Offer<'p, E>>,
 }
 
 // Some workers that tell nothing.
 #[derive(Drop)]
-struct Crowd<'a, 'p, R, G> {
+struct Crowd<'a, 'p, R, G, E: Notice> {
     rt: &'a R,
     alloc: Global,
     problem: &'p Problem,
-    pool: &'a SharedPool<Frozen<'p>>,
+    pool: &'a SharedPool<Offer<'p, E>>,
     bell: &'a Bell,
     gate: &'a G,
     sharing: Sharing,
     came_back: &'a AtomicU64,
-    seats: Vec<Seat<Frozen<'p>>>,
+    seats: Vec<Seat<Offer<'p, E>>>,
 }
 
-impl<'a, 'p, R, G> Crowd<'a, 'p, R, G> {
+impl<'a, 'p, R, G, E: Notice> Crowd<'a, 'p, R, G, E> {
     // One of them, with this seat.
-    fn hand(&self, seat: Seat<Frozen<'p>>) -> Hand<'a, 'p, R, G>
+    fn hand(&self, seat: Seat<Offer<'p, E>>) -> Hand<'a, 'p, R, G, E>
         ensures pool { result.pool.now ≡ self.now.pool.now }
         ensures problem { result.problem.now ≡ self.now.problem.now }
         ensures seat { result.seat ≡ seat.entry }
@@ -74,8 +75,9 @@ impl<'a, 'p, R, G> Crowd<'a, 'p, R, G> {
 }
 
 // The work of a worker that tells nothing.
-fn help<'a, 'p, R: Wait, G: Gate>(hand: Hand<'a, 'p, R, G>) -> Seat<Frozen<'p>>
-    requires { CanWork hand.pool.now hand.problem.now hand.seat }
+fn help<'a, 'p, R: Wait, G: Gate, E: Notice>(hand: Hand<'a, 'p, R, G, E>) -> Seat<Offer<'p, E>>
+    requires can { CanWork hand.pool.now hand.problem.now hand.seat }
+    requires suits { E.suits hand.problem.now }
     ensures { Worked hand.entry.seat result }
 {
     let Hand {
@@ -89,7 +91,7 @@ fn help<'a, 'p, R: Wait, G: Gate>(hand: Hand<'a, 'p, R, G>) -> Seat<Frozen<'p>>
         came_back,
         mut seat,
     } = hand;
-    let mut mute = Mute;
+    let mut mute: Mute<E> = Mute { found: PhantomData };
     let start = Snapshot::of(&mute);
     let mut told = Told::new(false);
     let job = Job {
@@ -107,10 +109,11 @@ fn help<'a, 'p, R: Wait, G: Gate>(hand: Hand<'a, 'p, R, G>) -> Seat<Frozen<'p>>
 }
 
 // The work of some workers, each in a thread of its own where one can be made.
-fn work_all<'a, 'p, R: Threads + Wait + Sync, G: Gate>(
-    mut crowd: Crowd<'a, 'p, R, G>,
-) -> Vec<Seat<Frozen<'p>>>
-    requires { Every (CanWork crowd.pool.now crowd.problem.now) crowd.seats.items }
+fn work_all<'a, 'p, R: Threads + Wait + Sync, G: Gate, E: Notice>(
+    mut crowd: Crowd<'a, 'p, R, G, E>,
+) -> Vec<Seat<Offer<'p, E>>>
+    requires can { Every (CanWork crowd.pool.now crowd.problem.now) crowd.seats.items }
+    requires suits { E.suits crowd.problem.now }
     ensures each { EachWorked crowd.entry.seats.items result.items }
     ensures len { vec_len result ≡ vec_len crowd.entry.seats }
     ensures room { vec_capacity crowd.entry.seats ≤ vec_capacity result }
@@ -120,15 +123,20 @@ fn work_all<'a, 'p, R: Threads + Wait + Sync, G: Gate>(
     };
     let rt = crowd.rt;
     let hand = crowd.hand(seat);
+    if crowd.seats.is_empty() {
+        let mut last = crowd.seats;
+        last.push_reserved(help(hand));
+        return last;
+    }
     let (mut back, seat) = join(
         rt,
         move ||
-            requires { IsSync R.row × IsSync G.row × Every (CanWork crowd.pool.now crowd.problem.now) crowd.seats.items }
+            requires { IsSync R.row × IsSync G.row × Every (CanWork crowd.pool.now crowd.problem.now) crowd.seats.items × E.suits crowd.problem.now }
             ensures { EachWorked crowd.entry.seats.items result.items × (vec_len result ≡ vec_len crowd.entry.seats)
                 × (vec_capacity crowd.entry.seats ≤ vec_capacity result) }
         { work_all(crowd) },
         move ||
-            requires { IsSync G.row × CanWork hand.pool.now hand.problem.now hand.seat }
+            requires { IsSync G.row × CanWork hand.pool.now hand.problem.now hand.seat × E.suits hand.problem.now }
             ensures { Worked hand.entry.seat result }
         { help(hand) },
     );
@@ -140,14 +148,15 @@ fn work_all<'a, 'p, R: Threads + Wait + Sync, G: Gate>(
 pub(crate) fn work_together<'p, R: Threads + Wait + Sync, G: Gate, O: Outlet>(
     job: &Job<'_, 'p, R, O>,
     gate: &G,
-    first: &mut Seat<Frozen<'p>>,
+    first: &mut Seat<Offer<'p, O::Found>>,
     told: &mut Told,
     out: &mut O,
-    seats: Vec<Seat<Frozen<'p>>>,
-) -> (Vec<Seat<Frozen<'p>>>, Result<bool, OutOfMemory>)
+    seats: Vec<Seat<Offer<'p, O::Found>>>,
+) -> (Vec<Seat<Offer<'p, O::Found>>>, Result<bool, OutOfMemory>)
     requires first { CanWork job.now.pool.now job.now.problem.now first.old }
     requires stands { Stands O.takes O.breaks O.welcome O.faults job.now.start.now.value job.now.problem.now first.old out.old told.old }
     requires seats { Every (CanWork job.now.pool.now job.now.problem.now) seats.items }
+    requires suits { O.Found.suits job.now.problem.now }
     ensures leads { told.new.leads ≡ told.old.leads }
     ensures done { IfOk result.1 (λ done. done ≡ true → Ended
         (Stands O.takes O.breaks O.welcome O.faults job.now.start.now.value job.now.problem.now first.new out.new told.new) job.now.problem.now first.old
@@ -176,11 +185,12 @@ pub(crate) fn work_together<'p, R: Threads + Wait + Sync, G: Gate, O: Outlet>(
     join_beside(
         job.rt,
         move ||
-            requires { IsSync R.row × IsSync G.row × Every (CanWork crowd.pool.now crowd.problem.now) crowd.seats.items }
+            requires { IsSync R.row × IsSync G.row × Every (CanWork crowd.pool.now crowd.problem.now) crowd.seats.items
+                × O.Found.suits crowd.problem.now }
             ensures { EachWorked crowd.entry.seats.items result.items }
         { work_all(crowd) },
         &mut ||
-            requires { IsSync G.row × CanWork job.now.pool.now job.now.problem.now first.now
+            requires { IsSync G.row × CanWork job.now.pool.now job.now.problem.now first.now × O.Found.suits job.now.problem.now
                 × Stands O.takes O.breaks O.welcome O.faults job.now.start.now.value job.now.problem.now first.now out.now told.now }
             ensures leads { told.exit.now.leads ≡ told.entry.now.leads }
             ensures done { IfOk result (λ done. done ≡ true → Ended

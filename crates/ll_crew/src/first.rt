@@ -17,7 +17,7 @@ use crate::whole::{CrewFault, crew_by, index_of};
 use ll_edge::Gate;
 use ll_first::Enough;
 use ll_index::Index;
-use ll_laws::{Counts, Event, Problem};
+use ll_laws::{Counts, Problem};
 use ll_order::{OutFault, Outlet};
 use std::alloc::Global;
 use std::sync::atomic::AtomicU64;
@@ -33,6 +33,8 @@ struct Until<'s, E> {
 }
 
 impl<'s, E: Enough> Outlet for Until<'s, E> {
+    type Found = E::Found;
+
     ghost use Rattle.ll_crew.specs.Firsts.{GoesOn, Ends};
 
     ghost takes = { λ before event after. GoesOn E.takes E.breaks E.faults E.limit E.answers
@@ -49,7 +51,7 @@ impl<'s, E: Enough> Outlet for Until<'s, E> {
 
     ghost faults = { λ outlet. E.faults outlet.out.now + (if outlet.ended then 1 else 0) };
 
-    fn event(&mut self, event: Event) -> Result<(), OutFault> {
+    fn event(&mut self, event: E::Found) -> Result<(), OutFault> {
         if self.ended {
             return Err(OutFault::OutOfMemory);
         }
@@ -82,6 +84,7 @@ pub fn crew_first<'p, R: Threads + Wait + Sync, G: Gate, E: Enough>(
 ) -> Result<Option<Counts>, CrewFault>
     requires workers { (0 < workers) × (workers ≤ 64) }
     requires valid { IsValid problem.now }
+    requires suits { E.Found.suits problem.now }
     requires none_yet { E.answers out.old ≡ 0 }
     requires welcome { Every (E.welcome out.old) (problem_events problem.now) }
     ensures enough { IfOk result (λ o. (o ≡ None) ↔ (E.limit out.old ≤ count_by is_answer (problem_events problem.entry.now))) }
@@ -115,6 +118,7 @@ fn give_until<'p, 's, R: Threads + Wait + Sync, G: Gate, E: Enough>(
 ) -> Result<Option<Counts>, CrewFault>
     requires workers { (0 < workers) × (workers ≤ 64) }
     requires valid { IsValid problem.now }
+    requires suits { E.Found.suits problem.now }
     requires index { IsIndexOf problem.now (arc_value index) }
     requires starts { until.old.ended ≡ false }
     requires none_yet { E.answers until.old.out.now ≡ 0 }

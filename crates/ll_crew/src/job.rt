@@ -1,7 +1,8 @@
 //! What workers work with.
 use crate::bell::Bell;
-use ll_freeze::Frozen;
+use crate::offer::Offer;
 use ll_laws::Problem;
+use ll_order::Outlet;
 use ll_pool::SharedPool;
 use std::alloc::Global;
 use std::snapshot::Snapshot;
@@ -20,11 +21,11 @@ pub(crate) enum Sharing {
 
 /// What a worker works with, whatever it claims.
 #[derive(Drop)]
-pub(crate) struct Job<'a, 'p, R, O> {
+pub(crate) struct Job<'a, 'p, R, O: Outlet> {
     pub(crate) rt: &'a R,
     pub(crate) alloc: Global,
     pub(crate) problem: &'p Problem,
-    pub(crate) pool: &'a SharedPool<Frozen<'p>>,
+    pub(crate) pool: &'a SharedPool<Offer<'p, O::Found>>,
     pub(crate) bell: &'a Bell,
     pub(crate) sharing: Sharing,
     /// How many batches came back where workers leave nothing to others.
@@ -33,7 +34,7 @@ pub(crate) struct Job<'a, 'p, R, O> {
     pub(crate) start: &'a Snapshot<O>,
 }
 
-impl<'a, 'p, R, O> Job<'a, 'p, R, O> {
+impl<'a, 'p, R, O: Outlet> Job<'a, 'p, R, O> {
     /// Whether an answer is to be reported at once.
     pub(crate) fn reports_at_once(&self) -> bool {
         match self.sharing {

@@ -5,11 +5,12 @@ ghost use Rattle.ll_crew.specs.Leading.{Stands, Stopped};
 ghost use Rattle.ll_crew.specs.Turns.{Goes, Leaves};
 
 use crate::job::Job;
+use crate::offer::Offer;
 use ll_core::{Look, Ready};
-use ll_freeze::Frozen;
-use ll_laws::{Counts, Event};
+use ll_laws::{Counts, Notice};
 use ll_order::{OutFault, Outlet, give};
 use ll_pool::Seat;
+use std::marker::PhantomData;
 use std::sync::Wait;
 
 /// What a worker has told the outlet: nothing, unless it leads.
@@ -38,9 +39,13 @@ impl Told {
 
 /// An outlet for a worker that tells nothing.
 #[derive(Drop)]
-pub(crate) struct Mute;
+pub(crate) struct Mute<E: Notice> {
+    pub(crate) found: PhantomData<E>,
+}
 
-impl Outlet for Mute {
+impl<E: Notice> Outlet for Mute<E> {
+    type Found = E;
+
     ghost takes = { λ before event after. Unit {0} };
 
     ghost breaks = { λ before event after. Unit {0} };
@@ -49,13 +54,17 @@ impl Outlet for Mute {
 
     ghost faults = { λ outlet. 0 };
 
-    fn event(&mut self, _event: Event) -> Result<(), OutFault> {
+    fn event(&mut self, _event: E) -> Result<(), OutFault> {
         Ok(())
     }
 }
 
 // After a failed write the pool is stopped, and where the outlet wanted memory it is starved.
-fn quit<'p, R: Wait, O>(job: &Job<'_, 'p, R, O>, seat: &mut Seat<Frozen<'p>>, fault: OutFault)
+fn quit<'p, R: Wait, O: Outlet>(
+    job: &Job<'_, 'p, R, O>,
+    seat: &mut Seat<Offer<'p, O::Found>>,
+    fault: OutFault,
+)
     requires own { seat.old.table ≡ job.now.pool.now.table }
     ensures same { Same seat.old seat.new }
     ensures left { HasLeft seat.new }
@@ -70,7 +79,7 @@ fn quit<'p, R: Wait, O>(job: &Job<'_, 'p, R, O>, seat: &mut Seat<Frozen<'p>>, fa
 // memory.
 fn tell_all<'p, R: Wait, O: Outlet>(
     job: &Job<'_, 'p, R, O>,
-    seat: &mut Seat<Frozen<'p>>,
+    seat: &mut Seat<Offer<'p, O::Found>>,
     told: &mut Told,
     out: &mut O,
 ) -> bool
@@ -109,7 +118,7 @@ fn tell_all<'p, R: Wait, O: Outlet>(
 /// the outlet wanted memory.
 pub(crate) fn tell<'p, R: Wait, O: Outlet>(
     job: &Job<'_, 'p, R, O>,
-    seat: &mut Seat<Frozen<'p>>,
+    seat: &mut Seat<Offer<'p, O::Found>>,
     told: &mut Told,
     out: &mut O,
 ) -> bool
@@ -131,7 +140,7 @@ pub(crate) fn tell<'p, R: Wait, O: Outlet>(
 /// stopped.
 pub(crate) fn look<'p, R: Wait, O: Outlet>(
     job: &Job<'_, 'p, R, O>,
-    seat: &mut Seat<Frozen<'p>>,
+    seat: &mut Seat<Offer<'p, O::Found>>,
     told: &mut Told,
     out: &mut O,
 ) -> Option<Look>

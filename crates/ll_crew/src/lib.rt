@@ -9,11 +9,13 @@ mod crowd;
 mod first;
 mod job;
 mod lead;
+mod offer;
 mod piece;
 mod whole;
 mod worker;
 
 pub use apart::crew_apart;
 pub use first::crew_first;
+pub use offer::Offer;
 pub use whole::{CrewFault, crew, crew_with};
 pub use worker::work;

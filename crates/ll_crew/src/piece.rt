@@ -1,5 +1,5 @@
 //! The work of one piece.
-ghost use Rattle.std.specs.Prelude.{◌≡◌, ◌<◌, length, IfOk, IfSome, IfNone, IsSomeAnd, OnOk, OnErr, Some, None, slice_get, ◌+◌, ◌++◌, [], true, false};
+ghost use Rattle.std.specs.Prelude.{◌≡◌, ◌<◌, length, IfOk, IfSome, IfNone, IsSomeAnd, OnOk, OnErr, Some, None, slice_get, ◌+◌, ◌++◌, [], map, true, false};
 ghost use Rattle.std.specs.Arc.{arc_value};
 ghost use Rattle.ll_laws.specs.Pool.{Owed};
 ghost use Rattle.ll_laws.specs.declared.Event.{Event as TheEvent};
@@ -13,14 +13,15 @@ ghost use Rattle.ll_crew.specs.Seats.{IsSeat, Calm};
 
 use crate::job::{Job, Sharing};
 use crate::lead::{Told, look, tell};
+use crate::offer::Offer;
 use ll_bank::OutOfMemory;
 use ll_core::{Look, PublishFault};
 use ll_engine::{Engine, Step2};
 use ll_freeze::Frozen;
-use ll_laws::{Batch, Event, Report};
+use ll_laws::{Batch, Notice, Problem, Report};
 use ll_order::Outlet;
 use ll_pool::Seat;
-use std::alloc::AllocError;
+use std::alloc::{AllocError, Global};
 use std::sync::atomic::Ordering;
 use std::sync::{Arc, Wait};
 
@@ -29,18 +30,21 @@ const STEPS: u32 = 256;
 
 /// At most `STEPS` steps of an engine, whose events are put behind those that there are, and no step behind an answer that is to be
 /// reported at once. True where the engine is done.
-pub(crate) fn stretch(
+pub(crate) fn stretch<E: Notice>(
+    alloc: Global,
+    problem: &Problem,
     engine: &mut Engine<'_>,
-    events: &mut Vec<Event>,
+    events: &mut Vec<E>,
     at_once: bool,
 ) -> Result<bool, OutOfMemory>
-    ensures { IfOk result (λ done. Stretched done events.old.items engine.old events.new.items engine.new) }
+    requires suits { E.suits problem.now }
+    ensures { IfOk result (λ done. Stretched done (map E.stands_for events.old.items) engine.old (map E.stands_for events.new.items) engine.new) }
 {
     for _step in 0..STEPS {
         match engine.step()? {
             Step2::Moved => {}
             Step2::Event(event) => {
-                events.push(event)?;
+                events.push(E::make(alloc, problem, event)?)?;
                 if at_once && ends_with_answer(events) {
                     return Ok(false);
                 }
@@ -52,10 +56,10 @@ pub(crate) fn stretch(
 }
 
 // Whether the last of the events is an answer.
-fn ends_with_answer(events: &Vec<Event>) -> bool {
+fn ends_with_answer<E: Notice>(events: &Vec<E>) -> bool {
     match events.last() {
-        Some(Event::Answer(_)) => true,
-        _ => false,
+        Some(event) => event.is_answer(),
+        None => false,
     }
 }
 
@@ -72,16 +76,16 @@ enum Shared<'p> {
 
 // Publishes the oldest choice point of the engine, if it has one that is untried. A batch for which the pool has no place comes back, and
 // so does each where workers search apart.
-fn share_oldest<'p, R: Wait, O>(
+fn share_oldest<'p, R: Wait, O: Outlet>(
     job: &Job<'_, 'p, R, O>,
-    seat: &mut Seat<Frozen<'p>>,
+    seat: &mut Seat<Offer<'p, O::Found>>,
     engine: &mut Engine<'p>,
-    events: &Vec<Event>,
+    events: &Vec<O::Found>,
 ) -> Result<Shared<'p>, OutOfMemory>
     requires seat { IsSeat job.now.pool.now engine.old.problem seat.old }
-    requires owes { OwesAll seat.old.mine.piece events.now.items engine.old [] }
+    requires owes { OwesAll seat.old.mine.piece (map O.Found.stands_for events.now.items) engine.old [] }
     ensures calm { Calm seat.old seat.new }
-    ensures owes { IfOk result (λ shared. SharesTo seat.new.mine.piece events.now.items engine.old engine.new shared) }
+    ensures owes { IfOk result (λ shared. SharesTo seat.new.mine.piece (map O.Found.stands_for events.now.items) engine.old engine.new shared) }
 {
     let Some(batch) = engine.split_oldest()? else {
         return Ok(Shared::Nothing);
@@ -92,29 +96,31 @@ fn share_oldest<'p, R: Wait, O>(
         job.came_back.fetch_add(1, Ordering::Relaxed);
         return Ok(Shared::Back(batch));
     }
-    match job.pool.publish(job.rt, seat, batch) {
+    let point = Offer::new(&batch)?;
+    let offer = Arc::new(job.alloc, point)?;
+    match job.pool.publish(job.rt, seat, offer) {
         Ok(()) => {
             job.bell.ring(job.rt, alternatives);
             Ok(Shared::Published)
         }
-        Err(PublishFault::Full { total: _, batch }) => Ok(Shared::Back(batch)),
+        Err(PublishFault::Full { total: _, batch: _ }) => Ok(Shared::Back(batch)),
         Err(PublishFault::OutOfMemory { batch: _ }) => Err(AllocError),
     }
 }
 
 /// Publishes the oldest choice point of the engine, if it has one that is untried, or all of them, the oldest first. A batch for which the
 /// pool has no place comes back, and the piece owes it still.
-fn share<'p, R: Wait, O>(
+fn share<'p, R: Wait, O: Outlet>(
     job: &Job<'_, 'p, R, O>,
-    seat: &mut Seat<Frozen<'p>>,
+    seat: &mut Seat<Offer<'p, O::Found>>,
     engine: &mut Engine<'p>,
-    events: &Vec<Event>,
+    events: &Vec<O::Found>,
     all: bool,
 ) -> Result<Option<Arc<Frozen<'p>>>, OutOfMemory>
     requires seat { IsSeat job.now.pool.now engine.old.problem seat.old }
-    requires owes { OwesAll seat.old.mine.piece events.now.items engine.old [] }
+    requires owes { OwesAll seat.old.mine.piece (map O.Found.stands_for events.now.items) engine.old [] }
     ensures calm { Calm seat.old seat.new }
-    ensures owes { IfOk result (λ back. OwesAfter seat.new.mine.piece events.now.items engine.old engine.new back) }
+    ensures owes { IfOk result (λ back. OwesAfter seat.new.mine.piece (map O.Found.stands_for events.now.items) engine.old engine.new back) }
 {
     'points: loop {
         match share_oldest(job, seat, engine, events)? {
@@ -149,25 +155,32 @@ enum Ran<'p> {
 // reported at once.
 fn run<'p, R: Wait, O: Outlet>(
     job: &Job<'_, 'p, R, O>,
-    seat: &mut Seat<Frozen<'p>>,
+    seat: &mut Seat<Offer<'p, O::Found>>,
     engine: &mut Engine<'p>,
-    events: &mut Vec<Event>,
+    events: &mut Vec<O::Found>,
     told: &mut Told,
     out: &mut O,
 ) -> Result<Ran<'p>, OutOfMemory>
+    requires suits { O.Found.suits job.now.problem.now }
     requires seat { IsSeat job.now.pool.now job.now.problem.now seat.old × (engine.old.problem ≡ job.now.problem.now) }
     requires stands { Stands O.takes O.breaks O.welcome O.faults job.now.start.now.value job.now.problem.now seat.old out.old told.old }
-    requires owes { OwesAll seat.old.mine.piece events.old.items engine.old [] }
+    requires owes { OwesAll seat.old.mine.piece (map O.Found.stands_for events.old.items) engine.old [] }
     ensures leads { told.new.leads ≡ told.old.leads }
     ensures problem { OnOk result (engine.new.problem ≡ job.now.problem.now) }
     ensures ran { IfOk result (λ ran. RunsTo (Stands O.takes O.breaks O.welcome O.faults job.now.start.now.value job.now.problem.now seat.new out.new told.new)
         (Stopped O.takes O.breaks O.welcome O.faults job.now.start.now.value job.now.problem.now out.new told.new) told.old.leads job.now.problem.now ran
-        seat.old seat.new events.new.items engine.new) }
+        seat.old seat.new (map O.Found.stands_for events.new.items) engine.new) }
     ensures failed { OnErr result (Stays (Stands O.takes O.breaks O.welcome O.faults job.now.start.now.value job.now.problem.now seat.new out.new told.new)
         seat.old seat.new) }
 {
     'stretches: loop {
-        if stretch(engine, events, job.reports_at_once())? {
+        if stretch(
+            job.alloc,
+            job.problem,
+            engine,
+            events,
+            job.reports_at_once(),
+        )? {
             return Ok(Ran::Done);
         }
         let Some(seen) = look(job, seat, told, out) else {
@@ -185,26 +198,28 @@ fn run<'p, R: Wait, O: Outlet>(
 // Runs an engine to its end, and publishes nothing. False where the pool is starved or stopped.
 fn run_alone<'p, R: Wait, O: Outlet>(
     job: &Job<'_, 'p, R, O>,
-    seat: &mut Seat<Frozen<'p>>,
+    seat: &mut Seat<Offer<'p, O::Found>>,
     engine: &mut Engine<'p>,
-    events: &mut Vec<Event>,
+    events: &mut Vec<O::Found>,
     told: &mut Told,
     out: &mut O,
 ) -> Result<bool, OutOfMemory>
+    requires suits { O.Found.suits job.now.problem.now }
     requires seat { IsSeat job.now.pool.now job.now.problem.now seat.old }
     requires stands { Stands O.takes O.breaks O.welcome O.faults job.now.start.now.value job.now.problem.now seat.old out.old told.old }
     ensures leads { told.new.leads ≡ told.old.leads }
     ensures problem { OnOk result (engine.new.problem ≡ engine.old.problem) }
     ensures done { IfOk result (λ done. done ≡ true → RunsAlone
-        (Stands O.takes O.breaks O.welcome O.faults job.now.start.now.value job.now.problem.now seat.new out.new told.new) seat.old seat.new events.old.items
-        engine.old events.new.items engine.new) }
+        (Stands O.takes O.breaks O.welcome O.faults job.now.start.now.value job.now.problem.now seat.new out.new told.new) seat.old seat.new
+        (map O.Found.stands_for events.old.items)
+        engine.old (map O.Found.stands_for events.new.items) engine.new) }
     ensures left { IfOk result (λ done. done ≡ false → Leaves
         (Stopped O.takes O.breaks O.welcome O.faults job.now.start.now.value job.now.problem.now out.new told.new) told.old.leads seat.old seat.new) }
     ensures failed { OnErr result (Stays (Stands O.takes O.breaks O.welcome O.faults job.now.start.now.value job.now.problem.now seat.new out.new told.new)
         seat.old seat.new) }
 {
     'stretches: loop {
-        if stretch(engine, events, false)? {
+        if stretch(job.alloc, job.problem, engine, events, false)? {
             return Ok(true);
         }
         if look(job, seat, told, out).is_none() {
@@ -214,7 +229,7 @@ fn run_alone<'p, R: Wait, O: Outlet>(
 }
 
 // An engine for an alternative of a batch: the one that the worker has kept goes on, if there is one.
-fn engine_for<'p, R, O>(
+fn engine_for<'p, R, O: Outlet>(
     job: &Job<'_, 'p, R, O>,
     kept: &mut Option<Engine<'p>>,
     batch: Arc<Frozen<'p>>,
@@ -247,13 +262,14 @@ where
 fn run_one<'p, R: Wait, O: Outlet>(
     job: &Job<'_, 'p, R, O>,
     kept: &mut Option<Engine<'p>>,
-    seat: &mut Seat<Frozen<'p>>,
+    seat: &mut Seat<Offer<'p, O::Found>>,
     batch: Arc<Frozen<'p>>,
     k: u32,
-    events: &mut Vec<Event>,
+    events: &mut Vec<O::Found>,
     told: &mut Told,
     out: &mut O,
 ) -> Result<Option<u64>, OutOfMemory>
+    requires suits { O.Found.suits job.now.problem.now }
     requires seat { IsSeat job.now.pool.now job.now.problem.now seat.old }
     requires stands { Stands O.takes O.breaks O.welcome O.faults job.now.start.now.value job.now.problem.now seat.old out.old told.old }
     requires kept { IsKeptOf job.now.problem.now kept.old }
@@ -263,7 +279,7 @@ fn run_one<'p, R: Wait, O: Outlet>(
     ensures kept { OnOk result (IsKeptOf job.now.problem.now kept.new) }
     ensures some { IfOk result (λ o. IfSome o (λ n. (owes : Owed TheEvent) → slice_get (alternatives_in (arc_value batch.entry)) k ≡ Some owes
         → RunsOne (Stands O.takes O.breaks O.welcome O.faults job.now.start.now.value job.now.problem.now seat.new out.new told.new) seat.old seat.new
-        events.old.items owes events.new.items n)) }
+        (map O.Found.stands_for events.old.items) owes (map O.Found.stands_for events.new.items) n)) }
     ensures none { IfOk result (λ o. IfNone o (Leaves (Stopped O.takes O.breaks O.welcome O.faults job.now.start.now.value job.now.problem.now out.new told.new)
         told.old.leads seat.old seat.new)) }
     ensures failed { OnErr result (Stays (Stands O.takes O.breaks O.welcome O.faults job.now.start.now.value job.now.problem.now seat.new out.new told.new)
@@ -284,13 +300,14 @@ fn run_one<'p, R: Wait, O: Outlet>(
 fn run_batch<'p, R: Wait, O: Outlet>(
     job: &Job<'_, 'p, R, O>,
     kept: &mut Option<Engine<'p>>,
-    seat: &mut Seat<Frozen<'p>>,
+    seat: &mut Seat<Offer<'p, O::Found>>,
     batch: &Arc<Frozen<'p>>,
-    events: &mut Vec<Event>,
+    events: &mut Vec<O::Found>,
     mut inferences: u64,
     told: &mut Told,
     out: &mut O,
 ) -> Result<Option<u64>, OutOfMemory>
+    requires suits { O.Found.suits job.now.problem.now }
     requires seat { IsSeat job.now.pool.now job.now.problem.now seat.old }
     requires stands { Stands O.takes O.breaks O.welcome O.faults job.now.start.now.value job.now.problem.now seat.old out.old told.old }
     requires kept { IsKeptOf job.now.problem.now kept.old }
@@ -299,8 +316,9 @@ fn run_batch<'p, R: Wait, O: Outlet>(
     ensures kept { OnOk result (IsKeptOf job.now.problem.now kept.new) }
     ensures some { IfOk result
         (λ o. IfSome o (λ n. RunsAll (Stands O.takes O.breaks O.welcome O.faults job.now.start.now.value job.now.problem.now seat.new out.new told.new) seat.old
-        seat.new events.old.items (events_in (alternatives_in (arc_value batch.now))) (inferences + cost_in (alternatives_in (arc_value batch.now)))
-        events.new.items n)) }
+        seat.new (map O.Found.stands_for events.old.items) (events_in (alternatives_in (arc_value batch.now)))
+        (inferences + cost_in (alternatives_in (arc_value batch.now)))
+        (map O.Found.stands_for events.new.items) n)) }
     ensures none { IfOk result (λ o. IfNone o (Leaves (Stopped O.takes O.breaks O.welcome O.faults job.now.start.now.value job.now.problem.now out.new told.new)
         told.old.leads seat.old seat.new)) }
     ensures failed { OnErr result (Stays (Stands O.takes O.breaks O.welcome O.faults job.now.start.now.value job.now.problem.now seat.new out.new told.new)
@@ -330,20 +348,21 @@ enum Ending<'p> {
 // Runs the engine of a piece to its end.
 fn run_to_end<'p, R: Wait, O: Outlet>(
     job: &Job<'_, 'p, R, O>,
-    seat: &mut Seat<Frozen<'p>>,
+    seat: &mut Seat<Offer<'p, O::Found>>,
     engine: &mut Engine<'p>,
-    events: &mut Vec<Event>,
+    events: &mut Vec<O::Found>,
     told: &mut Told,
     out: &mut O,
 ) -> Result<Ending<'p>, OutOfMemory>
+    requires suits { O.Found.suits job.now.problem.now }
     requires seat { IsSeat job.now.pool.now job.now.problem.now seat.old × (engine.old.problem ≡ job.now.problem.now) }
     requires stands { Stands O.takes O.breaks O.welcome O.faults job.now.start.now.value job.now.problem.now seat.old out.old told.old }
-    requires owes { OwesAll seat.old.mine.piece events.old.items engine.old [] }
+    requires owes { OwesAll seat.old.mine.piece (map O.Found.stands_for events.old.items) engine.old [] }
     ensures leads { told.new.leads ≡ told.old.leads }
     ensures problem { OnOk result (engine.new.problem ≡ job.now.problem.now) }
     ensures ends { IfOk result (λ ending. EndsTo (Stands O.takes O.breaks O.welcome O.faults job.now.start.now.value job.now.problem.now seat.new out.new
         told.new) (Stopped O.takes O.breaks O.welcome O.faults job.now.start.now.value job.now.problem.now out.new told.new) told.old.leads job.now.problem.now
-        ending seat.old seat.new events.new.items) }
+        ending seat.old seat.new (map O.Found.stands_for events.new.items)) }
     ensures failed { OnErr result (Stays (Stands O.takes O.breaks O.welcome O.faults job.now.start.now.value job.now.problem.now seat.new out.new told.new)
         seat.old seat.new) }
 {
@@ -363,13 +382,14 @@ fn run_to_end<'p, R: Wait, O: Outlet>(
 fn run_claimed<'p, R: Wait, O: Outlet>(
     job: &Job<'_, 'p, R, O>,
     kept: &mut Option<Engine<'p>>,
-    seat: &mut Seat<Frozen<'p>>,
+    seat: &mut Seat<Offer<'p, O::Found>>,
     batch: Arc<Frozen<'p>>,
     k: u32,
-    events: &mut Vec<Event>,
+    events: &mut Vec<O::Found>,
     told: &mut Told,
     out: &mut O,
 ) -> Result<Ending<'p>, OutOfMemory>
+    requires suits { O.Found.suits job.now.problem.now }
     requires seat { IsSeat job.now.pool.now job.now.problem.now seat.old }
     requires stands { Stands O.takes O.breaks O.welcome O.faults job.now.start.now.value job.now.problem.now seat.old out.old told.old }
     requires kept { IsKeptOf job.now.problem.now kept.old }
@@ -380,7 +400,7 @@ fn run_claimed<'p, R: Wait, O: Outlet>(
     ensures kept { OnOk result (IsKeptOf job.now.problem.now kept.new) }
     ensures ends { IfOk result (λ ending. EndsTo (Stands O.takes O.breaks O.welcome O.faults job.now.start.now.value job.now.problem.now seat.new out.new
         told.new) (Stopped O.takes O.breaks O.welcome O.faults job.now.start.now.value job.now.problem.now out.new told.new) told.old.leads job.now.problem.now
-        ending seat.old seat.new events.new.items) }
+        ending seat.old seat.new (map O.Found.stands_for events.new.items)) }
     ensures failed { OnErr result (Stays (Stands O.takes O.breaks O.welcome O.faults job.now.start.now.value job.now.problem.now seat.new out.new told.new)
         seat.old seat.new) }
 {
@@ -395,13 +415,14 @@ fn run_claimed<'p, R: Wait, O: Outlet>(
 fn run_piece<'p, R: Wait, O: Outlet>(
     job: &Job<'_, 'p, R, O>,
     kept: &mut Option<Engine<'p>>,
-    seat: &mut Seat<Frozen<'p>>,
+    seat: &mut Seat<Offer<'p, O::Found>>,
     batch: Arc<Frozen<'p>>,
     k: u32,
-    events: &mut Vec<Event>,
+    events: &mut Vec<O::Found>,
     told: &mut Told,
     out: &mut O,
 ) -> Result<Option<u64>, OutOfMemory>
+    requires suits { O.Found.suits job.now.problem.now }
     requires seat { IsSeat job.now.pool.now job.now.problem.now seat.old }
     requires stands { Stands O.takes O.breaks O.welcome O.faults job.now.start.now.value job.now.problem.now seat.old out.old told.old }
     requires kept { IsKeptOf job.now.problem.now kept.old }
@@ -412,7 +433,7 @@ fn run_piece<'p, R: Wait, O: Outlet>(
     ensures kept { OnOk result (IsKeptOf job.now.problem.now kept.new) }
     ensures some { IfOk result
         (λ o. IfSome o (λ n. Reports (Stands O.takes O.breaks O.welcome O.faults job.now.start.now.value job.now.problem.now seat.new out.new told.new) seat.old
-        seat.new events.new.items n)) }
+        seat.new (map O.Found.stands_for events.new.items) n)) }
     ensures none { IfOk result (λ o. IfNone o (Leaves (Stopped O.takes O.breaks O.welcome O.faults job.now.start.now.value job.now.problem.now out.new told.new)
         told.old.leads seat.old seat.new)) }
     ensures failed { OnErr result (Stays (Stands O.takes O.breaks O.welcome O.faults job.now.start.now.value job.now.problem.now seat.new out.new told.new)
@@ -431,17 +452,18 @@ fn run_piece<'p, R: Wait, O: Outlet>(
 pub(crate) fn work_piece<'p, R: Wait, O: Outlet>(
     job: &Job<'_, 'p, R, O>,
     kept: &mut Option<Engine<'p>>,
-    seat: &mut Seat<Frozen<'p>>,
-    batch: Arc<Frozen<'p>>,
+    seat: &mut Seat<Offer<'p, O::Found>>,
+    offer: Arc<Offer<'p, O::Found>>,
     k: u32,
     told: &mut Told,
     out: &mut O,
 ) -> Result<bool, OutOfMemory>
+    requires suits { O.Found.suits job.now.problem.now }
     requires seat { IsSeat job.now.pool.now job.now.problem.now seat.old }
     requires stands { Stands O.takes O.breaks O.welcome O.faults job.now.start.now.value job.now.problem.now seat.old out.old told.old }
     requires kept { IsKeptOf job.now.problem.now kept.old }
-    requires owes { IsSomeAnd seat.old.mine.piece (λ piece. slice_get (alternatives_in (arc_value batch)) k ≡ Some piece.owes) }
-    requires of { (arc_value batch).problem ≡ job.now.problem.now }
+    requires owes { IsSomeAnd seat.old.mine.piece (λ piece. slice_get (alternatives_in (arc_value offer)) k ≡ Some piece.owes) }
+    requires of { (arc_value offer).problem ≡ job.now.problem.now }
     ensures leads { told.new.leads ≡ told.old.leads }
     ensures kept { OnOk result (IsKeptOf job.now.problem.now kept.new) }
     ensures done { IfOk result (λ done. done ≡ true
@@ -452,6 +474,7 @@ pub(crate) fn work_piece<'p, R: Wait, O: Outlet>(
     ensures failed { OnErr result (Stays (Stands O.takes O.breaks O.welcome O.faults job.now.start.now.value job.now.problem.now seat.new out.new told.new)
         seat.old seat.new) }
 {
+    let batch = offer.choice()?;
     let mut events = Vec::new(job.alloc);
     let Some(inferences) = run_piece(job, kept, seat, batch, k, &mut events, told, out)? else {
         return Ok(false);

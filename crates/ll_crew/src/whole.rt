@@ -20,12 +20,13 @@ use crate::bell::Bell;
 use crate::crowd::work_together;
 use crate::job::{Job, Sharing};
 use crate::lead::Told;
+use crate::offer::Offer;
 use ll_bank::OutOfMemory;
 use ll_core::Pool;
 use ll_edge::Gate;
 use ll_freeze::Frozen;
 use ll_index::Index;
-use ll_laws::{Counts, Problem};
+use ll_laws::{Counts, Notice, Problem};
 use ll_order::{OutFault, Outlet, drain};
 use ll_pool::{Seat, SharedPool};
 use std::alloc::Global;
@@ -36,12 +37,12 @@ use std::thread::Threads;
 use thiserror::Error;
 
 // Seats for the workers after the first.
-fn seats<'p>(
+fn seats<'p, E: Notice>(
     alloc: Global,
     problem: &'p Problem,
-    pool: &SharedPool<Frozen<'p>>,
-    first: &mut Seat<Frozen<'p>>,
-) -> Result<Vec<Seat<Frozen<'p>>>, OutOfMemory>
+    pool: &SharedPool<Offer<'p, E>>,
+    first: &mut Seat<Offer<'p, E>>,
+) -> Result<Vec<Seat<Offer<'p, E>>>, OutOfMemory>
     requires own { IsSeat pool.now problem.now first.old × (first.old.mine.piece ≡ None) × (first.old.given ≡ []) × (first.old.mine.worker ≡ 0) }
     requires range { (first.old.mine.from ≡ 1) × (first.old.mine.end ≡ pool.now.workers) }
     ensures first { IsSeat pool.now problem.now first.new × (first.new.mine.piece ≡ None) × (first.new.mine.worker ≡ 0)
@@ -57,11 +58,11 @@ fn seats<'p>(
 }
 
 // Takes all seats back.
-fn gather<'p>(
+fn gather<'p, E: Notice>(
     problem: &'p Problem,
-    pool: &SharedPool<Frozen<'p>>,
-    first: &mut Seat<Frozen<'p>>,
-    others: Vec<Seat<Frozen<'p>>>,
+    pool: &SharedPool<Offer<'p, E>>,
+    first: &mut Seat<Offer<'p, E>>,
+    others: Vec<Seat<Offer<'p, E>>>,
 )
     requires own { first.old.table ≡ pool.now.table }
     requires others { Every (IsBack pool.now) others.items × (without_all (map worker_of others.items) first.old.given ≡ []) }
@@ -109,7 +110,7 @@ fn sum_of(one: Counts, other: Counts) -> Counts
 // Gives the outlet what worker 0 has not given, once nothing is untried or open.
 fn give_rest<'p, O: Outlet>(
     problem: &'p Problem,
-    mut pool: Pool<Frozen<'p>>,
+    mut pool: Pool<Offer<'p, O::Found>>,
     start: &Snapshot<O>,
     counts: Counts,
     out: &mut O,
@@ -134,16 +135,17 @@ fn search<'p, R: Threads + Wait + Sync, G: Gate, O: Outlet>(
     rt: &R,
     alloc: Global,
     problem: &'p Problem,
-    pool: SharedPool<Frozen<'p>>,
+    pool: SharedPool<Offer<'p, O::Found>>,
     gate: &G,
     sharing: Sharing,
     came_back: &AtomicU64,
-    mut first: Seat<Frozen<'p>>,
-    others: Vec<Seat<Frozen<'p>>>,
+    mut first: Seat<Offer<'p, O::Found>>,
+    others: Vec<Seat<Offer<'p, O::Found>>>,
     out: &mut O,
 ) -> Result<Counts, CrewFault>
     requires first { CanWork pool problem.now first × (first.mine.worker ≡ 0) × (without_all (map worker_of others.items) first.given ≡ []) }
     requires others { Every (CanWork pool problem.now) others.items }
+    requires suits { O.Found.suits problem.now }
     requires leads { Leads O.takes O.breaks O.welcome O.faults out.old problem.now first.mine.seen out.old
         (record { answers = 0; reached = 0; inferences = 0 }) }
     ensures given { OnOk result (Gives O.takes out.old (problem_events problem.entry.now) out.new) }
@@ -199,6 +201,7 @@ pub fn crew<'p, R: Threads + Wait + Sync, G: Gate, O: Outlet>(
 ) -> Result<Counts, CrewFault>
     requires workers { (0 < workers) × (workers ≤ 64) }
     requires valid { IsValid problem.now }
+    requires suits { O.Found.suits problem.now }
     requires welcome { Every (O.welcome out.old) (problem_events problem.now) }
     ensures given { OnOk result (Gives O.takes out.old (problem_events problem.entry.now) out.new) }
     ensures counts { IfOk result (λ counts. CountsOf counts (problem_events problem.entry.now) (problem_cost problem.entry.now)) }
@@ -236,6 +239,7 @@ pub fn crew_with<'p, R: Threads + Wait + Sync, G: Gate, O: Outlet>(
 ) -> Result<Counts, CrewFault>
     requires workers { (0 < workers) × (workers ≤ 64) }
     requires valid { IsValid problem.now }
+    requires suits { O.Found.suits problem.now }
     requires index { IsIndexOf problem.now (arc_value index.now) }
     requires welcome { Every (O.welcome out.old) (problem_events problem.now) }
     ensures given { OnOk result (Gives O.takes out.old (problem_events problem.entry.now) out.new) }
@@ -270,6 +274,14 @@ pub(crate) fn index_of(alloc: Global, problem: &Problem) -> Result<Arc<Index>, O
     Ok(Arc::new(alloc, index)?)
 }
 
+// The root of a pool.
+fn root_of<'p, E: Notice>(alloc: Global, root: Frozen<'p>) -> Result<Arc<Offer<'p, E>>, OutOfMemory>
+    ensures { IfOk result (λ offer. arc_value offer ≡ root.entry) }
+{
+    let choice = Arc::new(alloc, root)?;
+    Ok(Arc::new(alloc, Offer::new(&choice)?)?)
+}
+
 // The same, with an index of the problem's clauses, where workers share their choice points in some way.
 pub(crate) fn crew_by<'p, R: Threads + Wait + Sync, G: Gate, O: Outlet>(
     rt: &R,
@@ -284,6 +296,7 @@ pub(crate) fn crew_by<'p, R: Threads + Wait + Sync, G: Gate, O: Outlet>(
 ) -> Result<Counts, CrewFault>
     requires workers { (0 < workers) × (workers ≤ 64) }
     requires valid { IsValid problem.now }
+    requires suits { O.Found.suits problem.now }
     requires index { IsIndexOf problem.now (arc_value index) }
     requires welcome { Every (O.welcome out.old) (problem_events problem.now) }
     ensures given { OnOk result (Gives O.takes out.old (problem_events problem.entry.now) out.new) }
@@ -300,7 +313,7 @@ pub(crate) fn crew_by<'p, R: Threads + Wait + Sync, G: Gate, O: Outlet>(
     let Ok(root) = Frozen::start_with(alloc, problem, index) else {
         return Err(CrewFault::OutOfMemory);
     };
-    let Ok(root) = Arc::new(alloc, root) else {
+    let Ok(root) = root_of(alloc, root) else {
         return Err(CrewFault::OutOfMemory);
     };
     let Ok((pool, mut first)) = SharedPool::new(alloc, root, workers) else {

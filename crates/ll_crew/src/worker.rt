@@ -9,16 +9,17 @@ ghost use Rattle.ll_crew.specs.Runs.{WentTo};
 use crate::bell::Bell;
 use crate::job::{Job, Sharing};
 use crate::lead::{Mute, Told, tell};
+use crate::offer::Offer;
 use crate::piece::work_piece;
 use ll_bank::OutOfMemory;
 use ll_core::Claimed;
 use ll_edge::Gate;
 use ll_engine::Engine;
-use ll_freeze::Frozen;
-use ll_laws::Problem;
+use ll_laws::{Notice, Problem};
 use ll_order::Outlet;
 use ll_pool::{Seat, SharedPool};
 use std::alloc::Global;
+use std::marker::PhantomData;
 use std::snapshot::Snapshot;
 use std::sync::Wait;
 use std::sync::atomic::AtomicU64;
@@ -43,10 +44,11 @@ enum Went {
 fn claim_one<'p, R: Wait, O: Outlet>(
     job: &Job<'_, 'p, R, O>,
     kept: &mut Option<Engine<'p>>,
-    seat: &mut Seat<Frozen<'p>>,
+    seat: &mut Seat<Offer<'p, O::Found>>,
     told: &mut Told,
     out: &mut O,
 ) -> Result<Went, OutOfMemory>
+    requires suits { O.Found.suits job.now.problem.now }
     requires seat { CanWork job.now.pool.now job.now.problem.now seat.old }
     requires stands { Stands O.takes O.breaks O.welcome O.faults job.now.start.now.value job.now.problem.now seat.old out.old told.old }
     requires kept { IsKeptOf job.now.problem.now kept.old }
@@ -83,10 +85,11 @@ fn work_with<'p, R: Wait, G: Gate, O: Outlet>(
     job: &Job<'_, 'p, R, O>,
     gate: &G,
     kept: &mut Option<Engine<'p>>,
-    seat: &mut Seat<Frozen<'p>>,
+    seat: &mut Seat<Offer<'p, O::Found>>,
     told: &mut Told,
     out: &mut O,
 ) -> Result<bool, OutOfMemory>
+    requires suits { O.Found.suits job.now.problem.now }
     requires seat { CanWork job.now.pool.now job.now.problem.now seat.old }
     requires stands { Stands O.takes O.breaks O.welcome O.faults job.now.start.now.value job.now.problem.now seat.old out.old told.old }
     requires kept { IsKeptOf job.now.problem.now kept.old }
@@ -128,10 +131,11 @@ fn work_with<'p, R: Wait, G: Gate, O: Outlet>(
 fn work_on<'p, R: Wait, G: Gate, O: Outlet>(
     job: &Job<'_, 'p, R, O>,
     gate: &G,
-    seat: &mut Seat<Frozen<'p>>,
+    seat: &mut Seat<Offer<'p, O::Found>>,
     told: &mut Told,
     out: &mut O,
 ) -> Result<bool, OutOfMemory>
+    requires suits { O.Found.suits job.now.problem.now }
     requires seat { CanWork job.now.pool.now job.now.problem.now seat.old }
     requires stands { Stands O.takes O.breaks O.welcome O.faults job.now.start.now.value job.now.problem.now seat.old out.old told.old }
     ensures leads { told.new.leads ≡ told.old.leads }
@@ -152,10 +156,11 @@ fn work_on<'p, R: Wait, G: Gate, O: Outlet>(
 pub(crate) fn work_as<'p, R: Wait, G: Gate, O: Outlet>(
     job: &Job<'_, 'p, R, O>,
     gate: &G,
-    seat: &mut Seat<Frozen<'p>>,
+    seat: &mut Seat<Offer<'p, O::Found>>,
     told: &mut Told,
     out: &mut O,
 ) -> Result<bool, OutOfMemory>
+    requires suits { O.Found.suits job.now.problem.now }
     requires seat { CanWork job.now.pool.now job.now.problem.now seat.old }
     requires stands { Stands O.takes O.breaks O.welcome O.faults job.now.start.now.value job.now.problem.now seat.old out.old told.old }
     ensures leads { told.new.leads ≡ told.old.leads }
@@ -185,22 +190,23 @@ pub(crate) fn work_as<'p, R: Wait, G: Gate, O: Outlet>(
 ///
 /// Between two looks the worker makes at most 256 steps. Where nothing is untried and fewer pieces are open than there are workers, it
 /// publishes its oldest choice point. After `Ok` it has neither starved nor stopped the pool. On want of memory it starves the pool.
-pub fn work<'p, R: Wait, G: Gate>(
+pub fn work<'p, R: Wait, G: Gate, E: Notice>(
     rt: &R,
     alloc: Global,
     problem: &'p Problem,
-    pool: &SharedPool<Frozen<'p>>,
-    seat: &mut Seat<Frozen<'p>>,
+    pool: &SharedPool<Offer<'p, E>>,
+    seat: &mut Seat<Offer<'p, E>>,
     gate: &G,
 ) -> Result<(), OutOfMemory>
     requires asked { IsSeat pool.now problem.now seat.old }
     requires rests { seat.old.mine.piece ≡ None }
+    requires suits { E.suits problem.now }
     ensures same { Same seat.old seat.new }
     ensures ended { OnOk result (IsOver problem.now seat.new ⊎ HasLeft seat.new) }
     ensures quit { OnOk result (seat.new.mine.quit ≡ seat.old.mine.quit) }
     ensures starved { OnErr result (seat.new.mine.seen.starved ≡ true) }
 {
-    let mut mute = Mute;
+    let mut mute: Mute<E> = Mute { found: PhantomData };
     let start = Snapshot::of(&mute);
     let mut told = Told::new(false);
     let bell = Bell::silent();

@@ -1,8 +1,10 @@
 //! What takes the events of a search until it has had enough answers.
 ghost use Rattle.std.specs.Prelude.{◌≡◌, ◌↔◌, ◌<◌, ◌≤◌, true};
+ghost use Rattle.ll_laws.specs.declared.Event.{Event};
+ghost use Rattle.ll_laws.specs.Search.{is_answer as is_answer_of};
 ghost use Rattle.ll_first.specs.Upto.{IsLimit, counted};
 
-use ll_laws::Event;
+use ll_laws::Notice;
 use ll_order::{OutFault, Outlet};
 
 /// An outlet that wants so many answers, and tells when it has had them. It takes what comes behind them, too.
@@ -74,6 +76,8 @@ impl<O: Outlet> First<O> {
 }
 
 impl<O: Outlet> Outlet for First<O> {
+    type Found = O::Found;
+
     ghost takes = { λ before event after. O.takes before.out event after.out × (after.limit ≡ before.limit) × (after.answers ≡ counted before.answers event) };
 
     ghost breaks = { λ before event after. O.breaks before.out event after.out × (after.limit ≡ before.limit) × (after.answers ≡ before.answers) };
@@ -82,8 +86,8 @@ impl<O: Outlet> Outlet for First<O> {
 
     ghost faults = { λ outlet. O.faults outlet.out };
 
-    fn event(&mut self, event: Event) -> Result<(), OutFault> {
-        let answers = count(self.answers, &event);
+    fn event(&mut self, event: O::Found) -> Result<(), OutFault> {
+        let answers = count(self.answers, event.is_answer());
         match self.out.event(event) {
             Ok(()) => {
                 self.answers = answers;
@@ -114,12 +118,12 @@ impl<O: Outlet> Enough for First<O> {
     }
 }
 
-// So many answers, and this event.
-fn count(answers: u64, event: &Event) -> u64
-    ensures { result ≡ counted answers event.now }
+// So many answers, and one more where there is one.
+fn count(answers: u64, is_answer: bool) -> u64
+    ensures { (event : Event) → is_answer ≡ is_answer_of event → result ≡ counted answers event }
 {
-    match event {
-        Event::Answer(_) => answers.saturating_add(1),
-        Event::Reached => answers,
+    if is_answer {
+        return answers.saturating_add(1);
     }
+    answers
 }

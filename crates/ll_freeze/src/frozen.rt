@@ -16,7 +16,7 @@ use crate::mark::ChoiceMark;
 use crate::rest::Rest;
 use ll_bank::OutOfMemory;
 use ll_index::Index;
-use ll_laws::{Batch, Candidate, Problem};
+use ll_laws::{Batch, Candidate, Event, Problem};
 use ll_store::{Layers, Segment, Store};
 use std::alloc::Global;
 use std::marker::Model;
@@ -58,6 +58,8 @@ impl<'p> Model for Frozen<'p> {
 
 impl<'p> Batch for Frozen<'p> {
     type Of = Problem;
+
+    type Found = Event;
 
     ghost use Rattle.ll_freeze.specs.Frozen.{alternatives_in};
 

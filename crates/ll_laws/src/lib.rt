@@ -1,7 +1,7 @@
 //! The definitions of the language and its search, their laws, and the types that crates share.
 //!
-//! The program calls no function of this crate: a function here carries a law as its contract. The definitions stand in `specs/`,
-//! and `docs/DEFINITIONS.md` explains them in reading order.
+//! The program calls no function of this crate but those of [`Notice`]: any other function here carries a law as its contract. The
+//! definitions stand in `specs/`, and `docs/DEFINITIONS.md` explains them in reading order.
 #![tactic(auto)]
 
 ghost use Rattle.std.specs.Prelude.{◌≡◌, length};
@@ -10,7 +10,8 @@ ghost use Rattle.ll_laws.specs.Laws.{SettlesConsistent, StepsConsistent, FoundUn
 ghost use Rattle.ll_laws.specs.Laws.{ShownIsDerivable, FaultlessShows, ShownIsFaultless, RunsAreShown, AnswersAreShown};
 ghost use Rattle.ll_laws.specs.Completeness.{ShownRuns, HiddenCover, RunsAreFound, ShownIsFound, ShownIsAnswered, ShownIsNumbered, NothingIsShown};
 
-use ll_bank::{At, Bank, FormAt, Names};
+use ll_bank::{At, Bank, FormAt, Names, OutOfMemory};
+use std::alloc::Global;
 use std::marker::Model;
 
 /// Which resources a clause is among.
@@ -135,14 +136,57 @@ pub enum Event {
     Reached,
 }
 
-/// The events of a part of a search, and its inferences, cut at the greatest `u64`. Contracts see what it tells.
+/// What stands for an event of a search on its way from the worker that found it: the event itself, or as much of it as its taker wants.
+///
+/// Contracts see the event that it stands for, so whatever carries it says the same of every kind.
+pub trait Notice: Drop + Send + Sync {
+    ghost use Rattle.std.specs.Prelude.{◌≡◌, IfOk};
+    ghost use Rattle.ll_laws.specs.declared.Event.{Event};
+    ghost use Rattle.ll_laws.specs.Problem.{ProblemTree};
+    ghost use Rattle.ll_laws.specs.Search.{is_answer as is_answer_of};
+
+    // The event that it stands for.
+    ghost stands_for: { Self → Event };
+
+    // The problems of whose events it can be made.
+    ghost suits: { ProblemTree → Type 0 };
+
+    /// Makes it of an event of the search of a problem.
+    fn make(alloc: Global, problem: &Problem, event: Event) -> Result<Self, OutOfMemory>
+        requires { suits problem.now }
+        ensures { IfOk result (λ notice. stands_for notice ≡ event) };
+
+    /// Whether the event is an answer.
+    fn is_answer(&self) -> bool
+        ensures { result ≡ is_answer_of (stands_for self.now) };
+}
+
+impl Notice for Event {
+    ghost stands_for = { λ e. e };
+
+    ghost suits = { λ p. Unit {0} };
+
+    fn make(_alloc: Global, _problem: &Problem, event: Event) -> Result<Event, OutOfMemory> {
+        Ok(event)
+    }
+
+    fn is_answer(&self) -> bool {
+        match self {
+            Event::Answer(_) => true,
+            Event::Reached => false,
+        }
+    }
+}
+
+/// The events of a part of a search, each as what stands for it, and its inferences, cut at the greatest `u64`. Contracts see what it tells.
 #[derive(Drop)]
-pub struct Report {
-    pub events: Vec<Event>,
+pub struct Report<E: Notice> {
+    pub events: Vec<E>,
     pub inferences: u64,
 }
 
-impl Model for Report {
+impl<E: Notice> Model for Report<E> {
+    ghost use Rattle.std.specs.Prelude.{map};
     ghost use Rattle.ll_laws.specs.Pool.{Owed};
     ghost use Rattle.ll_laws.specs.PoolCodes.{owed_code};
     ghost use Rattle.ll_laws.specs.declared.Event.{Event};
@@ -152,7 +196,7 @@ impl Model for Report {
 
     ghost coded = { owed_code event.the_row.coded };
 
-    ghost view = { λ report. record { events = report.events.items; cost = report.inferences } };
+    ghost view = { λ report. record { events = map E.stands_for report.events.items; cost = report.inferences } };
 }
 
 /// Alternatives that workers can share: the untried ones of one choice point. A batch can be sent to a thread, shared between threads
@@ -160,6 +204,9 @@ impl Model for Report {
 pub trait Batch: Drop + Send + Sync {
     /// What a batch is of, which lives in contracts alone: for the alternatives of a search its problem.
     type Of;
+
+    /// What stands for the events of its alternatives.
+    type Found: Notice;
 
     ghost use Rattle.std.specs.Prelude.{List};
     ghost use Rattle.ll_laws.specs.Pool.{Owed};

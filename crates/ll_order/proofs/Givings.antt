@@ -138,7 +138,7 @@ pub ok_not_err : {T E : Type 0} (x : T) (y : E) → Ok x ≡ Err y → ⊥
 ok_not_err x y e = cc
 
 -- where nothing is ready, everything is taken, and the pool is as it was
-pub drained_end : {N : Type 0} (alternatives : N → List (Owed Event)) (p q : PoolData N Event) (answer : Ready)
+pub drained_end : {N E : Type 0} (alternatives : N → List (Owed Event)) (p q : PoolData N Event) (answer : Ready E)
     → ((report : Owed Event) → answer ≡ ready.Events report → ⊥) → Shaped alternatives p → p.untried ≡ 0 → p.busy ≡ 0
     → Readies alternatives p (ready_answer answer) q
     → ((i : ℕ) (x : Piece Event) → slice_get p.pieces i ≡ Some x → x.status ≡ Taken) × (q ≡ p)

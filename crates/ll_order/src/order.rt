@@ -1,5 +1,5 @@
 //! Giving the reports of a pool to an outlet.
-ghost use Rattle.std.specs.Prelude.{◌≡◌, ◌+◌, ◌≤◌, ◌↔◌, Err, IfOk, OnOk, OnErr, count_by, ◌∷◌, []};
+ghost use Rattle.std.specs.Prelude.{◌≡◌, ◌+◌, ◌≤◌, ◌↔◌, Err, IfOk, OnOk, OnErr, count_by, map, ◌∷◌, []};
 ghost use Rattle.ll_laws.specs.declared.Event.{Event};
 ghost use Rattle.ll_laws.specs.Pool.{Taken};
 ghost use Rattle.ll_laws.specs.Search.{cut_count, is_answer, is_reached};
@@ -10,14 +10,17 @@ ghost use Rattle.ll_order.specs.declared.outlet.OutFault.TheVariants.{Write};
 
 use crate::outlet::{OutFault, Outlet};
 use ll_core::{Pool, Ready};
-use ll_laws::{Batch, Counts, Event};
+use ll_laws::{Batch, Counts, Notice};
 
 /// Gives an outlet all events that were not taken from the pool, in the order of one engine, and tells how many they were. Nothing is
 /// untried or open in the pool, and all these events are welcome.
 ///
 /// After `Ok` every piece is taken. After a refusal, which is the outlet's, a prefix of the events was given, and the next one was
 /// refused. `Write` only where the outlet's count of faults rose.
-pub fn drain<N: Batch, O: Outlet>(pool: &mut Pool<N>, out: &mut O) -> Result<Counts, OutFault>
+pub fn drain<N: Batch<Found = O::Found>, O: Outlet>(
+    pool: &mut Pool<N>,
+    out: &mut O,
+) -> Result<Counts, OutFault>
     requires done { (pool.old.untried ≡ 0) × (pool.old.busy ≡ 0) }
     requires welcome { Every (O.welcome out.old) (events_left N.alternatives pool.old) }
     ensures given { OnOk result (Gives O.takes out.old (events_left N.alternatives pool.old) out.new) }
@@ -52,29 +55,33 @@ pub fn drain<N: Batch, O: Outlet>(pool: &mut Pool<N>, out: &mut O) -> Result<Cou
 ///
 /// After a refusal, which is the outlet's, a prefix of the events was given, and the next one was refused. `Write` only where the outlet's
 /// count of faults rose.
-pub fn give<O: Outlet>(events: Vec<Event>, out: &mut O, counts: Counts) -> Result<Counts, OutFault>
-    requires welcome { Every (O.welcome out.old) events.items }
+pub fn give<O: Outlet>(
+    mut events: Vec<O::Found>,
+    out: &mut O,
+    counts: Counts,
+) -> Result<Counts, OutFault>
+    requires welcome { Every (O.welcome out.old) (map O.Found.stands_for events.items) }
     requires few { (counts.answers ≤ 18446744073709551615) × (counts.reached ≤ 18446744073709551615) }
-    ensures given { OnOk result (Gives O.takes out.old events.items out.new) }
-    ensures answers { IfOk result (λ new. new.answers ≡ cut_count (counts.answers + count_by is_answer events.items)) }
-    ensures reached { IfOk result (λ new. new.reached ≡ cut_count (counts.reached + count_by is_reached events.items)) }
-    ensures refused { OnErr result (Refuses O.takes O.breaks out.old events.items out.new) }
+    ensures given { OnOk result (Gives O.takes out.old (map O.Found.stands_for events.items) out.new) }
+    ensures answers { IfOk result (λ new. new.answers ≡ cut_count (counts.answers + count_by is_answer (map O.Found.stands_for events.items))) }
+    ensures reached { IfOk result (λ new. new.reached ≡ cut_count (counts.reached + count_by is_reached (map O.Found.stands_for events.items))) }
+    ensures refused { OnErr result (Refuses O.takes O.breaks out.old (map O.Found.stands_for events.items) out.new) }
     ensures write { result ≡ Err Write → Rose (O.faults out.old) (O.faults out.new) }
     ensures faults_kept { O.faults out.old ≤ O.faults out.new }
     ensures welcome_kept { (e : Event) → O.welcome out.old e ↔ O.welcome out.new e }
 {
     let counts = counted_all(counts, &events);
-    match out.events(events) {
+    match out.events(&mut events) {
         Ok(()) => Ok(counts),
         Err(fault) => Err(fault),
     }
 }
 
 // The counts with these events more, whose inferences stay.
-fn counted_all(mut counts: Counts, events: &[Event]) -> Counts
+fn counted_all<E: Notice>(mut counts: Counts, events: &[E]) -> Counts
     requires few { (counts.answers ≤ 18446744073709551615) × (counts.reached ≤ 18446744073709551615) }
-    ensures answers { result.answers ≡ cut_count (counts.answers + count_by is_answer events.now) }
-    ensures reached { result.reached ≡ cut_count (counts.reached + count_by is_reached events.now) }
+    ensures answers { result.answers ≡ cut_count (counts.answers + count_by is_answer (map E.stands_for events.now)) }
+    ensures reached { result.reached ≡ cut_count (counts.reached + count_by is_reached (map E.stands_for events.now)) }
 {
     for event in events {
         counts = counted(counts, event);
@@ -83,18 +90,18 @@ fn counted_all(mut counts: Counts, events: &[Event]) -> Counts
 }
 
 // The counts with one event more.
-fn counted(counts: Counts, event: &Event) -> Counts
-    ensures answers { result.answers ≡ cut_count (counts.answers + count_by is_answer (event.now ∷ [])) }
-    ensures reached { result.reached ≡ cut_count (counts.reached + count_by is_reached (event.now ∷ [])) }
+fn counted<E: Notice>(counts: Counts, event: &E) -> Counts
+    ensures answers { result.answers ≡ cut_count (counts.answers + count_by is_answer (E.stands_for event.now ∷ [])) }
+    ensures reached { result.reached ≡ cut_count (counts.reached + count_by is_reached (E.stands_for event.now ∷ [])) }
 {
-    match event {
-        Event::Answer(_) => Counts {
+    if event.is_answer() {
+        return Counts {
             answers: counts.answers.saturating_add(1),
             ..counts
-        },
-        Event::Reached => Counts {
-            reached: counts.reached.saturating_add(1),
-            ..counts
-        },
+        };
+    }
+    Counts {
+        reached: counts.reached.saturating_add(1),
+        ..counts
     }
 }

@@ -1,10 +1,11 @@
 //! What takes the events of a search.
-ghost use Rattle.std.specs.Prelude.{◌≡◌, ◌≤◌, ◌↔◌, Err, OnOk, OnErr};
+ghost use Rattle.std.specs.Prelude.{◌≡◌, ◌≤◌, ◌↔◌, Err, OnOk, OnErr, map};
 ghost use Rattle.ll_laws.specs.Sound.{Every};
 ghost use Rattle.ll_order.specs.Outlets.{Rose, Gives, Refuses};
 ghost use Rattle.ll_order.specs.declared.outlet.OutFault.TheVariants.{Write};
 
-use ll_laws::Event;
+use ll_laws::Notice;
+use std::mem;
 use thiserror::Error;
 
 /// Why an outlet refused an event.
@@ -20,6 +21,9 @@ pub enum OutFault {
 
 /// What takes the events of a search, one after the other.
 pub trait Outlet {
+    /// What stands for an event that it takes: the event itself, or as much of it as the outlet wants.
+    type Found: Notice;
+
     ghost use Rattle.std.specs.Prelude.{ℕ};
     ghost use Rattle.ll_laws.specs.declared.Event.{Event};
 
@@ -36,27 +40,28 @@ pub trait Outlet {
     ghost faults: { Self → ℕ };
 
     /// Takes an event that is welcome. `Write` only where the count of faults rose.
-    fn event(&mut self, event: Event) -> Result<(), OutFault>
-        requires { welcome self.old event }
-        ensures taken { OnOk result (takes self.old event self.new) }
-        ensures refused { OnErr result (breaks self.old event self.new) }
+    fn event(&mut self, event: Self::Found) -> Result<(), OutFault>
+        requires { welcome self.old (Self.Found.stands_for event) }
+        ensures taken { OnOk result (takes self.old (Self.Found.stands_for event) self.new) }
+        ensures refused { OnErr result (breaks self.old (Self.Found.stands_for event) self.new) }
         ensures write { result ≡ Err Write → Rose (faults self.old) (faults self.new) }
         ensures faults_kept { faults self.old ≤ faults self.new }
         ensures welcome_kept { (e : Event) → welcome self.old e ↔ welcome self.new e };
 
-    /// Takes events that are welcome, one after the other. After a refusal those in front of the event that was refused were taken.
-    /// `Write` only where the count of faults rose.
+    /// Takes events that are welcome, one after the other, out of a list, of which nothing is said then. After a refusal those in front of the
+    /// event that was refused were taken. `Write` only where the count of faults rose.
     ///
     /// The body that is given takes each of them by [`event`](Outlet::event). An outlet for which many at a time are less work has its own.
-    fn events(&mut self, events: Vec<Event>) -> Result<(), OutFault>
-        requires { Every (welcome self.old) events.items }
-        ensures taken { OnOk result (Gives takes self.old events.items self.new) }
-        ensures refused { OnErr result (Refuses takes breaks self.old events.items self.new) }
+    fn events(&mut self, events: &mut Vec<Self::Found>) -> Result<(), OutFault>
+        requires { Every (welcome self.old) (map Self.Found.stands_for events.old.items) }
+        ensures taken { OnOk result (Gives takes self.old (map Self.Found.stands_for events.old.items) self.new) }
+        ensures refused { OnErr result (Refuses takes breaks self.old (map Self.Found.stands_for events.old.items) self.new) }
         ensures write { result ≡ Err Write → Rose (faults self.old) (faults self.new) }
         ensures faults_kept { faults self.old ≤ faults self.new }
         ensures welcome_kept { (e : Event) → welcome self.old e ↔ welcome self.new e }
     {
-        for event in events {
+        let nothing = Vec::new(*events.allocator());
+        for event in mem::replace(events, nothing) {
             match self.event(event) {
                 Ok(()) => {}
                 Err(fault) => return Err(fault),

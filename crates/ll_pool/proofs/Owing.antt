@@ -76,7 +76,7 @@ module _ {N Of : Type 0} (of : N → Of) (alternatives : N → List (Owed Event)
   claims p q w Starved h = (event.Starved, h)
   claims p q w Stopped h = (event.Stopped, h)
 
-  module _ (problem : Option (PoolProblem Of)) (p q : PoolData N Event) (mine : SeatData N Of) (fits : Fits of alternatives p problem mine) where
+  module _ (problem : Option (PoolProblem Of)) (p q : PoolData N Event) (mine : SeatData N) (fits : Fits of alternatives p problem mine) where
     none_now : mine.piece ≡ None → NoOpen p mine.worker
     none_now rests = subst (HasPiece alternatives p mine.worker) rests fits.piece
 

@@ -21,18 +21,18 @@ open_from owes worker i [] = None
 open_from owes worker i (x ∷ xs) = if is_open x.status && (x.worker == worker) then Some (record { number = i; owes = share owes x }) else
     open_from owes worker (suc i) xs
 
-module _ {N Of : Type 0} where
+module _ {N : Type 0} where
   -- the worker's number, and those that it has to give
-  abbrev pub numbers_of : SeatData N Of → Numbers
+  abbrev pub numbers_of : SeatData N → Numbers
   numbers_of mine = record { own = mine.worker; from = mine.from; end = mine.end }
 
   -- the seat of worker 0 at this pool, which has the numbers of all other workers to give
-  abbrev pub new_seat : PoolData N Event → SeatData N Of
+  abbrev pub new_seat : PoolData N Event → SeatData N
   new_seat p = record { worker = 0; from = 1; end = p.workers; piece = None; seen = p; turns = 0; quit = false }
 
   -- A seat without the least number that it has to give, and a new seat with this number. The new one has no open piece and has taken
   -- no turn, and it has last seen what the other has
-  abbrev pub parts : SeatData N Of → SeatData N Of × SeatData N Of
+  abbrev pub parts : SeatData N → SeatData N × SeatData N
   parts mine = (
     record mine { from = mine.from + 1 },
     record { worker = mine.from; from = 0; end = 0; piece = None; seen = mine.seen; turns = 0; quit = false },
@@ -44,7 +44,7 @@ module _ {N Of : Type 0} (of : N → Of) (alternatives : N → List (Owed Event)
   problem_of root = record { of = of root; owes = owed_or_nothing (slice_get (alternatives root) 0) }
 
   -- what the first seat of a pool begins with: a pool without a root is of nothing
-  abbrev pub first_seat : PoolData N Event → Option (PoolProblem Of) × SeatData N Of
+  abbrev pub first_seat : PoolData N Event → Option (PoolProblem Of) × SeatData N
   first_seat p = (option_map problem_of (slice_get p.batches 0), new_seat p)
 
 module _ {N : Type 0} (alternatives : N → List (Owed Event)) where
@@ -58,7 +58,7 @@ module _ {N : Type 0} (alternatives : N → List (Owed Event)) where
   open_piece p worker = open_from (owes_of alternatives p) worker 0 p.pieces
 
   -- What a seat knows after it has changed the pool. It has quit where the change starved or stopped the pool
-  abbrev pub after_change : {Of : Type 0} → PoolData N Event → SeatData N Of → PoolData N Event → SeatData N Of
+  abbrev pub after_change : PoolData N Event → SeatData N → PoolData N Event → SeatData N
   after_change before mine after = record {
     worker = mine.worker;
     from = mine.from;
@@ -71,11 +71,11 @@ module _ {N : Type 0} (alternatives : N → List (Owed Event)) where
 
 module _ {N Of : Type 0} (of : N → Of) (alternatives : N → List (Owed Event)) where
   -- the change is one lawful event of the seat's worker
-  abbrev pub ChangesLawfully : PoolData N Event → SeatData N Of → PoolData N Event → Type 0
+  abbrev pub ChangesLawfully : PoolData N Event → SeatData N → PoolData N Event → Type 0
   ChangesLawfully before mine after = (e : CoreEvent N Event) × By mine.worker e × Lawful of alternatives before e × Does alternatives before e after
 
   -- the pool and the seat belong to one problem
-  pub record Fits (p : PoolData N Event) (problem : Option (PoolProblem Of)) (mine : SeatData N Of) : Type 0 where
+  pub record Fits (p : PoolData N Event) (problem : Option (PoolProblem Of)) (mine : SeatData N) : Type 0 where
     -- the pool is sound for the problem
     pub asked : PoolProblem Of
     pub is_asked : problem ≡ Some asked

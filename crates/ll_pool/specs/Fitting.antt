@@ -9,12 +9,12 @@ use Rattle.ll_pool.specs.declared.data.PoolProblem.{PoolProblem}
 use Rattle.ll_pool.specs.declared.data.SeatData.{SeatData}
 use Rattle.ll_pool.specs.OpenPieces.{has_open_piece, piece_kept}
 
-module _ {N Of : Type 0} where
-  pub parts_numbers : (mine : SeatData N Of) → HasToGive (numbers_of mine) → IsParted (numbers_of mine) (numbers_of (parts mine).0) (numbers_of (parts mine).1)
+module _ {N : Type 0} where
+  pub parts_numbers : (mine : SeatData N) → HasToGive (numbers_of mine) → IsParted (numbers_of mine) (numbers_of (parts mine).0) (numbers_of (parts mine).1)
   parts_numbers mine more = (refl, refl, refl, refl, le_refl 0)
 
 module _ {N Of : Type 0} (alternatives : N → List (Owed Event)) where
-  pub keeps_numbers : (problem : Option (PoolProblem Of)) (before : PoolData N Event) (mine : SeatData N Of) (after : PoolData N Event)
+  pub keeps_numbers : (problem : Option (PoolProblem Of)) (before : PoolData N Event) (mine : SeatData N) (after : PoolData N Event)
       → numbers_of (after_change alternatives before mine after) ≡ numbers_of mine
   keeps_numbers problem before mine after = refl
 
@@ -23,7 +23,7 @@ module _ {N Of : Type 0} (of : N → Of) (alternatives : N → List (Owed Event)
       → IsFirst (numbers_of (first_seat of alternatives p).1)
   begins_first p fits = let few = fits.few in (refl, λ more. (refl, omega arith))
 
-  own_fits : (problem : Option (PoolProblem Of)) (p : PoolData N Event) (mine : SeatData N Of) (q : PoolData N Event) → Fits of alternatives p problem mine
+  own_fits : (problem : Option (PoolProblem Of)) (p : PoolData N Event) (mine : SeatData N) (q : PoolData N Event) → Fits of alternatives p problem mine
       → ChangesLawfully of alternatives p mine q → Fits of alternatives q problem (after_change alternatives p mine q)
   own_fits problem p mine q fits law =
       let asked = fits.asked in let workers = workers_kept of alternatives p q law.0 law.3 in
@@ -41,7 +41,7 @@ module _ {N Of : Type 0} (of : N → Of) (alternatives : N → List (Owed Event)
         taken = λ first i. ((λ t. t), (λ t. t));
       }
 
-  other_fits : (problem : Option (PoolProblem Of)) (p : PoolData N Event) (mine : SeatData N Of) (q : PoolData N Event) (other : SeatData N Of)
+  other_fits : (problem : Option (PoolProblem Of)) (p : PoolData N Event) (mine : SeatData N) (q : PoolData N Event) (other : SeatData N)
       → ChangesLawfully of alternatives p mine q → Fits of alternatives p problem other → AllDifferent (numbers_of mine) (numbers_of other)
       → Fits of alternatives q problem other
   other_fits problem p mine q other law fits differ =
@@ -65,14 +65,14 @@ module _ {N Of : Type 0} (of : N → Of) (alternatives : N → List (Owed Event)
             ((λ h. u.0 (t.0 h)), (λ h. t.1 (u.1 h)));
       }
 
-  pub change_fits : (problem : Option (PoolProblem Of)) (p : PoolData N Event) (mine : SeatData N Of) (q : PoolData N Event)
+  pub change_fits : (problem : Option (PoolProblem Of)) (p : PoolData N Event) (mine : SeatData N) (q : PoolData N Event)
       → Fits of alternatives p problem mine → ChangesLawfully of alternatives p mine q
       → Fits of alternatives q problem (after_change alternatives p mine q)
-      × ((other : SeatData N Of) → Fits of alternatives p problem other → AllDifferent (numbers_of mine) (numbers_of other)
+      × ((other : SeatData N) → Fits of alternatives p problem other → AllDifferent (numbers_of mine) (numbers_of other)
       → Fits of alternatives q problem other)
   change_fits problem p mine q fits law = (own_fits problem p mine q fits law, λ other fits' differ. other_fits problem p mine q other law fits' differ)
 
-  pub parts_fit : (problem : Option (PoolProblem Of)) (p : PoolData N Event) (mine : SeatData N Of) → HasToGive (numbers_of mine)
+  pub parts_fit : (problem : Option (PoolProblem Of)) (p : PoolData N Event) (mine : SeatData N) → HasToGive (numbers_of mine)
       → Fits of alternatives p problem mine → Fits of alternatives p problem (parts mine).0 × Fits of alternatives p problem (parts mine).1
   parts_fit problem p mine more fits =
       let range = fits.range more in let above = range.0 in let end = range.1 in (

@@ -1,3 +1,4 @@
+pub mod Seen
 pub mod Fits
 pub mod Turns
 pub mod Codes

@@ -12,7 +12,6 @@ use Rattle.ll_core.specs.declared.answers.Claimed.{Claimed}
 use Rattle.ll_core.specs.declared.answers.Claimed.TheVariants.{Work}
 use Rattle.ll_core.specs.declared.answers.PublishFault.{PublishFault}
 use Rattle.ll_pool.specs.Fits.{problem_of, new_seat, after_change, Fits}
-use Rattle.ll_pool.specs.declared.data.TurnPool.{TurnPool}
 use Rattle.ll_pool.specs.declared.data.PoolProblem.{PoolProblem}
 use Rattle.ll_pool.specs.declared.data.OpenPiece.{OpenPiece}
 use Rattle.ll_pool.specs.declared.data.SeatData.{SeatData}
@@ -24,7 +23,7 @@ pub record PoolSight : Type 0 where
 
 -- what a contract sees of a seat: the pass that it is
 abbrev pub SeatSight : Type 0 → Type 0 → Type 0
-SeatSight N Of = Sight (TurnPool N Of) (Option (PoolProblem Of)) (SeatData N Of)
+SeatSight N Of = Sight (PoolData N Event) (Option (PoolProblem Of)) (SeatData N)
 
 -- the pool is starved or stopped
 abbrev pub HasQuit : {N : Type 0} → PoolData N Event → Type 0
@@ -82,6 +81,6 @@ module _ {N Of : Type 0} (of : N → Of) (alternatives : N → List (Owed Event)
   -- where one pool fits two seats with different numbers, no piece is the open piece of both
   abbrev pub NoPieceTwice : Type 0
   NoPieceTwice =
-      (p : PoolData N Event) (problem : Option (PoolProblem Of)) (one other : SeatData N Of) (a b : OpenPiece) → Fits of alternatives p problem one
+      (p : PoolData N Event) (problem : Option (PoolProblem Of)) (one other : SeatData N) (a b : OpenPiece) → Fits of alternatives p problem one
       → Fits of alternatives p problem other → one.worker ≢ other.worker
       → one.piece ≡ Some a → other.piece ≡ Some b → a.number ≢ b.number

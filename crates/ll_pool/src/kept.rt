@@ -13,23 +13,23 @@ impl<N: Batch> Kept for TurnPool<N> {
 
     ghost numbers = { numbers_of };
 
-    ghost begin = { λ value. first_seat N.of N.alternatives value.pool };
+    ghost begin = { λ value. first_seat N.of N.alternatives value };
 
-    ghost fit = { λ value. Fits N.of N.alternatives value.pool };
+    ghost fit = { λ value. Fits N.of N.alternatives value };
 
-    ghost lawful = { λ problem before mine after. ChangesLawfully N.of N.alternatives before.pool mine after.pool };
+    ghost lawful = { λ problem before mine after. ChangesLawfully N.of N.alternatives before mine after };
 
-    ghost next = { λ problem before mine after. after_change N.alternatives before.pool mine after.pool };
+    ghost next = { λ problem before mine after. after_change N.alternatives before mine after };
 
     ghost parted = { parts };
 
-    ghost begins_first = { λ value. begins_first N.of N.alternatives value.pool };
+    ghost begins_first = { λ value. begins_first N.of N.alternatives value };
 
-    ghost keeps_numbers = { λ problem before mine after. keeps_numbers N.alternatives problem before.pool mine after.pool };
+    ghost keeps_numbers = { λ problem before mine after. keeps_numbers N.alternatives problem before mine after };
 
     ghost parts_numbers = { parts_numbers };
 
-    ghost change_fits = { λ problem before mine after. change_fits N.of N.alternatives problem before.pool mine after.pool };
+    ghost change_fits = { λ problem before mine after. change_fits N.of N.alternatives problem before mine after };
 
-    ghost parts_fit = { λ problem value mine. parts_fit N.of N.alternatives problem value.pool mine };
+    ghost parts_fit = { λ problem value mine. parts_fit N.of N.alternatives problem value mine };
 }

@@ -178,7 +178,7 @@ impl<N: Batch> SharedPool<N> {
 
     /// Closes the seat's open piece with its report, which tells exactly what the seat owes, the cost cut at the greatest `u64`. The
     /// seat then has no open piece.
-    pub fn report<R: Wait>(&self, rt: &R, seat: &mut Seat<N>, report: Report)
+    pub fn report<R: Wait>(&self, rt: &R, seat: &mut Seat<N>, report: Report<N::Found>)
         requires own { seat.old.table ≡ self.now.table }
         requires whole { IsSomeAnd seat.old.mine.piece (λ piece. report ≡ report_of piece.owes) }
         ensures turn { OneTurn N.of N.alternatives (λ found left. Does N.alternatives found (event.Report seat.old.mine.worker report) left) seat.old seat.new }
@@ -228,7 +228,7 @@ impl<N: Batch> SharedPool<N> {
     }
 
     /// Takes the report of the next piece in the order of one worker, for the seat of worker 0.
-    pub fn ready<R: Wait>(&self, rt: &R, seat: &mut Seat<N>) -> Ready
+    pub fn ready<R: Wait>(&self, rt: &R, seat: &mut Seat<N>) -> Ready<N::Found>
         requires own { seat.old.table ≡ self.now.table }
         requires first { seat.old.mine.worker ≡ 0 }
         ensures turn { OneTurn N.of N.alternatives (λ found left. Does N.alternatives found (event.Ready (ready_answer result)) left) seat.old seat.new }

@@ -18,6 +18,8 @@ struct Collected {
 }
 
 impl Outlet for Collected {
+    type Found = Event;
+
     ghost use Rattle.std.specs.Prelude.{◌≡◌, ◌<◌};
 
     ghost takes = { λ before event after. Unit {0} };

@@ -22,6 +22,8 @@ pub(crate) struct Told {
 impl Batch for Told {
     type Of = ();
 
+    type Found = Event;
+
     ghost use Rattle.std.specs.Prelude.{replicate, []};
 
     ghost of = { λ batch. tt };
@@ -50,7 +52,7 @@ fn answer_of(alloc: Global, label: u32) -> Result<Event, AllocError> {
 }
 
 // A report of one answer for each label.
-pub(crate) fn report_of(alloc: Global, labels: &[u32]) -> Result<Report, AllocError> {
+pub(crate) fn report_of(alloc: Global, labels: &[u32]) -> Result<Report<Event>, AllocError> {
     let mut events = Vec::new(alloc);
     for label in labels {
         events.push(answer_of(alloc, *label)?)?;
@@ -112,7 +114,7 @@ pub(crate) fn publish(rt: &impl Abort, pool: &mut Pool<Told>, piece: u32, batch:
     }
 }
 
-pub(crate) fn next(pool: &mut Pool<Told>) -> Ready
+pub(crate) fn next(pool: &mut Pool<Told>) -> Ready<Event>
     ensures { pool.new.workers ≡ pool.old.workers }
 {
     pool.ready()

@@ -20,6 +20,7 @@ pub mod SessionEnds
 pub mod DeepenEnds
 pub mod MadeEnds
 pub mod Running
+pub mod Lines
 pub mod Proved
 pub mod Nothing
 pub mod Counting

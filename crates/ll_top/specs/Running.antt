@@ -57,6 +57,11 @@ pub record IsWelcome (p : ProblemTree) (e : Event) : Type 0 where
   pub among : Contains (problem_events p) e
   pub all : AnswersAll p e
 
+-- An outlet may be given events of the problem: no lines wait in it, and what it makes of an event are the event's lines.
+pub record IsReady (makes : Bool → ProblemTree → ℕ → Event → List ℕ) (proofs : Bool) (p : ProblemTree) (waiting : List ℕ) : Type 0 where
+  pub none : waiting ≡ []
+  pub lines : (k : ℕ) (e : Event) → AnswersAll p e → makes proofs p k e ≡ event_lines proofs p k e
+
 -- what an outlet shows that writes the events of a problem
 pub record OutletState : Type 0 where
   pub problem : ProblemTree
@@ -111,6 +116,12 @@ holding problem proofs answers sunk faults lent waiting = record {
 -- what it shows
 abbrev pub told : Holding → OutletState
 told h = told_with h.outlet.problem h.outlet.proofs h.outlet.answers h.outlet.written h.outlet.faults h.outlet.lent h.waiting
+
+-- Lines were put behind those that waited. The first of all these were written, and the others wait.
+pub record Puts (before : Option (List ℕ)) (waiting lines : List ℕ) (after : Option (List ℕ)) (left : List ℕ) : Type 0 where
+  pub flushed : List ℕ
+  pub written : after ≡ append_known before flushed
+  pub order : flushed ++ left ≡ waiting ++ lines
 
 -- The event was counted. Its lines wait behind those that waited, but for the first of all these, which were written.
 pub record Waits (before : Holding) (e : Event) (after : Holding) : Type 0 where

@@ -10,11 +10,12 @@ ghost use Rattle.ll_laws.specs.Valid.{IsValid};
 ghost use Rattle.ll_order.specs.Outlets.{CountsOf};
 ghost use Rattle.ll_top.specs.Endings.{status_of_found};
 ghost use Rattle.ll_top.specs.Outcome.{text_of_run, status_of_run};
-ghost use Rattle.ll_top.specs.Running.{all_lines, IsRunRefusal};
+ghost use Rattle.ll_top.specs.Running.{IsReady, all_lines, IsRunRefusal};
 ghost use Rattle.ll_top.specs.Verdicts.{stopped_text};
 
 use crate::fault::write_parts;
-use crate::outlet::Writing;
+use crate::line::{Asked, Line};
+use crate::outlet::{Lined, Writing};
 use crate::refusal::Refusal;
 use crate::run::{Found, write_summary};
 use crate::team::Team;
@@ -22,7 +23,8 @@ use itoa::Buffer;
 use ll_crew::{CrewFault, crew_first};
 use ll_edge::{Gate, Sink, WriteFailed};
 use ll_first::First;
-use ll_laws::{Counts, Problem, answers_are_shown};
+use ll_laws::{Counts, Event, Problem, answers_are_shown};
+use std::marker::{Brand, PhantomData};
 use std::sync::Wait;
 use std::thread::Threads;
 
@@ -47,7 +49,7 @@ pub fn run_first<R: Threads + Wait + Sync, O: Sink, G: Gate>(
 {
     let mut lines = Vec::new(team.alloc);
     let mut waiting = Vec::new(team.alloc);
-    match write_front(
+    match write_front::<Brand, R, O, G>(
         team,
         problem,
         proofs,
@@ -67,7 +69,7 @@ pub fn run_first<R: Threads + Wait + Sync, O: Sink, G: Gate>(
 // Writes the lines of the events up to the answers that are wanted, each as it comes. `None` where there are as many, and otherwise the
 // counts of all events. After a refusal a prefix of the lines was written. It leaves anything in the room for lines, and no lines
 // that wait.
-fn write_front<R: Threads + Wait + Sync, O: Sink, G: Gate>(
+fn write_front<K: Asked, R: Threads + Wait + Sync, O: Sink, G: Gate>(
     team: &Team<'_, R, G>,
     problem: &Problem,
     proofs: bool,
@@ -76,6 +78,7 @@ fn write_front<R: Threads + Wait + Sync, O: Sink, G: Gate>(
     waiting: &mut Vec<u8>,
     sink: &mut O,
 ) -> Result<Option<Counts>, Refusal>
+    requires asked { problem.now ≡ K.problem }
     requires none { waiting.old.items ≡ [] }
     requires valid { IsValid problem.now }
     requires wanted { 0 < wanted }
@@ -88,8 +91,39 @@ fn write_front<R: Threads + Wait + Sync, O: Sink, G: Gate>(
     ensures refused { IfErr result (IsRunRefusal (O.faults sink.old) (O.faults sink.new)) }
     ensures prefix { OnErr result (AppendsFront (O.written sink.old) (text_of_run (Some wanted) proofs problem.now) (O.written sink.new)) }
 {
+    if proofs {
+        return write_front_as::<Event, R, O, G>(
+            team, problem, proofs, wanted, lines, waiting, sink,
+        );
+    }
+    write_front_as::<Line<K>, R, O, G>(team, problem, proofs, wanted, lines, waiting, sink)
+}
+
+// Does what `write_front` does, where workers make this of the events.
+fn write_front_as<E: Lined, R: Threads + Wait + Sync, O: Sink, G: Gate>(
+    team: &Team<'_, R, G>,
+    problem: &Problem,
+    proofs: bool,
+    wanted: u32,
+    lines: &mut Vec<u8>,
+    waiting: &mut Vec<u8>,
+    sink: &mut O,
+) -> Result<Option<Counts>, Refusal>
+    requires suits { E.suits problem.now }
+    requires ready { IsReady E.makes proofs problem.now waiting.old.items }
+    requires valid { IsValid problem.now }
+    requires wanted { 0 < wanted }
+
+    ensures faults_kept { O.faults sink.old ≤ O.faults sink.new }
+    ensures stops { IfOk result (λ o. (o ≡ None) ↔ (wanted ≤ count_by is_answer (problem_events problem.now))) }
+    ensures counts { IfOk result (λ o. IfSome o (λ counts. CountsOf counts (problem_events problem.now) (problem_cost problem.now))) }
+    ensures lines { OnOk result (O.written sink.new ≡ append_known (O.written sink.old)
+        (all_lines proofs problem.now 0 (first_of (problem_events problem.now) wanted))) }
+    ensures refused { IfErr result (IsRunRefusal (O.faults sink.old) (O.faults sink.new)) }
+    ensures prefix { OnErr result (AppendsFront (O.written sink.old) (text_of_run (Some wanted) proofs problem.now) (O.written sink.new)) }
+{
     let mut out = First::new(
-        Writing {
+        Writing::<O, E> {
             alloc: team.alloc,
             problem,
             proofs,
@@ -97,6 +131,7 @@ fn write_front<R: Threads + Wait + Sync, O: Sink, G: Gate>(
             lines,
             waiting,
             answers: 0,
+            of: PhantomData,
         },
         u64::from(wanted),
     );
@@ -104,15 +139,16 @@ fn write_front<R: Threads + Wait + Sync, O: Sink, G: Gate>(
 }
 
 // Gives the events up to the answers that are wanted to an outlet that took none yet. No lines wait in it, before and after.
-fn give_front<'p, 's, R: Threads + Wait + Sync, O: Sink, G: Gate>(
+fn give_front<'p, 's, E: Lined, R: Threads + Wait + Sync, O: Sink, G: Gate>(
     team: &Team<'_, R, G>,
     problem: &'p Problem,
-    out: &mut First<Writing<'p, 's, O>>,
+    out: &mut First<Writing<'p, 's, O, E>>,
 ) -> Result<Option<Counts>, Refusal>
     requires valid { IsValid problem.now }
+    requires suits { E.suits problem.now }
     requires problem { out.old.out.problem.now ≡ problem.now }
     requires answers { (out.old.answers ≡ 0) × (out.old.out.answers ≡ 0) }
-    requires none { out.old.out.waiting.now.items ≡ [] }
+    requires ready { IsReady E.makes out.old.out.proofs out.old.out.problem.now out.old.out.waiting.now.items }
 
     ensures same_reference { out.new.out.sink.ghost_name ≡ out.old.out.sink.ghost_name }
     ensures none { out.new.out.waiting.now.items ≡ [] }

@@ -10,6 +10,7 @@ mod first_run;
 mod heading;
 mod indexes;
 mod judge;
+mod line;
 mod made_runs;
 mod making;
 mod outlet;

@@ -8,19 +8,21 @@ ghost use Rattle.ll_laws.specs.Output.{run_status, counts_text};
 ghost use Rattle.ll_laws.specs.Problem.{problem_events, problem_cost};
 ghost use Rattle.ll_laws.specs.Valid.{IsValid};
 ghost use Rattle.ll_order.specs.Outlets.{CountsOf};
-ghost use Rattle.ll_top.specs.Running.{all_lines, status_of_counts, IsRunRefusal};
+ghost use Rattle.ll_top.specs.Running.{IsReady, all_lines, status_of_counts, IsRunRefusal};
 ghost use Rattle.ll_top.specs.Endings.{status_of_found};
 ghost use Rattle.ll_top.specs.Outcome.{whole_text};
 
 use crate::indexes::problem_index;
-use crate::outlet::Writing;
+use crate::line::{Asked, Line};
+use crate::outlet::{Lined, Writing};
 use crate::refusal::Refusal;
 use crate::team::Team;
 use ll_crew::{CrewFault, crew_with};
 use ll_edge::{Gate, Sink, write_all};
 use ll_index::Index;
-use ll_laws::{Counts, Problem, answers_are_shown};
+use ll_laws::{Counts, Event, Problem, answers_are_shown};
 use ll_printer::summary;
+use std::marker::{Brand, PhantomData};
 use std::sync::{Arc, Wait};
 use std::thread::Threads;
 
@@ -74,13 +76,20 @@ pub fn run_with<R: Threads + Wait + Sync, O: Sink, G: Gate>(
 {
     let mut lines = Vec::new(team.alloc);
     let mut waiting = Vec::new(team.alloc);
-    let counts = write_events(team, problem, index, proofs, &mut lines, &mut waiting, sink)?;
+    let counts = write_events::<Brand, R, O, G>(
+        team,
+        problem,
+        index,
+        proofs,
+        &mut lines,
+        &mut waiting,
+        sink,
+    )?;
     write_summary(&counts, &mut lines, sink)
 }
 
 /// Writes the last line of a whole search with these counts, and answers what was found. After a refusal a prefix of the line was written.
-/// It leaves anything in the room for lines, and no lines
-// that wait.
+/// It leaves anything in the room for lines.
 pub fn write_summary<O: Sink>(
     counts: &Counts,
     lines: &mut Vec<u8>,
@@ -101,9 +110,8 @@ pub fn write_summary<O: Sink>(
 }
 
 // Writes the lines of all events of the problem, each as it comes, and tells how many they are. After a refusal a prefix of the lines was
-// written. It leaves anything in the room for lines, and no lines
-// that wait.
-fn write_events<R: Threads + Wait + Sync, O: Sink, G: Gate>(
+// written. It leaves anything in the room for lines, and no lines that wait.
+fn write_events<K: Asked, R: Threads + Wait + Sync, O: Sink, G: Gate>(
     team: &Team<'_, R, G>,
     problem: &Problem,
     index: &Arc<Index>,
@@ -112,6 +120,7 @@ fn write_events<R: Threads + Wait + Sync, O: Sink, G: Gate>(
     waiting: &mut Vec<u8>,
     sink: &mut O,
 ) -> Result<Counts, Refusal>
+    requires asked { problem.now ≡ K.problem }
     requires none { waiting.old.items ≡ [] }
     requires valid { IsValid problem.now }
     requires index { HasIndex problem.now.clauses (arc_value index.now) }
@@ -122,7 +131,36 @@ fn write_events<R: Threads + Wait + Sync, O: Sink, G: Gate>(
     ensures refused { IfErr result (IsRunRefusal (O.faults sink.old) (O.faults sink.new)) }
     ensures prefix { OnErr result (AppendsFront (O.written sink.old) (whole_text proofs problem.now) (O.written sink.new)) }
 {
-    let mut out = Writing {
+    if proofs {
+        return write_events_as::<Event, R, O, G>(
+            team, problem, index, proofs, lines, waiting, sink,
+        );
+    }
+    write_events_as::<Line<K>, R, O, G>(team, problem, index, proofs, lines, waiting, sink)
+}
+
+// Does what `write_events` does, where workers make this of the events.
+fn write_events_as<E: Lined, R: Threads + Wait + Sync, O: Sink, G: Gate>(
+    team: &Team<'_, R, G>,
+    problem: &Problem,
+    index: &Arc<Index>,
+    proofs: bool,
+    lines: &mut Vec<u8>,
+    waiting: &mut Vec<u8>,
+    sink: &mut O,
+) -> Result<Counts, Refusal>
+    requires suits { E.suits problem.now }
+    requires ready { IsReady E.makes proofs problem.now waiting.old.items }
+    requires valid { IsValid problem.now }
+    requires index { HasIndex problem.now.clauses (arc_value index.now) }
+
+    ensures faults_kept { O.faults sink.old ≤ O.faults sink.new }
+    ensures counts { IfOk result (λ counts. CountsOf counts (problem_events problem.now) (problem_cost problem.now)) }
+    ensures lines { OnOk result (O.written sink.new ≡ append_known (O.written sink.old) (all_lines proofs problem.now 0 (problem_events problem.now))) }
+    ensures refused { IfErr result (IsRunRefusal (O.faults sink.old) (O.faults sink.new)) }
+    ensures prefix { OnErr result (AppendsFront (O.written sink.old) (whole_text proofs problem.now) (O.written sink.new)) }
+{
+    let mut out = Writing::<O, E> {
         alloc: team.alloc,
         problem,
         proofs,
@@ -130,22 +168,24 @@ fn write_events<R: Threads + Wait + Sync, O: Sink, G: Gate>(
         lines,
         waiting,
         answers: 0,
+        of: PhantomData,
     };
     give_events(team, problem, index, &mut out)
 }
 
 // Gives all events of the problem to an outlet that took none yet. No lines wait in it, before and after.
-fn give_events<'p, 's, R: Threads + Wait + Sync, O: Sink, G: Gate>(
+fn give_events<'p, 's, E: Lined, R: Threads + Wait + Sync, O: Sink, G: Gate>(
     team: &Team<'_, R, G>,
     problem: &'p Problem,
     index: &Arc<Index>,
-    out: &mut Writing<'p, 's, O>,
+    out: &mut Writing<'p, 's, O, E>,
 ) -> Result<Counts, Refusal>
     requires valid { IsValid problem.now }
     requires index { HasIndex problem.now.clauses (arc_value index.now) }
+    requires suits { E.suits problem.now }
     requires problem { out.old.problem.now ≡ problem.now }
     requires answers { out.old.answers ≡ 0 }
-    requires none { out.old.waiting.now.items ≡ [] }
+    requires ready { IsReady E.makes out.old.proofs out.old.problem.now out.old.waiting.now.items }
 
     ensures same_reference { out.new.sink.ghost_name ≡ out.old.sink.ghost_name }
     ensures none { out.new.waiting.now.items ≡ [] }

@@ -49,6 +49,8 @@ fn write_event(
 }
 
 impl<'p> Outlet for Lines<'p> {
+    type Found = Event;
+
     ghost takes = { λ before event after. Unit {0} };
 
     ghost breaks = { λ before event after. Unit {0} };

@@ -148,39 +148,39 @@ formed_took {N = N} alternatives batches pieces waiting capacity busy h i x e cl
 -- ---- in the pool's own fields
 
 -- the pool with these slots
-abbrev pub with_slots : {N Of : Type 0} → Inside N Of → List Slot → PoolData N Event
+abbrev pub with_slots : {N Of E : Type 0} → Inside N Of E → List (Slot E) → PoolData N Event
 with_slots i slots = data_of i.batches.items slots (length i.waiting.items) i.workers i.busy i.starved i.stopped
 
 -- the pool as it is
-abbrev pub data_in : {N Of : Type 0} → Inside N Of → PoolData N Event
+abbrev pub data_in : {N Of E : Type 0} → Inside N Of E → PoolData N Event
 data_in i = with_slots i i.pieces.items
 
 -- what holds of the pool, with these slots
-abbrev pub WholeWith : {N Of : Type 0} → (N → List (Owed Event)) → Inside N Of → List Slot → Type 0
+abbrev pub WholeWith : {N Of E : Type 0} → (N → List (Owed Event)) → Inside N Of E → List (Slot E) → Type 0
 WholeWith alternatives i slots = Whole alternatives (with_slots i slots) i.waiting.items i.starts.items (map stop_in i.stack.items)
     (vec_capacity i.pieces) (vec_capacity i.stack)
 
 -- the slot in this state
-abbrev pub with_state : Slot → State → Slot
+abbrev pub with_state : {E : Type 0} → Slot E → State E → Slot E
 with_state slot state = record slot { state = state }
 
 -- what `ready` reads on top of the stack
-pub record IsTop {N Of : Type 0} (alternatives : N → List (Owed Event)) (i : Inside N Of) (stop : Stop) : Type 0 where
+pub record IsTop {N Of E : Type 0} (alternatives : N → List (Owed Event)) (i : Inside N Of E) (stop : Stop) : Type 0 where
   pub whole : WholeWith alternatives i i.pieces.items
   pub last : slice_get i.stack.items (length i.stack.items - 1) ≡ Some stop
 
 -- and the slot of its piece, which has this number
-pub record IsFound {N Of : Type 0} (alternatives : N → List (Owed Event)) (i : Inside N Of) (stop : Stop) (at : ℕ) (old : Slot) : Type 0 where
+pub record IsFound {N Of E : Type 0} (alternatives : N → List (Owed Event)) (i : Inside N Of E) (stop : Stop) (at : ℕ) (old : Slot E) : Type 0 where
   pub top : IsTop alternatives i stop
   pub number : at ≡ slice_index i.starts.items stop.batch + stop.k
   pub low : at < length i.pieces.items
   pub here : old ≡ get_or i.pieces.items at old
 
-pub top_of : {N Of : Type 0} {alternatives : N → List (Owed Event)} (i : Inside N Of) {read : List Stop} {stop : Stop}
+pub top_of : {N Of E : Type 0} {alternatives : N → List (Owed Event)} (i : Inside N Of E) {read : List Stop} {stop : Stop}
     → WholeWith alternatives i i.pieces.items → read ≡ i.stack.items → Some stop ≡ slice_get read (length read - 1) → IsTop alternatives i stop
 top_of i {stop = stop} h is last = record { whole = h; last = subst (λ l. slice_get l (length l - 1) ≡ Some stop) is (sym last) }
 
-module _ {N Of : Type 0} {alternatives : N → List (Owed Event)} {i : Inside N Of} {stop : Stop} (t : IsTop alternatives i stop) where
+module _ {N Of E : Type 0} {alternatives : N → List (Owed Event)} {i : Inside N Of E} {stop : Stop} (t : IsTop alternatives i stop) where
   pub start_there : stop.batch < length i.starts.items
   start_there = start_below i.stack.items t.whole t.last
 
@@ -207,7 +207,7 @@ module _ {N Of : Type 0} {alternatives : N → List (Owed Event)} {i : Inside N 
       )
 
   -- below that it has a slot
-  pub found_of : {start len : ℕ} {old : Slot} → start ≡ get_or i.starts.items stop.batch start → len ≡ vec_len i.pieces → start + stop.k < len
+  pub found_of : {start len : ℕ} {old : Slot E} → start ≡ get_or i.starts.items stop.batch start → len ≡ vec_len i.pieces → start + stop.k < len
       → old ≡ get_or i.pieces.items (start + stop.k) old → IsFound alternatives i stop (start + stop.k) old
   found_of {start} read is low here = record {
     top = t;
@@ -225,7 +225,7 @@ module _ {N Of : Type 0} {alternatives : N → List (Owed Event)} {i : Inside N 
       → stop.k < len
   inside_len read is e = let l = len_is read is e in let k = inside i.stack.items t.whole t.last in omega arith
 
-module _ {N Of : Type 0} {alternatives : N → List (Owed Event)} {i : Inside N Of} {stop : Stop} {at : ℕ} {old : Slot}
+module _ {N Of E : Type 0} {alternatives : N → List (Owed Event)} {i : Inside N Of E} {stop : Stop} {at : ℕ} {old : Slot E}
     (f : IsFound alternatives i stop at old) where
   at_old : slice_get (data_in i).pieces at ≡ Some (piece_in old)
   at_old = get_map_at piece_in i.pieces.items at old (slot_at i.pieces.items at old f.low f.here)
@@ -246,14 +246,14 @@ module _ {N Of : Type 0} {alternatives : N → List (Owed Event)} {i : Inside N 
   k_is = sym (ap (λ (x : Piece Event). x.k) same_piece) ∙ found_there.3
 
   -- the state of its slot was replaced
-  module _ (state : State) where
-    abbrev written : List Slot
+  module _ (state : State E) where
+    abbrev written : List (Slot E)
     written = set i.pieces.items at (with_state old state)
 
     -- the slot is read again: there is room for what its piece published
-    pub room_there : {read : Slot} → read ≡ get_or written at read → length i.stack.items + length read.published.items ≤ vec_capacity i.stack
+    pub room_there : {read : Slot E} → read ≡ get_or written at read → length i.stack.items + length read.published.items ≤ vec_capacity i.stack
     room_there {read} e =
-        subst (λ (slot : Slot). length i.stack.items + length slot.published.items ≤ vec_capacity i.stack)
+        subst (λ (slot : Slot E). length i.stack.items + length slot.published.items ≤ vec_capacity i.stack)
         (sym (set_read i.pieces.items at (with_state old state) read f.low e))
         (room_for_kids i.stack.items f.top.whole f.top.last at (piece_in old) at_old batch_is k_is)
 
@@ -316,7 +316,7 @@ module _ {N Of : Type 0} {alternatives : N → List (Owed Event)} {i : Inside N 
       is_taken_next view_is = subst (λ v. Readies alternatives v (Events report) (with_slots i written)) view_is (at, piece_in old, takes_next, took_is)
 
       -- the slot is read again: its batches come next, and then the rest of its own batch
-      pub whole_taken : (stops : List Stop) {len capacity : ℕ} {read : Slot} → len ≡ length_of alternatives (data_in i) stop.batch
+      pub whole_taken : (stops : List Stop) {len capacity : ℕ} {read : Slot E} → len ≡ length_of alternatives (data_in i) stop.batch
           → read ≡ get_or written at read → capacity ≡ vec_capacity i.stack
           → ((below : List Stop) → i.stack.items ≡ below ++ stop ∷ []
           → map stop_in stops ≡ (map stop_in below ++ (if nat_lt (stop.k + 1) len then record { batch = stop.batch; k = stop.k + 1 } ∷ [] else []))

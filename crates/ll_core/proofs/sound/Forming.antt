@@ -122,7 +122,7 @@ open_few (x ∷ pieces) = let h = open_few pieces in one (is_open x.status) h
     one true h = omega arith
     one false h = omega arith
 
-module _ {N : Type 0} (alternatives : N → List (Owed Event)) (batches : List N) (slots : List Slot) (waiting : List (Waiting N)) (w : Waiting N)
+module _ {N E : Type 0} (alternatives : N → List (Owed Event)) (batches : List N) (slots : List (Slot E)) (waiting : List (Waiting N)) (w : Waiting N)
     (rest : List (Waiting N)) (capacity busy : ℕ)
     (formed : Formed alternatives batches (map piece_in slots) waiting capacity busy) (popped : waiting ≡ w ∷ rest) where
   here : Formed alternatives batches (map piece_in slots) (w ∷ rest) capacity busy
@@ -134,14 +134,14 @@ module _ {N : Type 0} (alternatives : N → List (Owed Event)) (batches : List N
   pub room_for_one : length slots < capacity
   room_for_one = let r = here.room in let l = length-map slots piece_in in omega arith
 
-  pub claim_forms : (slots' : List Slot) (slot : Slot) (capacity' : ℕ) → slots' ≡ slots ++ slot ∷ [] → capacity' ≡ capacity
+  pub claim_forms : (slots' : List (Slot E)) (slot : Slot E) (capacity' : ℕ) → slots' ≡ slots ++ slot ∷ [] → capacity' ≡ capacity
       → place_of (piece_in slot) ≡ place_in w → status_in slot.state ≡ Open → Formed alternatives batches (map piece_in slots') rest capacity' (busy + 1)
   claim_forms slots' slot capacity' e c same o =
       subst (λ n. Formed alternatives batches (map piece_in slots') rest n (busy + 1)) (sym c)
       (subst (λ ps. Formed alternatives batches ps rest capacity (busy + 1)) (sym (ap (map piece_in) e ∙ map_push piece_in slots slot))
       (formed_claimed alternatives batches (map piece_in slots) w rest capacity busy (piece_in slot) here same o))
 
-  pub claim_is : (slots' : List Slot) (slot : Slot) (workers : ℕ) (starved stopped : Bool) (worker : ℕ) → slots' ≡ slots ++ slot ∷ []
+  pub claim_is : (slots' : List (Slot E)) (slot : Slot E) (workers : ℕ) (starved stopped : Bool) (worker : ℕ) → slots' ≡ slots ++ slot ∷ []
       → piece_in slot ≡ new_piece worker w.batch w.k
       → let before : PoolData N Event = record {
         batches = batches;
@@ -294,13 +294,13 @@ every_at P (y ∷ xs) h zero x e = subst P (some_is y x e) h.0
 every_at P (y ∷ xs) h (suc i) x e = every_at P xs h.1 i x e
 
 -- one slot written
-pub slot_changed : (f : Piece Event → Piece Event) (slots : List Slot) (i : ℕ) (old new : Slot) → i < length slots → old ≡ get_or slots i old
+pub slot_changed : {E : Type 0} (f : Piece Event → Piece Event) (slots : List (Slot E)) (i : ℕ) (old new : Slot E) → i < length slots → old ≡ get_or slots i old
     → piece_in new ≡ f (piece_in old) → map piece_in (set slots i new) ≡ change i f (map piece_in slots)
 slot_changed f [] i old new low e same = absurd (omega arith)
 slot_changed f (x ∷ slots) zero old new low e same = ap (λ y. y ∷ map piece_in slots) (same ∙ ap (λ s. f (piece_in s)) e)
 slot_changed f (x ∷ slots) (suc i) old new low e same = ap (λ l. piece_in x ∷ l) (slot_changed f slots i old new (omega arith) e same)
 
-pub slot_kept : (slots : List Slot) (i : ℕ) (old new : Slot) → i < length slots → old ≡ get_or slots i old → piece_in new ≡ piece_in old
+pub slot_kept : {E : Type 0} (slots : List (Slot E)) (i : ℕ) (old new : Slot E) → i < length slots → old ≡ get_or slots i old → piece_in new ≡ piece_in old
     → map piece_in (set slots i new) ≡ map piece_in slots
 slot_kept [] i old new low e same = absurd (omega arith)
 slot_kept (x ∷ slots) zero old new low e same = ap (λ y. y ∷ map piece_in slots) (same ∙ ap piece_in e)
@@ -401,10 +401,11 @@ module _ {N : Type 0} (alternatives : N → List (Owed Event)) (batches : List N
           busy = omega arith;
         }
 
-pub slot_below : (slots : List Slot) (i : ℕ) (x : Piece Event) → slice_get (map piece_in slots) i ≡ Some x → i < length slots
+pub slot_below : {E : Type 0} (slots : List (Slot E)) (i : ℕ) (x : Piece Event) → slice_get (map piece_in slots) i ≡ Some x → i < length slots
 slot_below slots i x e = let l = get_below (map piece_in slots) i x e in let m = length-map slots piece_in in omega arith
 
-pub report_is : {N : Type 0} (batches : List N) (slots slots' : List Slot) (waiting workers busy : ℕ) (starved stopped : Bool) (i : ℕ) (report : Owed Event)
+pub report_is : {N E : Type 0} (batches : List N) (slots slots' : List (Slot E)) (waiting workers busy : ℕ) (starved stopped : Bool) (i : ℕ)
+    (report : Owed Event)
     → map piece_in slots' ≡ change i (with_status (Closed report)) (map piece_in slots)
     → let before : PoolData N Event = record {
       batches = batches;
@@ -443,7 +444,8 @@ report_is batches slots slots' waiting workers busy starved stopped i report e =
           stopped;
     }
 
-module _ {N : Type 0} (alternatives : N → List (Owed Event)) (batches : List N) (slots slots' : List Slot) (waiting : List (Waiting N)) (capacity busy i : ℕ)
+module _ {N E : Type 0} (alternatives : N → List (Owed Event)) (batches : List N) (slots slots' : List (Slot E)) (waiting : List (Waiting N))
+    (capacity busy i : ℕ)
     (report : Owed Event)
     (h : Formed alternatives batches (map piece_in slots) waiting capacity busy)
     (open_at : (x : Piece Event) × (slice_get (map piece_in slots) i ≡ Some x) × (x.status ≡ Open))
@@ -452,12 +454,13 @@ module _ {N : Type 0} (alternatives : N → List (Owed Event)) (batches : List N
   report_forms = subst (λ ps. Formed alternatives batches ps waiting capacity (busy - 1)) (sym e)
       (formed_report alternatives batches (map piece_in slots) waiting capacity busy h i open_at.0 report open_at.1 open_at.2)
 
-pub busy_some : {N : Type 0} (alternatives : N → List (Owed Event)) (batches : List N) (slots : List Slot) (waiting : List (Waiting N)) (capacity busy i : ℕ)
+pub busy_some : {N E : Type 0} (alternatives : N → List (Owed Event)) (batches : List N) (slots : List (Slot E)) (waiting : List (Waiting N))
+    (capacity busy i : ℕ)
     → Formed alternatives batches (map piece_in slots) waiting capacity busy
     → (x : Piece Event) × (slice_get (map piece_in slots) i ≡ Some x) × (x.status ≡ Open) → 1 ≤ busy
 busy_some alternatives batches slots waiting capacity busy i h o = let a = open_some (map piece_in slots) i o.0 o.1 o.2 in let b = h.busy in omega arith
 
-pub publish_is : {N : Type 0} (alternatives : N → List (Owed Event)) (batches batches' : List N) (slots slots' : List Slot)
+pub publish_is : {N E : Type 0} (alternatives : N → List (Owed Event)) (batches batches' : List N) (slots slots' : List (Slot E))
     (waiting waiting' : List (Waiting N)) (workers busy i n m : ℕ) (starved stopped : Bool) (value : N) (copies : List (Waiting N))
     → batches' ≡ batches ++ value ∷ [] → map piece_in slots' ≡ change i (with_batch n) (map piece_in slots) → n ≡ length batches → AreCopies n m value copies
     → waiting' ≡ waiting ++ copies
@@ -495,7 +498,7 @@ publish_is alternatives batches batches' slots slots' waiting waiting' workers b
     e ∙ ap (λ c. change i (with_batch c) (map piece_in slots)) number in
     λ j. record { batches = b j; pieces = e' j; workers = workers; busy = busy; total = t j; untried = u j; starved = starved; stopped = stopped }
 
-module _ {N : Type 0} (alternatives : N → List (Owed Event)) (arcs arcs' : List (Arc N Global)) (batch : Arc N Global) (slots slots' : List Slot)
+module _ {N E : Type 0} (alternatives : N → List (Owed Event)) (arcs arcs' : List (Arc N Global)) (batch : Arc N Global) (slots slots' : List (Slot E))
     (waiting waiting' copies : List (Waiting N)) (capacity capacity' busy i n m : ℕ) where
   pub publish_forms : Formed alternatives (map arc_value arcs) (map piece_in slots) waiting capacity busy
       → (x : Piece Event) × (slice_get (map piece_in slots) i ≡ Some x) × (x.status ≡ Open)
@@ -517,7 +520,7 @@ module _ {N : Type 0} (alternatives : N → List (Owed Event)) (arcs arcs' : Lis
       (subst (λ ws. Formed alternatives (map arc_value arcs ++ arc_value batch ∷ []) (change i (with_batch n) (map piece_in slots)) ws capacity' busy) (sym w)
       done))
 
-pub opening_forms : {N : Type 0} (alternatives : N → List (Owed Event)) (root : Arc N Global) (batches : List (Arc N Global)) (slots : List Slot)
+pub opening_forms : {N E : Type 0} (alternatives : N → List (Owed Event)) (root : Arc N Global) (batches : List (Arc N Global)) (slots : List (Slot E))
     (waiting : List (Waiting N)) (capacity : ℕ)
     → batches ≡ root ∷ [] → slots ≡ [] → length (alternatives (arc_value root)) ≡ 1 → AreCopies 0 1 (arc_value root) waiting → 1 ≤ capacity
     → Formed alternatives (map arc_value batches) (map piece_in slots) waiting capacity 0
@@ -544,7 +547,8 @@ opening_forms {N = N} alternatives root batches slots waiting capacity e d one c
     other alternatives root zero h = absurd (h refl)
     other alternatives root (suc b) h = refl
 
-pub below_kept : (slots slots' : List Slot) (i : ℕ) {x : Piece Event} → slice_get (map piece_in slots) i ≡ Some x → map piece_in slots' ≡ map piece_in slots
+pub below_kept : {E : Type 0} (slots slots' : List (Slot E)) (i : ℕ) {x : Piece Event} → slice_get (map piece_in slots) i ≡ Some x → map piece_in slots' ≡
+    map piece_in slots
     → i < length slots'
 below_kept slots slots' i {x = x} e same = slot_below slots' i x (ap (λ ps. slice_get ps i) same ∙ e)
 

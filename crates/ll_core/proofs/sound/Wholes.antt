@@ -182,7 +182,8 @@ module _ {N : Type 0} (alternatives : N → List (Owed Event)) where
       (grown ∙ ap (λ u. starts ++ u ∷ []) first) room v' (is ∙ ap (published v i value) long)
       (subst (λ ws. Formed alternatives v'.batches v'.pieces ws capacity' v'.busy) w formed))
 
-  pub opening_whole : (root : Arc N Global) (arcs : List (Arc N Global)) (slots : List Slot) (waiting : List (Waiting N)) (starts : List ℕ) (stops : List Stop)
+  pub opening_whole : {E : Type 0} (root : Arc N Global) (arcs : List (Arc N Global)) (slots : List (Slot E)) (waiting : List (Waiting N)) (starts : List ℕ)
+      (stops : List Stop)
       (stop : Stop) (capacity stack_capacity workers : ℕ)
       → arcs ≡ root ∷ [] → slots ≡ [] → length (alternatives (arc_value root)) ≡ 1 → AreCopies 0 1 (arc_value root) waiting → 1 ≤ capacity → starts ≡ 0 ∷ []
       → stops ≡ stop ∷ [] → stop_in stop ≡ begin 0 → 1 ≤ stack_capacity
@@ -277,7 +278,8 @@ module _ {N : Type 0} (alternatives : N → List (Owed Event)) where
       below : (i n m : ℕ) → i ≤ n → n ≤ m → i ≤ m
       below i n m h k = omega arith
 
-  module _ (arcs arcs' : List (Arc N Global)) (slots slots' : List Slot) (waiting waiting' : List (Waiting N)) (workers busy : ℕ) (starved stopped : Bool)
+  module _ {E : Type 0} (arcs arcs' : List (Arc N Global)) (slots slots' : List (Slot E)) (waiting waiting' : List (Waiting N)) (workers busy : ℕ)
+      (starved stopped : Bool)
       (a : arcs' ≡ arcs) (p : map piece_in slots' ≡ map piece_in slots) (w : waiting' ≡ waiting) where
     -- a pool that is as before is seen as before
     pub data_alike : data_of arcs' slots' (length waiting') workers busy starved stopped ≡ data_of arcs slots (length waiting) workers busy starved stopped

@@ -1,12 +1,12 @@
 -- Events whose lines wait for those behind them.
 use Rattle.std.proofs.Common.{◌≡◌, ◌↔◌, ◌≤◌, ◌<◌, ◌⊎◌, ℕ, zero, suc, ◌+◌, ◌-◌, refl, subst, ap, sym, ◌∙◌}
-use Rattle.std.proofs.Common.{List, [], ◌∷◌, ◌++◌, length, take, arith, inl, inr, append_assoc, length-append}
-use Rattle.std.specs.Prelude.{Option, Result, Err, OnErr, Bool, false}
+use Rattle.std.proofs.Common.{List, [], ◌∷◌, ◌++◌, length, take, drop, get_or, arith, inl, inr, append_assoc, length-append}
+use Rattle.std.specs.Prelude.{Option, Result, Ok, Err, OnErr, Bool, false, map}
 use Rattle.std.specs.Bool.{◌==◌}
 use Rattle.std.specs.Io.KnownBytes.{append_known}
 use Rattle.std.proofs.lemmas.Bool.{cases_lt}
-use Rattle.std.proofs.lemmas.List.{append-nil, take-append-le}
-use Rattle.std.proofs.Math.Seq.{take-append-add}
+use Rattle.std.proofs.lemmas.List.{append-nil, take-append-le, drop_more, drop_all, map-append}
+use Rattle.std.proofs.Math.Seq.{take-append-add, take-suc}
 use Rattle.ll_edge.specs.Pieces.{AppendsFront}
 use Rattle.ll_edge.proofs.CallerLemmas.{append_known-nil, append_known-append}
 use Rattle.ll_laws.specs.declared.Event.{Event}
@@ -16,7 +16,8 @@ use Rattle.ll_laws.specs.Problem.{ProblemTree}
 use Rattle.ll_laws.specs.Sound.{Every}
 use Rattle.ll_crew.specs.Crews.{GivesPrefix}
 use Rattle.ll_order.proofs.CallerLemmas.{gives_more}
-use Rattle.ll_top.specs.Running.{all_lines, event_lines, IsWelcome, OutletState, SameOutlet, Writes, BreaksOff, Holding, told, Waits, CutsOff, Taking}
+use Rattle.ll_top.specs.Running.{all_lines, event_lines, AnswersAll, IsWelcome, IsReady, OutletState, SameOutlet, Writes, BreaksOff, Holding, told, Waits}
+use Rattle.ll_top.specs.Running.{CutsOff, Taking}
 use Rattle.ll_top.proofs.calls.GivenLemmas.{front_in}
 use Rattle.ll_top.proofs.calls.RunLemmas.{event_then, no-lines, lines-then, same-on, events-same}
 
@@ -134,19 +135,41 @@ module _ {W : Type 0} (takes breaks : W → Event → W → Type 0) (state : W �
 pub err_on : {T E A : Type 0} (r : Result T E) (e : E) → r ≡ Err e → OnErr r A → A
 err_on {A = A} r e h k = subst (λ q. OnErr q A) h k
 
+-- why a refusal is one
+abbrev pub fault_of : {T E : Type 0} → E → Result T E → E
+fault_of e (Ok a) = e
+fault_of e (Err d) = d
+
+pub fault_is : {T E : Type 0} (r : Result T E) (e : E) → r ≡ Err e → fault_of e r ≡ e
+fault_is r e h = ap (fault_of e) h
+
 -- there are events
 pub some_events : (es : List Event) {b : Bool} → b ≡ (length es == 0) → b ≡ false → 0 < length es
 some_events [] h f = absurd cc
 some_events (e ∷ es) h f = omega arith
 
-pub none_left : (es : List Event) → length es ≡ 0 → es ≡ []
-none_left [] h = refl
-none_left (e ∷ es) h = absurd (omega arith)
+-- the next event of a list, of which so many were taken
+pub next_event : {X : Type 0} (told : X → Event) (xs ys : List X) (i : ℕ) (x : X) → ys ≡ xs → i < length ys → x ≡ get_or ys i x
+    → map told (drop i xs) ≡ told x ∷ map told (drop (i + 1) xs)
+next_event told xs ys i x s l h =
+    ap (map told) (drop_more xs i x (subst (λ zs. i < length zs) s l)
+    ∙ ap (λ k. k ∷ drop (i + 1) xs) (sym (subst (λ zs. x ≡ get_or zs i x) s h)))
+
+pub next_taken : {X : Type 0} (told : X → Event) (xs ys : List X) (i : ℕ) (x : X) → ys ≡ xs → i < length ys → x ≡ get_or ys i x
+    → map told (take i xs) ++ told x ∷ [] ≡ map told (take (i + 1) xs)
+next_taken told xs ys i x s l h =
+    let next : suc i ≡ i + 1 = omega arith in
+    sym (map-append told (take i xs) (x ∷ []))
+    ∙ ap (map told) (ap (λ k. take i xs ++ k ∷ []) (subst (λ zs. x ≡ get_or zs i x) s h)
+    ∙ (sym (take-suc xs i x (subst (λ zs. i < length zs) s l)) ∙ ap (λ n. take n xs) next))
+
+pub none_left : {X : Type 0} (told : X → Event) (xs ys : List X) (i : ℕ) → ys ≡ xs → length ys ≤ i → map told (drop i xs) ≡ []
+none_left told xs ys i s l = ap (map told) (drop_all i xs (subst (λ zs. length zs ≤ i) s l))
 
 -- what holds of a list that is not empty, beside what holds of each of it
-pub none_waits : {N : Type 0} (A : Event → Type 0) (es : List Event) → 0 < length es → Every (λ e. A e × N) es → N
-none_waits A [] h w = absurd (omega arith)
-none_waits A (e ∷ es) h w = w.0.1
+pub each_ready : {N : Type 0} (A : Event → Type 0) (es : List Event) → 0 < length es → Every (λ e. A e × N) es → N
+each_ready A [] h w = absurd (omega arith)
+each_ready A (e ∷ es) h w = w.0.1
 
 pub each_wanted : (N : Type 0) (A : Event → Type 0) (es : List Event) → Every (λ e. A e × N) es → Every A es
 each_wanted N A [] w = tt
@@ -174,23 +197,33 @@ pub first-none : (k : ℕ) → first_of [] k ≡ []
 first-none zero = refl
 first-none (suc k) = refl
 
--- No lines wait in an outlet to which what is welcome was given, where what is welcome did not change.
-pub none_taken : {W : Type 0} (takes : W → Event → W → Type 0) (problem : W → ProblemTree) (waiting : W → List ℕ) (x y : W) (all es : List Event)
-    → waiting x ≡ [] → Every (IsWelcome (problem x)) all → (all ≡ [] → es ≡ [])
-    → ((e : Event) → (IsWelcome (problem x) e × (waiting x ≡ [])) ↔ (IsWelcome (problem y) e × (waiting y ≡ []))) → Gives takes x es y → waiting y ≡ []
-none_taken takes problem waiting x y (e ∷ all) es h w n k g = ((k e).0 (w.0, h)).1
-none_taken takes problem waiting x y [] es h w n k g = ap waiting (subst (λ l. Gives takes x l y) (n refl) g) ∙ h
+-- an outlet that is as ready as one with the same problem was
+pub ready_still : {makes : Bool → ProblemTree → ℕ → Event → List ℕ} {b c : Bool} {p q : ProblemTree} {before after : List ℕ} → IsReady makes b p before
+    → q ≡ p → c ≡ b → after ≡ [] → IsReady makes c q after
+ready_still {makes} {b} {c} {p} {q} r same proofs none = record {
+  none = none;
+  lines =
+      subst (λ d. (k : ℕ) (e : Event) → AnswersAll q e → makes d q k e ≡ event_lines d q k e) (sym proofs)
+      (subst (λ o. (k : ℕ) (e : Event) → AnswersAll o e → makes b o k e ≡ event_lines b o k e) (sym same) r.lines);
+}
 
--- Nor where only a front of it was.
-pub none_given : {W : Type 0} (takes breaks : W → Event → W → Type 0) (problem : W → ProblemTree) (waiting : W → List ℕ) (x y : W) (all es : List Event)
-    → waiting x ≡ [] → Every (IsWelcome (problem x)) all → (all ≡ [] → es ≡ [])
-    → ((e : Event) → (IsWelcome (problem x) e × (waiting x ≡ [])) ↔ (IsWelcome (problem y) e × (waiting y ≡ []))) → GivesPrefix takes breaks x es y
-    → waiting y ≡ []
-none_given takes breaks problem waiting x y (e ∷ all) es h w n k g = ((k e).0 (w.0, h)).1
-none_given takes breaks problem waiting x y [] es h w n k (inl ([], back, o, g)) = ap waiting g ∙ h
-none_given takes breaks problem waiting x y [] es h w n k (inl (e ∷ front, back, o, g)) = absurd (let l = ap length (sym (n refl) ∙ o) in omega arith)
-none_given takes breaks problem waiting x y [] es h w n k (inr r) =
-    absurd (let l = ap length (sym (n refl) ∙ r.order) in omega (arith, length-append r.front (r.refused ∷ r.back)))
+module _ {W : Type 0} (problem : W → ProblemTree) (waiting : W → List ℕ) (ready : W → Type 0) (none : (w : W) → ready w → waiting w ≡ []) where
+  -- No lines wait in an outlet to which what is welcome was given, where what is welcome did not change.
+  pub none_taken : (takes : W → Event → W → Type 0) (x y : W) (all es : List Event)
+      → ready x → Every (IsWelcome (problem x)) all → (all ≡ [] → es ≡ [])
+      → ((e : Event) → (IsWelcome (problem x) e × ready x) ↔ (IsWelcome (problem y) e × ready y)) → Gives takes x es y → waiting y ≡ []
+  none_taken takes x y (e ∷ all) es h w n k g = none y ((k e).0 (w.0, h)).1
+  none_taken takes x y [] es h w n k g = ap waiting (subst (λ l. Gives takes x l y) (n refl) g) ∙ none x h
+
+  -- Nor where only a front of it was.
+  pub none_given : (takes breaks : W → Event → W → Type 0) (x y : W) (all es : List Event)
+      → ready x → Every (IsWelcome (problem x)) all → (all ≡ [] → es ≡ [])
+      → ((e : Event) → (IsWelcome (problem x) e × ready x) ↔ (IsWelcome (problem y) e × ready y)) → GivesPrefix takes breaks x es y → waiting y ≡ []
+  none_given takes breaks x y (e ∷ all) es h w n k g = none y ((k e).0 (w.0, h)).1
+  none_given takes breaks x y [] es h w n k (inl ([], back, o, g)) = ap waiting g ∙ none x h
+  none_given takes breaks x y [] es h w n k (inl (e ∷ front, back, o, g)) = absurd (let l = ap length (sym (n refl) ∙ o) in omega arith)
+  none_given takes breaks x y [] es h w n k (inr r) =
+      absurd (let l = ap length (sym (n refl) ∙ r.order) in omega (arith, length-append r.front (r.refused ∷ r.back)))
 
 -- an outlet whose lines wait
 module _ {W : Type 0} (hold : W → Holding) where
@@ -244,13 +277,22 @@ module _ {W : Type 0} (hold : W → Holding) where
     taking_same_on : (z : W) → SameOutlet (outlet y) (outlet z) → SameOutlet (outlet x) (outlet z)
     taking_same_on z s = same-on takes breaks state (λ a e b k. k) (λ a e b k. k) (outlet x) (outlet y) (outlet z) taking_same s
 
-    -- what is welcome to it where no lines wait again
-    pub welcome_still : (z : W) → SameOutlet (outlet y) (outlet z) → waiting z ≡ [] → (e : Event)
-        → ((IsWelcome (outlet x).problem e × (waiting x ≡ [])) → (IsWelcome (outlet z).problem e × (waiting z ≡ [])))
-        × ((IsWelcome (outlet z).problem e × (waiting z ≡ [])) → (IsWelcome (outlet x).problem e × (waiting x ≡ [])))
-    welcome_still z s none e =
-        let p : (outlet z).problem ≡ (outlet x).problem = s.problem ∙ taking_same.problem in
-        (λ h. (subst (λ q. IsWelcome q e) (sym p) h.0, none), λ h. (subst (λ q. IsWelcome q e) p h.0, t.none))
+    -- it is as ready as it was where no lines wait again, and the same is welcome to it
+    pub welcome_still : {makes : Bool → ProblemTree → ℕ → Event → List ℕ} {b : Bool} {p : ProblemTree} {lines : List ℕ}
+        → IsReady makes (outlet x).proofs (outlet x).problem (waiting x) → p ≡ (outlet y).problem → b ≡ (outlet y).proofs → lines ≡ [] → (e : Event)
+        → ((IsWelcome (outlet x).problem e × IsReady makes (outlet x).proofs (outlet x).problem (waiting x)) → (IsWelcome p e × IsReady makes b p lines))
+        × ((IsWelcome p e × IsReady makes b p lines) → (IsWelcome (outlet x).problem e × IsReady makes (outlet x).proofs (outlet x).problem (waiting x)))
+    welcome_still {p = p} r same proofs none e =
+        let q : p ≡ (outlet x).problem = same ∙ taking_same.problem in (
+          λ h. (subst (λ o. IsWelcome o e) (sym q) h.0, ready_still r q (proofs ∙ taking_same.proofs) none),
+          λ h. (subst (λ o. IsWelcome o e) q h.0, r),
+        )
+
+    -- what it makes of an event are the event's lines
+    pub taking_makes : {makes : Bool → ProblemTree → ℕ → Event → List ℕ} → IsReady makes (outlet x).proofs (outlet x).problem (waiting x)
+        → (k : ℕ) (e : Event) → AnswersAll (outlet y).problem e → makes (outlet y).proofs (outlet y).problem k e ≡ event_lines (outlet y).proofs
+        (outlet y).problem k e
+    taking_makes r = (ready_still {after = []} r taking_same.problem taking_same.proofs refl).lines
 
     -- the lines that wait are those of events that were taken
     some_done : 0 < length (waiting y) → 0 < length done
@@ -261,14 +303,17 @@ module _ {W : Type 0} (hold : W → Holding) where
             omega (arith, length-append t.flushed (waiting y)))
         by (d ∷ es) e = omega arith
 
-  module _ {x y : W} {events done : List Event} {e : Event} {rest : List Event} (t : Taking hold x events done (e ∷ rest) y) where
+  module _ {x y : W} {events done left : List Event} {e : Event} {rest : List Event} (now : Taking hold x events done left y) (next : left ≡ e ∷ rest) where
+    stands : Taking hold x events done (e ∷ rest) y
+    stands = subst (λ es. Taking hold x events done es y) next now
+
     -- the next event is welcome to it
     pub taking_wants : IsWelcome (outlet y).problem e
-    taking_wants = subst (λ p. IsWelcome p e) (sym (taking_same t).problem) t.wanted.0
+    taking_wants = subst (λ p. IsWelcome p e) (sym (taking_same stands).problem) stands.wanted.0
 
     -- where it is taken, all goes on
-    pub taking_goes_on : (z : W) → Waits (hold y) e (hold z) → Taking hold x events (done ++ e ∷ []) rest z
-    taking_goes_on z w =
+    pub taking_goes_on : (z : W) (more : List Event) → done ++ e ∷ [] ≡ more → Waits (hold y) e (hold z) → Taking hold x events more rest z
+    taking_goes_on z more d w =
         let sunk = (outlet y).written in
         let step : Writes (state y) e (state z) = record {
           same = told_same y z w.same;
@@ -278,48 +323,52 @@ module _ {W : Type 0} (hold : W → Holding) where
               ∙ (append_known-append sunk w.flushed (waiting z)
               ∙ (ap (append_known sunk) w.order ∙ sym (append_known-append sunk (waiting y) (next_lines y e))));
         } in
-        record {
-          some = t.some;
-          none = t.none;
-          order = t.order ∙ sym (append_assoc done (e ∷ []) rest);
-          given = gives_more takes breaks x y z done (e ∷ []) t.given (z, step, refl);
-          wanted = t.wanted.1;
-          flushed = t.flushed ++ w.flushed;
+        subst (λ es. Taking hold x events es rest z) d (record {
+          some = stands.some;
+          none = stands.none;
+          order = stands.order ∙ sym (append_assoc done (e ∷ []) rest);
+          given = gives_more takes breaks x y z done (e ∷ []) stands.given (z, step, refl);
+          wanted = stands.wanted.1;
+          flushed = stands.flushed ++ w.flushed;
           written =
-              w.written ∙ (ap (λ o. append_known o w.flushed) t.written ∙ append_known-append (outlet x).written t.flushed w.flushed);
+              w.written ∙ (ap (λ o. append_known o w.flushed) stands.written ∙ append_known-append (outlet x).written stands.flushed w.flushed);
           lines =
-              append_assoc t.flushed w.flushed (waiting z)
-              ∙ (ap (λ l. t.flushed ++ l) w.order
-              ∙ (sym (append_assoc t.flushed (waiting y) (next_lines y e))
-              ∙ (ap (λ l. l ++ next_lines y e) t.lines ∙ lines-snoc takes breaks state (λ a e b k. k) (λ a e b k. k) (λ a e b k. k) x y done e t.given)));
-        }
+              append_assoc stands.flushed w.flushed (waiting z)
+              ∙ (ap (λ l. stands.flushed ++ l) w.order
+              ∙ (sym (append_assoc stands.flushed (waiting y) (next_lines y e))
+              ∙ (ap (λ l. l ++ next_lines y e) stands.lines ∙ lines-snoc takes breaks state (λ a e b k. k) (λ a e b k. k) (λ a e b k. k) x y done e
+              stands.given)));
+        })
 
     -- where it is refused, so are all of them
     pub taking_breaks : (z : W) → CutsOff (hold y) (waiting y ++ next_lines y e) (hold z) → Refuses takes breaks x events z
     taking_breaks z c =
         let piece = waiting y ++ next_lines y e in
         let text = all_from x (done ++ e ∷ []) in
-        let lines : t.flushed ++ (piece ++ []) ≡ text =
-        ap (λ l. t.flushed ++ l) (append-nil piece)
-        ∙ (sym (append_assoc t.flushed (waiting y) (next_lines y e))
-        ∙ (ap (λ l. l ++ next_lines y e) t.lines ∙ lines-snoc takes breaks state (λ a e b k. k) (λ a e b k. k) (λ a e b k. k) x y done e t.given)) in
-        let front = front_in (outlet x).written (outlet y).written (outlet z).written t.flushed piece [] text t.written lines c.written in
+        let lines : stands.flushed ++ (piece ++ []) ≡ text =
+        ap (λ l. stands.flushed ++ l) (append-nil piece)
+        ∙ (sym (append_assoc stands.flushed (waiting y) (next_lines y e))
+        ∙ (ap (λ l. l ++ next_lines y e) stands.lines ∙ lines-snoc takes breaks state (λ a e b k. k) (λ a e b k. k) (λ a e b k. k) x y done e stands.given)) in
+        let front = front_in (outlet x).written (outlet y).written (outlet z).written stands.flushed piece [] text stands.written lines c.written in
         let shown : AppendsFront (state x).written text (state z).written =
-        subst (λ o. AppendsFront o text (state z).written) (sym (none_wait x t.none))
+        subst (λ o. AppendsFront o text (state z).written) (sym (none_wait x stands.none))
         (subst (λ o. AppendsFront (outlet x).written text o) (sym (none_wait z c.none)) front) in
-        let order : events ≡ (done ++ e ∷ []) ++ rest = t.order ∙ sym (append_assoc done (e ∷ []) rest) in
+        let order : events ≡ (done ++ e ∷ []) ++ rest = stands.order ∙ sym (append_assoc done (e ∷ []) rest) in
         subst (λ es. Refuses takes breaks x es z) (sym order)
-        (refused_in takes breaks state (λ a e b k. k) (λ a e b k. k) (λ a e b k. k) x y z done (e ∷ []) rest t.given (omega arith)
+        (refused_in takes breaks state (λ a e b k. k) (λ a e b k. k) (λ a e b k. k) x y z done (e ∷ []) rest stands.given (omega arith)
         (omega (arith, length-append done (e ∷ []))) (told_same y z c.same) shown)
 
-  module _ {x y : W} {events done : List Event} (t : Taking hold x events done [] y) where
+  module _ {x y : W} {events done left : List Event} (now : Taking hold x events done left y) (last : left ≡ []) where
+    ended : Taking hold x events done [] y
+    ended = subst (λ es. Taking hold x events done es y) last now
+
     all_done : events ≡ done
-    all_done = t.order ∙ append-nil done
+    all_done = ended.order ∙ append-nil done
 
     -- all were taken, and the lines that waited are written
     pub taking_ends : (z : W) → SameOutlet (outlet y) (outlet z) → (outlet z).answers ≡ (outlet y).answers → waiting z ≡ []
         → (outlet z).written ≡ append_known (outlet y).written (waiting y) → Gives takes x events z
-    taking_ends z s a none w = by events all_done t.some
+    taking_ends z s a none w = by events all_done ended.some
       where
         same_written : (state z).written ≡ (state y).written
         same_written = none_wait z none ∙ w
@@ -335,21 +384,21 @@ module _ {W : Type 0} (hold : W → Holding) where
         by : (es : List Event) → es ≡ done → 0 < length es → Gives takes x es z
         by [] e k = absurd (omega arith)
         by (d ∷ es) e k =
-            gives_end takes breaks state (λ a e b k. k) (λ a e b k. k) (λ a e b k. k) x y z d es (subst (λ l. Gives takes x l y) (sym e) t.given) after
+            gives_end takes breaks state (λ a e b k. k) (λ a e b k. k) (λ a e b k. k) x y z d es (subst (λ l. Gives takes x l y) (sym e) ended.given) after
 
     -- or only a prefix of them
     pub taking_cut : (z : W) → 0 < length (waiting y) → SameOutlet (outlet y) (outlet z) → waiting z ≡ []
         → AppendsFront (outlet y).written (waiting y) (outlet z).written → Refuses takes breaks x events z
     taking_cut z some s none w =
         let text = all_from x (done ++ []) in
-        let lines : t.flushed ++ (waiting y ++ []) ≡ text =
-        ap (λ l. t.flushed ++ l) (append-nil (waiting y)) ∙ (t.lines ∙ ap (all_from x) (sym (append-nil done))) in
-        let front = front_in (outlet x).written (outlet y).written (outlet z).written t.flushed (waiting y) [] text t.written lines w in
+        let lines : ended.flushed ++ (waiting y ++ []) ≡ text =
+        ap (λ l. ended.flushed ++ l) (append-nil (waiting y)) ∙ (ended.lines ∙ ap (all_from x) (sym (append-nil done))) in
+        let front = front_in (outlet x).written (outlet y).written (outlet z).written ended.flushed (waiting y) [] text ended.written lines w in
         let shown : AppendsFront (state x).written text (state z).written =
-        subst (λ o. AppendsFront o text (state z).written) (sym (none_wait x t.none))
+        subst (λ o. AppendsFront o text (state z).written) (sym (none_wait x ended.none))
         (subst (λ o. AppendsFront (outlet x).written text o) (sym (none_wait z none)) front) in
-        let more = some_done t some in
-        let order : events ≡ (done ++ []) ++ [] = t.order ∙ sym (append-nil (done ++ [])) in
+        let more = some_done ended some in
+        let order : events ≡ (done ++ []) ++ [] = ended.order ∙ sym (append-nil (done ++ [])) in
         subst (λ es. Refuses takes breaks x es z) (sym order)
-        (refused_in takes breaks state (λ a e b k. k) (λ a e b k. k) (λ a e b k. k) x y z done [] [] t.given (omega arith)
+        (refused_in takes breaks state (λ a e b k. k) (λ a e b k. k) (λ a e b k. k) x y z done [] [] ended.given (omega arith)
         (omega (arith, length-append done [])) (told_same y z s) shown)

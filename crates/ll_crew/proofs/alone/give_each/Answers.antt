@@ -1,3 +1,5 @@
+use Rattle.std.proofs.Common.{ap}
+use Rattle.std.specs.Prelude.{map}
 use Rattle.ll_crew.proofs.AloneLemmas.{alone_starts, alone_wants, alone_goes_on, alone_ends, alone_breaks}
 use Rattle.ll_crew.proofs.alone.give_each.Goals as goal
 
@@ -7,26 +9,32 @@ stretches-init g c =
     c.requires.starts c.requires.welcome
 
 pub give_some-requires-clause-welcome : goal.give_some-requires-clause-welcome
-give_some-requires-clause-welcome g c =
+give_some-requires-clause-welcome g c κs within =
     alone_wants g.O.Outlet.takes g.O.Outlet.breaks g.O.Outlet.welcome g.O.Outlet.faults c.args.out.now c.args.engine.now.problem c.stretches.engine
-    c.stretch.new.engine c.stretches.out c.stretches.counts c.stretches.invariant c.in-Ok.done c.new-events.result.items c.stretch.new.events.items
-    c.new-events.ensures.items c.in-Ok.ensures
+    c.stretch.new.engine c.stretches.out c.stretches.counts c.stretches.invariant c.in-Ok.done (map g.O.Found.Notice.stands_for c.new-events.result.items)
+    (map g.O.Found.Notice.stands_for c.stretch.new.events.items)
+    (ap (map g.O.Found.Notice.stands_for) c.new-events.ensures.items) c.in-Ok.ensures
 
 pub stretches-preserved : goal.stretches-preserved
 stretches-preserved g c =
     let v = c.in-Ok-give_some.ensures in
     alone_goes_on g.O.Outlet.takes g.O.Outlet.breaks g.O.Outlet.welcome g.O.Outlet.faults c.args.out.now c.args.engine.now.problem c.stretches.engine
-    c.stretch.new.engine c.stretches.out c.stretches.counts c.stretches.invariant c.in-Ok.done c.new-events.result.items c.stretch.new.events.items
-    c.new-events.ensures.items c.in-Ok.ensures c.give_some.new.out c.in-Ok-give_some.more v.given v.answers v.reached v.kept
+    c.stretch.new.engine c.stretches.out c.stretches.counts c.stretches.invariant c.in-Ok.done (map g.O.Found.Notice.stands_for c.new-events.result.items)
+    (map g.O.Found.Notice.stands_for c.stretch.new.events.items)
+    (ap (map g.O.Found.Notice.stands_for) c.new-events.ensures.items) c.in-Ok.ensures c.give_some.new.out c.in-Ok-give_some.more v.given v.answers v.reached
+    v.kept
 
 pub returns-then-done-clause-given : goal.returns-then-done-clause-given
 returns-then-done-clause-given g c =
     alone_ends g.O.Outlet.takes g.O.Outlet.breaks g.O.Outlet.welcome g.O.Outlet.faults c.args.out.now c.args.engine.now.problem c.stretches.engine
-    c.stretch.new.engine c.stretches.out c.stretches.counts c.stretches.invariant c.in-Ok.done c.new-events.result.items c.stretch.new.events.items
-    c.new-events.ensures.items c.in-Ok.ensures c.give_some.new.out c.in-Ok-give_some.ensures.given (c.in-Ok.ensures.ended c.if-done.true).0
+    c.stretch.new.engine c.stretches.out c.stretches.counts c.stretches.invariant c.in-Ok.done (map g.O.Found.Notice.stands_for c.new-events.result.items)
+    (map g.O.Found.Notice.stands_for c.stretch.new.events.items)
+    (ap (map g.O.Found.Notice.stands_for) c.new-events.ensures.items) c.in-Ok.ensures c.give_some.new.out c.in-Ok-give_some.ensures.given
+    (c.in-Ok.ensures.ended c.if-done.true).0
 
 pub returns-in-Err-clause-refused : goal.returns-in-Err-clause-refused
 returns-in-Err-clause-refused g c =
     alone_breaks g.O.Outlet.takes g.O.Outlet.breaks g.O.Outlet.welcome g.O.Outlet.faults c.args.out.now c.args.engine.now.problem c.stretches.engine
-    c.stretch.new.engine c.stretches.out c.stretches.counts c.stretches.invariant c.in-Ok.done c.new-events.result.items c.stretch.new.events.items
-    c.new-events.ensures.items c.in-Ok.ensures c.give_some.new.out c.in-Err.ensures.refused
+    c.stretch.new.engine c.stretches.out c.stretches.counts c.stretches.invariant c.in-Ok.done (map g.O.Found.Notice.stands_for c.new-events.result.items)
+    (map g.O.Found.Notice.stands_for c.stretch.new.events.items)
+    (ap (map g.O.Found.Notice.stands_for) c.new-events.ensures.items) c.in-Ok.ensures c.give_some.new.out c.in-Err.ensures.refused

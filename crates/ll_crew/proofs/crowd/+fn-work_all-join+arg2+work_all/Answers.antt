@@ -13,8 +13,8 @@ returns-clause-each g t c =
     let last : Worked c.in-Some.seat c.join-back.result.1 = search rules in
     let before : c.args.crowd.seats.items ≡ c.pop.new.self.items ++ c.in-Some.seat ∷ [] =
     c.pop.ensures.items ∙ ap (λ o. c.pop.new.self.items ++ option_to_list o) c.in-Some.is in
-    let after : c.push_reserved.new.self.items ≡ c.join-back.result.0.items ++ c.join-back.result.1 ∷ [] = c.push_reserved.ensures.items in
-    subst (λ l. EachWorked l c.push_reserved.new.self.items) (sym before)
+    let after : c.push_reserved-2.new.self.items ≡ c.join-back.result.0.items ++ c.join-back.result.1 ∷ [] = c.push_reserved-2.ensures.items in
+    subst (λ l. EachWorked l c.push_reserved-2.new.self.items) (sym before)
     (subst (EachWorked (c.pop.new.self.items ++ c.in-Some.seat ∷ [])) (sym after)
     (each_append c.pop.new.self.items (c.in-Some.seat ∷ []) c.join-back.result.0.items (c.join-back.result.1 ∷ []) front (last, tt)))
 
@@ -23,7 +23,7 @@ join-back-requires-after_bounds g t c κs within =
     let before : c.args.crowd.seats.items ≡ c.pop.new.self.items ++ c.in-Some.seat ∷ [] =
     c.pop.ensures.items ∙ ap (λ o. c.pop.new.self.items ++ option_to_list o) c.in-Some.is in
     let all : Every (CanWork c.args.crowd.pool.now c.args.crowd.problem.now) (c.pop.new.self.items ++ c.in-Some.seat ∷ []) =
-    subst (Every (CanWork c.args.crowd.pool.now c.args.crowd.problem.now)) before c.requires in
+    subst (Every (CanWork c.args.crowd.pool.now c.args.crowd.problem.now)) before c.requires.can in
     let front : Every (CanWork c.args.crowd.pool.now c.args.crowd.problem.now) c.pop.new.self.items =
     every_front (CanWork c.args.crowd.pool.now c.args.crowd.problem.now) c.pop.new.self.items (c.in-Some.seat ∷ []) all in
     let last : Every (CanWork c.args.crowd.pool.now c.args.crowd.problem.now) (c.in-Some.seat ∷ []) =
@@ -33,6 +33,18 @@ join-back-requires-after_bounds g t c κs within =
     subst (CanWork hand.pool.now hand.problem.now) (sym is.seat)
     (subst (λ p. CanWork hand.pool.now p c.in-Some.seat) (sym is.problem)
     (subst (λ p. CanWork p c.args.crowd.problem.now c.in-Some.seat) (sym is.pool) last.0)) in (
-      (search rules, ((λ a m. m), ((λ a m. m), ((search rules, search rules, front), (search rules, search rules))))),
-      ((search rules, held), (search rules, search rules)),
+      (
+        search rules,
+        (
+          (λ a m. m),
+          (
+            (λ a m. m),
+            (
+              (λ a m. m),
+              ((search rules, search rules, front, c.requires.suits), (search rules, search rules, search rules, search rules)),
+            ),
+          ),
+        ),
+      ),
+      ((search rules, held, subst g.E.Notice.suits (sym is.problem) c.requires.suits), (search rules, search rules, search rules, search rules)),
     )

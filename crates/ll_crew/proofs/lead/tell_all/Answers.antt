@@ -1,3 +1,4 @@
+use Rattle.std.specs.Prelude.{map}
 use Rattle.std.proofs.Common.{ap, Err}
 use Rattle.ll_laws.specs.declared.Event.{Event}
 use Rattle.ll_laws.specs.Pool.{Owed}
@@ -17,10 +18,11 @@ returns-in_default g c =
     }
 
 pub give-requires-clause-welcome : goal.give-requires-clause-welcome
-give-requires-clause-welcome g c =
+give-requires-clause-welcome g c κs within =
     let i = c.loop.invariant in
     told_welcome g.O.Outlet.takes g.O.Outlet.breaks g.O.Outlet.welcome g.O.Outlet.faults c.args.job.now.start.now.value c.args.job.now.problem.now
-    c.args.seat.now c.loop.seat c.ready.new.seat c.loop.out c.loop.out c.loop.told c.in-Events.report c.report.inside.events.items
+    c.args.seat.now c.loop.seat c.ready.new.seat c.loop.out c.loop.out c.loop.told c.in-Events.report
+    (map g.O.Found.Notice.stands_for c.report.inside.events.items)
     c.report.inside.inferences
     (ap (λ (o : Owed Event). o.events) c.report.view_is) (ap (λ (o : Owed Event). o.cost) c.report.view_is) c.in-Events.ensures.turn c.requires.seat.problem i.0
     i.1
@@ -30,7 +32,8 @@ loop-preserved g c =
     let i = c.loop.invariant in let ok = c.in-Ok.ensures in (
       i.0,
       told_more g.O.Outlet.takes g.O.Outlet.breaks g.O.Outlet.welcome g.O.Outlet.faults c.args.job.now.start.now.value c.args.job.now.problem.now
-          c.args.seat.now c.loop.seat c.ready.new.seat c.loop.out c.give.new.out c.loop.told c.in-Events.report c.report.inside.events.items
+          c.args.seat.now c.loop.seat c.ready.new.seat c.loop.out c.give.new.out c.loop.told c.in-Events.report
+          (map g.O.Found.Notice.stands_for c.report.inside.events.items)
           c.report.inside.inferences
           (ap (λ (o : Owed Event). o.events) c.report.view_is) (ap (λ (o : Owed Event). o.cost) c.report.view_is) c.in-Events.ensures.turn
           c.requires.seat.problem i.0 i.1
@@ -42,7 +45,8 @@ pub returns-in-Err-clause-left : goal.returns-in-Err-clause-left
 returns-in-Err-clause-left g c = λ f.
     let i = c.loop.invariant in let err = c.in-Err.ensures in
     told_refused g.O.Outlet.takes g.O.Outlet.breaks g.O.Outlet.welcome g.O.Outlet.faults c.args.job.now.start.now.value c.args.job.now.problem.now
-    c.args.seat.now c.loop.seat c.ready.new.seat c.loop.out c.give.new.out c.loop.told c.in-Events.report c.report.inside.events.items
+    c.args.seat.now c.loop.seat c.ready.new.seat c.loop.out c.give.new.out c.loop.told c.in-Events.report
+    (map g.O.Found.Notice.stands_for c.report.inside.events.items)
     c.report.inside.inferences
     (ap (λ (o : Owed Event). o.events) c.report.view_is) (ap (λ (o : Owed Event). o.cost) c.report.view_is) c.in-Events.ensures.turn c.requires.seat.problem i.0
     i.1

@@ -1,5 +1,5 @@
 use Rattle.std.proofs.Common.{◌≡◌, ◌<◌, length, ap, ◌∙◌, arith, rules}
-use Rattle.std.specs.Prelude.{slice_get}
+use Rattle.std.specs.Prelude.{slice_get, map}
 use Rattle.std.specs.Arc.{arc_value}
 use Rattle.ll_freeze.specs.Frozen.{FrozenSight, alternatives_in}
 use Rattle.ll_crew.specs.Leading.{Stands}
@@ -19,8 +19,10 @@ loop-k-preserved g c =
       runs_more (Stands g.O.Outlet.takes g.O.Outlet.breaks g.O.Outlet.welcome g.O.Outlet.faults c.args.job.now.start.now.value c.args.job.now.problem.now
           c.loop-k.seat c.loop-k.out c.loop-k.told) (Stands g.O.Outlet.takes g.O.Outlet.breaks g.O.Outlet.welcome g.O.Outlet.faults
           c.args.job.now.start.now.value c.args.job.now.problem.now c.run_one.new.seat c.run_one.new.out c.run_one.new.told)
-          c.args.seat.now c.loop-k.seat c.run_one.new.seat c.args.events.now.items c.args.inferences (alternatives_in (arc_value c.args.batch.now)) c.loop-k.k
+          c.args.seat.now c.loop-k.seat c.run_one.new.seat (map g.O.Found.Notice.stands_for c.args.events.now.items) c.args.inferences
+          (alternatives_in (arc_value c.args.batch.now)) c.loop-k.k
           at.0
-          c.loop-k.events.items c.run_one.new.events.items c.loop-k.inferences c.in-Some.more c.saturating_add-inferences.result at.1 i.2 one
+          (map g.O.Found.Notice.stands_for c.loop-k.events.items) (map g.O.Found.Notice.stands_for c.run_one.new.events.items) c.loop-k.inferences
+          c.in-Some.more c.saturating_add-inferences.result at.1 i.2 one
           c.saturating_add-inferences.ensures,
     )

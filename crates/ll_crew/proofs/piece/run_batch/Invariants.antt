@@ -1,3 +1,4 @@
+use Rattle.std.specs.Prelude.{map}
 use Rattle.std.proofs.Common.{◌≡◌}
 use Rattle.std.specs.Arc.{arc_value}
 use Rattle.ll_freeze.specs.Frozen.{alternatives_in}
@@ -12,4 +13,5 @@ invariant-loop-k g l =
     × IsKeptOf l.job.problem.now l.kept
     × RunsFirst (Stands g.O.Outlet.takes g.O.Outlet.breaks g.O.Outlet.welcome g.O.Outlet.faults l.job.start.now.value l.job.problem.now l.seat l.out l.told)
     l.initial.seat l.seat
-    l.initial.events.items l.initial.inferences (alternatives_in (arc_value l.batch)) l.k l.events.items l.inferences
+    (map g.O.Found.Notice.stands_for l.initial.events.items) l.initial.inferences (alternatives_in (arc_value l.batch)) l.k
+    (map g.O.Found.Notice.stands_for l.events.items) l.inferences

@@ -1,3 +1,4 @@
+use Rattle.std.specs.Prelude.{map}
 use Rattle.std.proofs.Common.{ap, ◌∙◌}
 use Rattle.std.specs.Arc.{arc_value}
 use Rattle.ll_laws.specs.Search.{cut_count}
@@ -14,7 +15,8 @@ returns-then-branch-clause-ends g c =
     c.args.job.now.problem.now c.run.new.seat c.run.new.out c.run.new.told)
     (Stopped g.O.Outlet.takes g.O.Outlet.breaks g.O.Outlet.welcome g.O.Outlet.faults c.args.job.now.start.now.value c.args.job.now.problem.now c.run.new.out
     c.run.new.told)
-    c.args.told.now.leads c.args.job.now.problem.now c.in_ok-run.field-0 c.in-Back.batch c.args.seat.now c.run.new.seat c.run.new.events.items c.run.new.engine
+    c.args.told.now.leads c.args.job.now.problem.now c.in_ok-run.field-0 c.in-Back.batch c.args.seat.now c.run.new.seat
+    (map g.O.Found.Notice.stands_for c.run.new.events.items) c.run.new.engine
     c.in-Back.is
     c.in_ok-run.ensures.ran in
     let alone = c.in_ok-run_alone-in-Back.ensures.done c.if-branch.true in let go = alone.goes in (
@@ -24,7 +26,8 @@ returns-then-branch-clause-ends g c =
           c.run.new.seat c.run.new.out c.run.new.told)
           (Stands g.O.Outlet.takes g.O.Outlet.breaks g.O.Outlet.welcome g.O.Outlet.faults c.args.job.now.start.now.value c.args.job.now.problem.now
           c.run_alone.new.seat c.run_alone.new.out c.run_alone.new.told) first.0 go,
-      all_lacks c.run.new.seat.mine.piece c.run_alone.new.seat.mine.piece c.run.new.events.items c.run_alone.new.events.items c.run.new.engine
+      all_lacks c.run.new.seat.mine.piece c.run_alone.new.seat.mine.piece (map g.O.Found.Notice.stands_for c.run.new.events.items)
+          (map g.O.Found.Notice.stands_for c.run_alone.new.events.items) c.run.new.engine
           (alternatives_in (arc_value c.in-Back.batch)) c.cost-then-branch.result go.piece first.1 alone.whole
           (ap cut_count c.cost-then-branch.ensures ∙ alone.made),
       first.2,

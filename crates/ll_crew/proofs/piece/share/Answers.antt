@@ -1,7 +1,11 @@
-use Rattle.std.proofs.Common.{◌∙◌, le_trans}
-use Rattle.ll_crew.proofs.Calms.{calm_on}
+use Rattle.std.specs.Prelude.{map}
+use Rattle.std.proofs.Common.{◌∙◌, refl, le_refl, le_trans}
+use Rattle.ll_crew.proofs.Calms.{calm_itself, calm_on}
 use Rattle.ll_crew.proofs.Sharing.{published}
 use Rattle.ll_crew.proofs.piece.share.Goals as goal
+
+pub points-init : goal.points-init
+points-init g c = (calm_itself c.args.seat.now, refl, le_refl _, c.requires.owes)
 
 pub returns-in_err-share_oldest-clause-calm : goal.returns-in_err-share_oldest-clause-calm
 returns-in_err-share_oldest-clause-calm g c = let i = c.points.invariant in
@@ -20,7 +24,8 @@ returns-in-Back-clause-calm g c = let i = c.points.invariant in calm_on c.args.s
 pub points-preserved : goal.points-preserved
 points-preserved g c =
     let i = c.points.invariant in
-    let s = published c.share_oldest.new.seat.mine.piece c.args.events.now.items c.points.engine c.share_oldest.new.engine c.in_ok-share_oldest.field-0
+    let s = published c.share_oldest.new.seat.mine.piece (map g.O.Found.Notice.stands_for c.args.events.now.items) c.points.engine c.share_oldest.new.engine
+    c.in_ok-share_oldest.field-0
     c.in-Published.is c.in_ok-share_oldest.ensures.owes in
     let o = s.0 in
     (calm_on c.args.seat.now c.points.seat c.share_oldest.new.seat i.0 c.share_oldest.ensures.calm, o.problem ∙ i.1, le_trans o.work i.2, o.owes)

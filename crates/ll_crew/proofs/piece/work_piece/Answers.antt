@@ -1,3 +1,4 @@
+use Rattle.std.specs.Prelude.{map}
 use Rattle.std.proofs.Common.{◌∙◌}
 use Rattle.ll_crew.specs.Turns.{Stays}
 use Rattle.ll_crew.specs.Leading.{Stands, Stopped}
@@ -8,11 +9,12 @@ use Rattle.ll_crew.proofs.Claiming.{some_of, stays_out}
 use Rattle.ll_crew.proofs.piece.work_piece.Goals as goal
 
 pub tell-requires-clause-stands : goal.tell-requires-clause-stands
-tell-requires-clause-stands g c =
+tell-requires-clause-stands g c κs within =
     let r =
     some_of (Reports (Stands g.O.Outlet.takes g.O.Outlet.breaks g.O.Outlet.welcome g.O.Outlet.faults c.args.job.now.start.now.value
     c.args.job.now.problem.now c.run_piece.new.seat c.run_piece.new.out c.run_piece.new.told) c.args.seat.now c.run_piece.new.seat
-    c.run_piece.new.events.items) c.in_ok-inferences.field-0 c.in-Some.inferences c.in-Some.is c.in_ok-inferences.ensures.some in
+    (map g.O.Found.Notice.stands_for c.run_piece.new.events.items)) c.in_ok-inferences.field-0 c.in-Some.inferences c.in-Some.is
+    c.in_ok-inferences.ensures.some in
     let st = r.stays in let same = st.same in let seat = c.requires.seat in
     stands_calm g.O.Outlet.takes g.O.Outlet.breaks g.O.Outlet.welcome g.O.Outlet.faults c.args.job.now.start.now.value c.args.job.now.problem.now
     c.run_piece.new.seat c.report.new.seat c.run_piece.new.out c.run_piece.new.told (same.problem ∙ seat.problem)
@@ -23,7 +25,8 @@ returns-clause-done g c = λ e.
     let r =
     some_of (Reports (Stands g.O.Outlet.takes g.O.Outlet.breaks g.O.Outlet.welcome g.O.Outlet.faults c.args.job.now.start.now.value
     c.args.job.now.problem.now c.run_piece.new.seat c.run_piece.new.out c.run_piece.new.told) c.args.seat.now c.run_piece.new.seat
-    c.run_piece.new.events.items) c.in_ok-inferences.field-0 c.in-Some.inferences c.in-Some.is c.in_ok-inferences.ensures.some in
+    (map g.O.Found.Notice.stands_for c.run_piece.new.events.items)) c.in_ok-inferences.field-0 c.in-Some.inferences c.in-Some.is
+    c.in_ok-inferences.ensures.some in
     let seat = c.requires.seat in
     let st : Stays (Stands g.O.Outlet.takes g.O.Outlet.breaks g.O.Outlet.welcome g.O.Outlet.faults c.args.job.now.start.now.value c.args.job.now.problem.now
     c.report.new.seat c.run_piece.new.out c.run_piece.new.told) c.args.seat.now c.report.new.seat =
@@ -44,7 +47,8 @@ returns-clause-left g c = λ e.
     let r =
     some_of (Reports (Stands g.O.Outlet.takes g.O.Outlet.breaks g.O.Outlet.welcome g.O.Outlet.faults c.args.job.now.start.now.value
     c.args.job.now.problem.now c.run_piece.new.seat c.run_piece.new.out c.run_piece.new.told) c.args.seat.now c.run_piece.new.seat
-    c.run_piece.new.events.items) c.in_ok-inferences.field-0 c.in-Some.inferences c.in-Some.is c.in_ok-inferences.ensures.some in
+    (map g.O.Found.Notice.stands_for c.run_piece.new.events.items)) c.in_ok-inferences.field-0 c.in-Some.inferences c.in-Some.is
+    c.in_ok-inferences.ensures.some in
     let seat = c.requires.seat in
     let st : Stays (Stands g.O.Outlet.takes g.O.Outlet.breaks g.O.Outlet.welcome g.O.Outlet.faults c.args.job.now.start.now.value c.args.job.now.problem.now
     c.report.new.seat c.run_piece.new.out c.run_piece.new.told) c.args.seat.now c.report.new.seat =

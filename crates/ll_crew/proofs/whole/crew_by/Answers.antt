@@ -11,9 +11,9 @@ pub search-requires-clause-leads : goal.search-requires-clause-leads
 search-requires-clause-leads g c κs within =
     let root : FrozenSight = opening c.args.problem.now c.in-Ok.root.base in
     let f = c.seats.ensures.first in
-    let is : arc_value c.in-Ok-new.root ≡ root = c.in-Ok-new.ensures.ok ∙ c.in-Ok.ensures in
+    let is : arc_value c.in-Ok-root_of.root ≡ root = c.in-Ok-root_of.ensures ∙ c.in-Ok.ensures in
     let seen : c.seats.new.first.mine.seen ≡ opens root c.args.workers =
-    f.3 ∙ (ap (λ (s : Sat). s.mine.seen) c.in-Ok-new-2.ensures.seat ∙ ap (λ n. opens n c.args.workers) is) in
+    f.3 ∙ (ap (λ (s : Sat). s.mine.seen) c.in-Ok-new.ensures.seat ∙ ap (λ n. opens n c.args.workers) is) in
     subst (λ p. Leads g.O.Outlet.takes g.O.Outlet.breaks g.O.Outlet.welcome g.O.Outlet.faults c.args.out.now c.args.problem.now p c.args.out.now
     (record { answers = 0; reached = 0; inferences = 0 })) (sym seen)
     (leads_first g.O.Outlet.takes g.O.Outlet.breaks g.O.Outlet.welcome g.O.Outlet.faults c.args.out.now c.args.problem.now root c.args.workers

@@ -6,7 +6,7 @@ use Rattle.ll_crew.proofs.Claiming.{stays_on, claim_stands, claim_stays, claim_e
 use Rattle.ll_crew.proofs.worker.claim_one.Goals as goal
 
 pub work_piece-requires-clause-stands : goal.work_piece-requires-clause-stands
-work_piece-requires-clause-stands g c =
+work_piece-requires-clause-stands g c κs within =
     let can = c.requires.seat in let seat = can.seat in
     claim_stands g.O.Outlet.takes g.O.Outlet.breaks g.O.Outlet.welcome g.O.Outlet.faults c.args.job.now.start.now.value c.args.job.now.problem.now
     (claims.Work c.in-Work.piece c.in-Work.batch c.in-Work.k) c.args.seat.now c.claim.new.seat c.args.out.now c.args.told.now c.in-Work.ensures.turn
@@ -27,7 +27,7 @@ returns-then-branch-clause-went g c =
     )
 
 pub tell-requires-clause-stands : goal.tell-requires-clause-stands
-tell-requires-clause-stands g c =
+tell-requires-clause-stands g c κs within =
     let can = c.requires.seat in let seat = can.seat in
     claim_stands g.O.Outlet.takes g.O.Outlet.breaks g.O.Outlet.welcome g.O.Outlet.faults c.args.job.now.start.now.value c.args.job.now.problem.now
     (claims.Idle c.in-Idle.busy) c.args.seat.now c.claim.new.seat c.args.out.now c.args.told.now c.in-Idle.ensures.turn seat.problem c.requires.stands

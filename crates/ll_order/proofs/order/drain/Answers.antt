@@ -1,5 +1,5 @@
 use Rattle.std.proofs.Common.{◌≡◌, ℕ, ◌+◌, ◌∙◌, sym, ap, subst, refl, arith, le_refl, le_trans, slice_get, Some}
-use Rattle.std.specs.Prelude.{count_by}
+use Rattle.std.specs.Prelude.{count_by, map}
 use Rattle.ll_laws.specs.declared.Event.{Event}
 use Rattle.ll_laws.specs.Pool.{Owed, Taken, Piece, PoolData}
 use Rattle.ll_laws.specs.Search.{cut_count, is_answer, is_reached}
@@ -24,15 +24,15 @@ give-requires-clause-welcome g c =
     let r = c.in-Events.ensures in let i = c.loop-report.invariant in let w = i.1 in
     let now = events_now g.N.Batch.alternatives g.O.Outlet.takes g.O.Outlet.breaks _ c.loop-report.pool c.ready.new.self _ c.loop-report.out c.loop-report.out
     c.loop-report.counts c.loop-report.counts c.in-Events.report r.shaped r.event i.0 in
-    let told : c.report.inside.events.items ≡ c.in-Events.report.events = ap (λ (o : Owed Event). o.events) c.report.view_is in
-    subst (Every (g.O.Outlet.welcome c.loop-report.out)) (sym told)
+    let told : map g.O.Found.Notice.stands_for c.report.inside.events.items ≡ c.in-Events.report.events = ap (λ (o : Owed Event). o.events) c.report.view_is in
+    λ _ _. subst (Every (g.O.Outlet.welcome c.loop-report.out)) (sym told)
     (every_front (g.O.Outlet.welcome c.loop-report.out) c.in-Events.report.events (events_left g.N.Batch.alternatives c.ready.new.self)
     (subst (Every (g.O.Outlet.welcome c.loop-report.out)) now w.wanted))
 
 pub returns-in-Err-clause-refused : goal.returns-in-Err-clause-refused
 returns-in-Err-clause-refused g c =
     let r = c.in-Events.ensures in let i = c.loop-report.invariant in
-    let told : c.report.inside.events.items ≡ c.in-Events.report.events = ap (λ (o : Owed Event). o.events) c.report.view_is in
+    let told : map g.O.Found.Notice.stands_for c.report.inside.events.items ≡ c.in-Events.report.events = ap (λ (o : Owed Event). o.events) c.report.view_is in
     drained_refused g.N.Batch.alternatives g.O.Outlet.takes g.O.Outlet.breaks _ c.loop-report.pool c.ready.new.self _ c.loop-report.out c.give.new.out
     c.loop-report.counts c.loop-report.counts c.in-Events.report r.shaped r.event i.0
     (subst (λ l. Refuses g.O.Outlet.takes g.O.Outlet.breaks c.loop-report.out l c.give.new.out) told c.in-Err.ensures.refused)
@@ -55,7 +55,7 @@ loop-report-preserved g c =
     let r = c.in-Events.ensures in let i = c.loop-report.invariant in let w = i.1 in
     let now = events_now g.N.Batch.alternatives g.O.Outlet.takes g.O.Outlet.breaks _ c.loop-report.pool c.ready.new.self _ c.loop-report.out c.loop-report.out
     c.loop-report.counts c.loop-report.counts c.in-Events.report r.shaped r.event i.0 in
-    let told : c.report.inside.events.items ≡ c.in-Events.report.events = ap (λ (o : Owed Event). o.events) c.report.view_is in
+    let told : map g.O.Found.Notice.stands_for c.report.inside.events.items ≡ c.in-Events.report.events = ap (λ (o : Owed Event). o.events) c.report.view_is in
     let cost : c.report.inside.inferences ≡ c.in-Events.report.cost = ap (λ (o : Owed Event). o.cost) c.report.view_is in
     let ok = c.in-Ok.ensures in
     let kept = ok.welcome_kept in (

@@ -4,7 +4,7 @@ use Rattle.ll_laws.specs.Problem.{problem_events}
 use Rattle.ll_first.specs.Upto.{first_of}
 use Rattle.ll_top.specs.Outcome.{text_of_run}
 use Rattle.ll_top.specs.Proved.{end_of_run}
-use Rattle.ll_top.specs.Running.{IsWelcome, told_with}
+use Rattle.ll_top.specs.Running.{IsWelcome, IsReady, told_with}
 use Rattle.ll_top.proofs.calls.RunLemmas.{welcome-all, prefix-same, lines-begun}
 use Rattle.ll_top.proofs.calls.FirstRunLemmas.{first-same, first-written}
 use Rattle.ll_top.proofs.calls.ProvedLemmas.{told-text}
@@ -13,13 +13,14 @@ use Rattle.ll_top.proofs.first_run.give_front.Goals as goal
 
 pub crew_first-requires-clause-welcome : goal.crew_first-requires-clause-welcome
 crew_first-requires-clause-welcome g c κs within =
-    each_with _ (IsWelcome c.args.out.now.out.problem.now) (problem_events c.args.problem.now) c.requires.none
+    each_with _ (IsWelcome c.args.out.now.out.problem.now) (problem_events c.args.problem.now) c.requires.ready
     (subst (λ p. Every (IsWelcome p) (problem_events c.args.problem.now)) (sym c.requires.problem) (welcome-all c.answers_are_shown.ensures _ c.requires.valid))
 
 pub returns-in-Ok-clause-none : goal.returns-in-Ok-clause-none
 returns-in-Ok-clause-none g c =
-    none_taken _ (λ w. w.out.problem.now) (λ w. w.out.waiting.now.items) _ _
-    (problem_events c.args.problem.now) (first_of (problem_events c.args.problem.now) c.args.out.now.limit) c.requires.none
+    none_taken (λ w. w.out.problem.now) (λ w. w.out.waiting.now.items)
+    (λ w. IsReady g.E.Lined.makes w.out.proofs w.out.problem.now w.out.waiting.now.items) (λ w r. r.none) _ _ _
+    (problem_events c.args.problem.now) (first_of (problem_events c.args.problem.now) c.args.out.now.limit) c.requires.ready
     (subst (λ p. Every (IsWelcome p) (problem_events c.args.problem.now)) (sym c.requires.problem) (welcome-all c.answers_are_shown.ensures _ c.requires.valid))
     (λ e. ap (λ l. first_of l c.args.out.now.limit) e ∙ first-none c.args.out.now.limit)
     c.in-Ok.ensures.welcome_kept c.in-Ok.ensures.given
@@ -33,7 +34,7 @@ returns-in-Ok-clause-same_reference g c =
 
 pub returns-in-Ok-clause-lines : goal.returns-in-Ok-clause-lines
 returns-in-Ok-clause-lines g c =
-    shown_all _ _ _ _ _ c.requires.none (returns-in-Ok-clause-none g c)
+    shown_all _ _ _ _ _ c.requires.ready.none (returns-in-Ok-clause-none g c)
     (first-written
     (λ w. told_with w.out.problem.now w.out.proofs w.out.answers (g.O.Sink.written w.out.sink.now) (g.O.Sink.faults w.out.sink.now)
     w.out.sink.ghost_name w.out.waiting.now.items)
@@ -41,8 +42,9 @@ returns-in-Ok-clause-lines g c =
 
 pub returns-in-Err-Write-clause-none : goal.returns-in-Err-Write-clause-none
 returns-in-Err-Write-clause-none g c =
-    none_given _ _ (λ w. w.out.problem.now) (λ w. w.out.waiting.now.items) _ _
-    (problem_events c.args.problem.now) (first_of (problem_events c.args.problem.now) c.args.out.now.limit) c.requires.none
+    none_given (λ w. w.out.problem.now) (λ w. w.out.waiting.now.items)
+    (λ w. IsReady g.E.Lined.makes w.out.proofs w.out.problem.now w.out.waiting.now.items) (λ w r. r.none) _ _ _ _
+    (problem_events c.args.problem.now) (first_of (problem_events c.args.problem.now) c.args.out.now.limit) c.requires.ready
     (subst (λ p. Every (IsWelcome p) (problem_events c.args.problem.now)) (sym c.requires.problem) (welcome-all c.answers_are_shown.ensures _ c.requires.valid))
     (λ e. ap (λ l. first_of l c.args.out.now.limit) e ∙ first-none c.args.out.now.limit)
     c.in-Err-Write.ensures.welcome_kept c.in-Err-Write.ensures.refused
@@ -56,7 +58,7 @@ returns-in-Err-Write-clause-same_reference g c =
 
 pub returns-in-Err-Write-clause-prefix : goal.returns-in-Err-Write-clause-prefix
 returns-in-Err-Write-clause-prefix g c =
-    shown_front _ _ _ _ _ c.requires.none (returns-in-Err-Write-clause-none g c)
+    shown_front _ _ _ _ _ c.requires.ready.none (returns-in-Err-Write-clause-none g c)
     (lines-begun _ _
     (λ w. told_with w.out.problem.now w.out.proofs w.out.answers (g.O.Sink.written w.out.sink.now) (g.O.Sink.faults w.out.sink.now)
     w.out.sink.ghost_name w.out.waiting.now.items)
@@ -66,8 +68,9 @@ returns-in-Err-Write-clause-prefix g c =
 
 pub returns-in-Err-OutOfMemory-clause-none : goal.returns-in-Err-OutOfMemory-clause-none
 returns-in-Err-OutOfMemory-clause-none g c =
-    none_given _ _ (λ w. w.out.problem.now) (λ w. w.out.waiting.now.items) _ _
-    (problem_events c.args.problem.now) (first_of (problem_events c.args.problem.now) c.args.out.now.limit) c.requires.none
+    none_given (λ w. w.out.problem.now) (λ w. w.out.waiting.now.items)
+    (λ w. IsReady g.E.Lined.makes w.out.proofs w.out.problem.now w.out.waiting.now.items) (λ w r. r.none) _ _ _ _
+    (problem_events c.args.problem.now) (first_of (problem_events c.args.problem.now) c.args.out.now.limit) c.requires.ready
     (subst (λ p. Every (IsWelcome p) (problem_events c.args.problem.now)) (sym c.requires.problem) (welcome-all c.answers_are_shown.ensures _ c.requires.valid))
     (λ e. ap (λ l. first_of l c.args.out.now.limit) e ∙ first-none c.args.out.now.limit)
     c.in-Err-OutOfMemory.ensures.welcome_kept c.in-Err-OutOfMemory.ensures.refused
@@ -81,7 +84,7 @@ returns-in-Err-OutOfMemory-clause-same_reference g c =
 
 pub returns-in-Err-OutOfMemory-clause-prefix : goal.returns-in-Err-OutOfMemory-clause-prefix
 returns-in-Err-OutOfMemory-clause-prefix g c =
-    shown_front _ _ _ _ _ c.requires.none (returns-in-Err-OutOfMemory-clause-none g c)
+    shown_front _ _ _ _ _ c.requires.ready.none (returns-in-Err-OutOfMemory-clause-none g c)
     (lines-begun _ _
     (λ w. told_with w.out.problem.now w.out.proofs w.out.answers (g.O.Sink.written w.out.sink.now) (g.O.Sink.faults w.out.sink.now)
     w.out.sink.ghost_name w.out.waiting.now.items)

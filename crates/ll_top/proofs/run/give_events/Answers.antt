@@ -1,19 +1,21 @@
 use Rattle.std.proofs.Common.{subst, sym}
 use Rattle.ll_laws.specs.Sound.{Every}
 use Rattle.ll_laws.specs.Problem.{problem_events}
-use Rattle.ll_top.specs.Running.{IsWelcome, told_with}
+use Rattle.ll_top.specs.Running.{IsWelcome, IsReady, told_with}
 use Rattle.ll_top.proofs.calls.RunLemmas.{welcome-all, events-same, prefix-same, lines-written, text-begun}
 use Rattle.ll_top.proofs.calls.WaitingLemmas.{each_with, none_taken, none_given, shown_all, shown_front}
 use Rattle.ll_top.proofs.run.give_events.Goals as goal
 
 pub crew_with-requires-clause-welcome : goal.crew_with-requires-clause-welcome
 crew_with-requires-clause-welcome g c κs within =
-    each_with _ (IsWelcome c.args.out.now.problem.now) (problem_events c.args.problem.now) c.requires.none
+    each_with _ (IsWelcome c.args.out.now.problem.now) (problem_events c.args.problem.now) c.requires.ready
     (subst (λ p. Every (IsWelcome p) (problem_events c.args.problem.now)) (sym c.requires.problem) (welcome-all c.answers_are_shown.ensures _ c.requires.valid))
 
 pub returns-in-Ok-clause-none : goal.returns-in-Ok-clause-none
 returns-in-Ok-clause-none g c =
-    none_taken _ (λ w. w.problem.now) (λ w. w.waiting.now.items) _ _ (problem_events c.args.problem.now) (problem_events c.args.problem.now) c.requires.none
+    none_taken (λ w. w.problem.now) (λ w. w.waiting.now.items)
+    (λ w. IsReady g.E.Lined.makes w.proofs w.problem.now w.waiting.now.items) (λ w r. r.none) _ _ _ (problem_events c.args.problem.now)
+    (problem_events c.args.problem.now) c.requires.ready
     (subst (λ p. Every (IsWelcome p) (problem_events c.args.problem.now)) (sym c.requires.problem) (welcome-all c.answers_are_shown.ensures _ c.requires.valid))
     (λ e. e) c.in-Ok.ensures.welcome_kept c.in-Ok.ensures.given
 
@@ -26,7 +28,7 @@ returns-in-Ok-clause-same_reference g c =
 
 pub returns-in-Ok-clause-lines : goal.returns-in-Ok-clause-lines
 returns-in-Ok-clause-lines g c =
-    shown_all _ _ _ _ _ c.requires.none (returns-in-Ok-clause-none g c)
+    shown_all _ _ _ _ _ c.requires.ready.none (returns-in-Ok-clause-none g c)
     (lines-written _ _
     (λ w. told_with w.problem.now w.proofs w.answers (g.O.Sink.written w.sink.now) (g.O.Sink.faults w.sink.now)
     w.sink.ghost_name w.waiting.now.items)
@@ -34,7 +36,9 @@ returns-in-Ok-clause-lines g c =
 
 pub returns-in-Err-Write-clause-none : goal.returns-in-Err-Write-clause-none
 returns-in-Err-Write-clause-none g c =
-    none_given _ _ (λ w. w.problem.now) (λ w. w.waiting.now.items) _ _ (problem_events c.args.problem.now) (problem_events c.args.problem.now) c.requires.none
+    none_given (λ w. w.problem.now) (λ w. w.waiting.now.items)
+    (λ w. IsReady g.E.Lined.makes w.proofs w.problem.now w.waiting.now.items) (λ w r. r.none) _ _ _ _ (problem_events c.args.problem.now)
+    (problem_events c.args.problem.now) c.requires.ready
     (subst (λ p. Every (IsWelcome p) (problem_events c.args.problem.now)) (sym c.requires.problem) (welcome-all c.answers_are_shown.ensures _ c.requires.valid))
     (λ e. e) c.in-Err-Write.ensures.welcome_kept c.in-Err-Write.ensures.refused
 
@@ -47,7 +51,7 @@ returns-in-Err-Write-clause-same_reference g c =
 
 pub returns-in-Err-Write-clause-prefix : goal.returns-in-Err-Write-clause-prefix
 returns-in-Err-Write-clause-prefix g c =
-    shown_front _ _ _ _ _ c.requires.none (returns-in-Err-Write-clause-none g c)
+    shown_front _ _ _ _ _ c.requires.ready.none (returns-in-Err-Write-clause-none g c)
     (text-begun _ _
     (λ w. told_with w.problem.now w.proofs w.answers (g.O.Sink.written w.sink.now) (g.O.Sink.faults w.sink.now)
     w.sink.ghost_name w.waiting.now.items)
@@ -55,7 +59,9 @@ returns-in-Err-Write-clause-prefix g c =
 
 pub returns-in-Err-OutOfMemory-clause-none : goal.returns-in-Err-OutOfMemory-clause-none
 returns-in-Err-OutOfMemory-clause-none g c =
-    none_given _ _ (λ w. w.problem.now) (λ w. w.waiting.now.items) _ _ (problem_events c.args.problem.now) (problem_events c.args.problem.now) c.requires.none
+    none_given (λ w. w.problem.now) (λ w. w.waiting.now.items)
+    (λ w. IsReady g.E.Lined.makes w.proofs w.problem.now w.waiting.now.items) (λ w r. r.none) _ _ _ _ (problem_events c.args.problem.now)
+    (problem_events c.args.problem.now) c.requires.ready
     (subst (λ p. Every (IsWelcome p) (problem_events c.args.problem.now)) (sym c.requires.problem) (welcome-all c.answers_are_shown.ensures _ c.requires.valid))
     (λ e. e) c.in-Err-OutOfMemory.ensures.welcome_kept c.in-Err-OutOfMemory.ensures.refused
 
@@ -68,7 +74,7 @@ returns-in-Err-OutOfMemory-clause-same_reference g c =
 
 pub returns-in-Err-OutOfMemory-clause-prefix : goal.returns-in-Err-OutOfMemory-clause-prefix
 returns-in-Err-OutOfMemory-clause-prefix g c =
-    shown_front _ _ _ _ _ c.requires.none (returns-in-Err-OutOfMemory-clause-none g c)
+    shown_front _ _ _ _ _ c.requires.ready.none (returns-in-Err-OutOfMemory-clause-none g c)
     (text-begun _ _
     (λ w. told_with w.problem.now w.proofs w.answers (g.O.Sink.written w.sink.now) (g.O.Sink.faults w.sink.now)
     w.sink.ghost_name w.waiting.now.items)

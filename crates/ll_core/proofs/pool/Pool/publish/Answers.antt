@@ -120,8 +120,10 @@ returns-in_default-reserve-2-clause-event g c =
 
 pub take_room-requires : goal.take_room-requires
 take_room-requires g c =
-    let o = subst (λ v. IsOpenAt v c.args.piece) (sym c.self.view_is) c.requires.open in
-    (c.type_bounds.send-N, (c.type_bounds.sync-N, slot_below c.self.inside.pieces.items c.args.piece o.0 o.1))
+    let o = subst (λ v. IsOpenAt v c.args.piece) (sym c.self.view_is) c.requires.open in (
+      c.type_bounds.send-N,
+      (c.type_bounds.send-N-Found, (c.type_bounds.sync-N, (c.type_bounds.sync-N-Found, slot_below c.self.inside.pieces.items c.args.piece o.0 o.1))),
+    )
 
 pub invariant_of-self-in_default-take_room : goal.invariant_of-self-in_default-take_room
 invariant_of-self-in_default-take_room g c =
@@ -192,7 +194,7 @@ index_mut-requires g c =
 
 pub push_reserved-requires-3 : goal.push_reserved-requires-3
 push_reserved-requires-3 g c =
-    subst (λ (s : Slot). vec_len s.published < vec_capacity s.published) (sym c.index_mut.ensures.value)
+    subst (λ (s : Slot _). vec_len s.published < vec_capacity s.published) (sym c.index_mut.ensures.value)
     (c.in-Ok-take_room.ensures.ok.3 c.index_mut.result.now)
 
 pub returns-clause-event : goal.returns-clause-event

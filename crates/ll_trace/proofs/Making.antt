@@ -149,6 +149,10 @@ some-made (ClauseLine n k vs ps) ts h = let m = clause-made n k vs ps ts [] h in
     none x xs e = cc
 some-made _ ts h = cc
 
+pub made-some : (l : Line) (vs ts : List Tree) → put l ts ≡ Some vs → 0 < length vs
+made-some l [] ts h = absurd (some-made l ts h)
+made-some l (v ∷ vs) ts h = omega arith
+
 -- the list from a place on begins with the item there
 pub drop_item : {A : Type 0} (xs : List A) (k : ℕ) (x : A) → k < length xs → x ≡ get_or xs k x → drop k xs ≡ x ∷ drop (k + 1) xs
 drop_item {A = A} xs k x h e = let q : suc k ≡ k + 1 = omega arith in

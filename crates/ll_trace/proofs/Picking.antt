@@ -20,7 +20,7 @@ use Rattle.ll_laws.specs.Shows.{UseNode, ClauseNode, Parts, NoParts, BoundedPart
 use Rattle.ll_laws.specs.ShownLines.{part_line}
 use Rattle.ll_trace.specs.declared.picks.Pick.{Pick}
 use Rattle.ll_trace.specs.Picks.{picks_of, picks_of_parts, all_picks, is_pick, is_used_between, level_of_part, IsPickStep}
-use Rattle.ll_trace.proofs.Making.{IsUnary, IsBinary, cut-step, cut-end, clause-made, first-made, some-made, IsCutStep, drop_item}
+use Rattle.ll_trace.proofs.Making.{IsUnary, IsBinary, cut-step, cut-end, clause-made, first-made, made-some, IsCutStep, drop_item}
 
 both : (n a : ℕ) (xs ys : List (Option Pick)) → list_any (is_pick n a) xs ≡ false → list_any (is_pick n a) ys ≡ false
     → list_any (is_pick n a) (xs ++ ys) ≡ false
@@ -236,11 +236,7 @@ pub picks-step : (l : Line) (ls : List Line) (x : Tree) (done more : List (Optio
     (b : ℕ) → pending ≡ rest ++ option_to_list top → b ≡ unwrap_or top 0 → more ≡ done ++ pick ∷ [] → (0 < length pending → IsSome top)
     → ((ts vs : List Tree) → put l ts ≡ Some vs → IsPickStep b rest new pick ts vs) → PicksLeft (l ∷ ls) x done pending → PicksLeft ls x more new
 picks-step l ls x done more pick pending rest new None b e f g v go w = let m = first-made l ls w.trees w.is in let k = w.count in
-    let z = full w.trees m.trees m.made in let q = v (omega (arith, k, z)) in cc
-  where
-    full : (vs ts : List Tree) → put l ts ≡ Some vs → 0 < length vs
-    full [] ts h = absurd (some-made l ts h)
-    full (v ∷ vs) ts h = omega arith
+    let z = made-some l w.trees m.trees m.made in let q = v (omega (arith, k, z)) in cc
 picks-step l ls x done more pick pending rest new (Some a) b e f g v go w =
     let m = first-made l ls w.trees w.is in let s = go m.trees w.trees m.made in
     let r : reverse pending ≡ b ∷ reverse rest = ap reverse e ∙ (newest rest a ∙ ap (λ i. i ∷ reverse rest) (sym f)) in

@@ -33,7 +33,7 @@ use Rattle.ll_lists.proofs.CallerLemmas.{reverse-push as newest}
 use Rattle.ll_trace.specs.Shares.{GivesRule, GivesTensor, GivesAnywhere}
 use Rattle.ll_trace.specs.Spans.{AreSpans}
 use Rattle.ll_trace.proofs.Making.{IsPassing, left-passing, right-passing, use-passing, imp-passing, forall-passing, exists-passing, IsCutStep, cut-step}
-use Rattle.ll_trace.proofs.Making.{IsCutEnd, cut-end, IsClauseMade, clause-made, first-made, some-made}
+use Rattle.ll_trace.proofs.Making.{IsCutEnd, cut-end, IsClauseMade, clause-made, first-made, made-some}
 use Rattle.ll_trace.proofs.Picking.{picks-count, parts-count, picks-uses, parts-uses, used-here, drop-on}
 
 filter-same : (f g : ℕ → Bool) → ((n : ℕ) → f n ≡ g n) → (d : List ℕ) → filter f d ≡ filter g d
@@ -518,11 +518,7 @@ pub deal-step : (l l2 : Line) (ls : List Line) (x : Tree) (labels : List ℕ) (d
     → drop at outline.uses ≡ all_picks (share.level ∷ levels (reverse rest)) vs → IsNodeStep outline (at + 1) share rest new l2 ts vs)
     → DealLeft (l ∷ ls) x labels done pending (drop at outline.uses) → DealLeft ls x labels more new (drop (at + 1) outline.uses)
 deal-step l l2 ls x labels done more pending rest new None share default outline at b e f v s1 s2 go w = let m = first-made l ls w.trees w.is in
-    let k = w.count in let z = full w.trees m.trees m.made in let q = v (omega (arith, k, z)) in cc
-  where
-    full : (vs ts : List Tree) → put l ts ≡ Some vs → 0 < length vs
-    full [] ts h = absurd (some-made l ts h)
-    full (v ∷ vs) ts h = omega arith
+    let k = w.count in let z = made-some l w.trees m.trees m.made in let q = v (omega (arith, k, z)) in cc
 deal-step l l2 ls x labels done more pending rest new (Some a) share default outline at b e f v s1 s2 go w =
     let m = first-made l ls w.trees w.is in
     let r : reverse pending ≡ share ∷ reverse rest = ap reverse b ∙ (newest rest a ∙ ap (λ (i : Share). i ∷ reverse rest) (sym e)) in

@@ -1,3 +1,2 @@
-pub mod forms
 pub mod outcomes
 pub mod calls

@@ -1,6 +1,7 @@
 -- Status and text of a call.
 pub mod CallLemmas
 pub mod DeepenLaws
+pub mod FaultExamples
 pub mod LawLemmas
 pub mod OneText
 pub mod OutcomeLemmas

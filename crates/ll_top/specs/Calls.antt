@@ -4,10 +4,11 @@ use Rattle.std.specs.Io.KnownBytes.{append_known}
 use Rattle.ll_edge.specs.Texts.{Texts}
 use Rattle.ll_edge.specs.Pieces.{AppendsFront}
 use Rattle.ll_top.specs.Faults.{Usage, fault_text}
-use Rattle.ll_top.specs.Making.{MakeWords, MakeComesTo, MadeRunWords}
+use Rattle.ll_top.specs.Making.{MakeComesTo}
+use Rattle.ll_words.specs.Making.{MakeWords, MadeRunWords}
 use Rattle.ll_top.specs.MadeRuns.{MadeRunComesTo}
-use Rattle.ll_top.specs.Words.{RunWords, SessionWords, DeepenWords, CheckWords, ConvertWords, IsBadWord, IsRun, IsSession, IsDeepen, IsPrint, IsCheck}
-use Rattle.ll_top.specs.Words.{IsConvert, IsMake, IsMadeRun}
+use Rattle.ll_words.specs.Words.{RunWords, SessionWords, DeepenWords, CheckWords, ConvertWords, IsBadWord, IsRun, IsSession, IsDeepen, IsPrint, IsCheck}
+use Rattle.ll_words.specs.Words.{IsConvert, IsMake, IsMadeRun}
 use Rattle.ll_laws.specs.Problem.{ProblemTree}
 use Rattle.ll_laws.specs.Output.{run_status}
 use Rattle.ll_top.specs.Outcome.{RunComesTo, RunAsks, whole_text, PrintComesTo, CheckComesTo}

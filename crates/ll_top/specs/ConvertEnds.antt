@@ -5,7 +5,7 @@ use Rattle.ll_top.specs.declared.converting.NewText.{NewText}
 use Rattle.ll_top.specs.declared.converting.NewText.TheVariants.{Whole, TooLong}
 use Rattle.ll_top.specs.declared.refusal.Refusal.{Refusal}
 use Rattle.ll_top.specs.declared.refusal.Refusal.TheVariants.{Text, Unwritable, OutOfMemory}
-use Rattle.ll_top.specs.Words.{ConvertWords}
+use Rattle.ll_words.specs.Words.{ConvertWords}
 use Rattle.ll_top.specs.Faults.{OversizedAs}
 use Rattle.ll_top.specs.Outcome.{longest_text}
 use Rattle.ll_top.specs.Converting.{IsConverted, ConvertFails, ConvertComesTo}

@@ -7,7 +7,7 @@ use Rattle.ll_lexer.specs.declared.Fault.{Fault}
 use Rattle.ll_prooftext.specs.Mentions.{text_names}
 use Rattle.ll_prooftext.specs.Sizes.{text_in}
 use Rattle.ll_prooftext.specs.Versions.{IsProofText, HasFaultIn}
-use Rattle.ll_top.specs.Words.{ConvertWords}
+use Rattle.ll_words.specs.Words.{ConvertWords}
 use Rattle.ll_top.specs.Faults.{Cause, OversizedAs, Faulty, fault_text, cause_status}
 use Rattle.ll_top.specs.Outcome.{longest_text, IsRead, ReadFails}
 

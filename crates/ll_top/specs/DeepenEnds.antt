@@ -10,7 +10,7 @@ use Rattle.ll_top.specs.declared.refusal.TextRefusal.{TextRefusal}
 use Rattle.ll_top.specs.Deepening.{run_within, bound_line}
 use Rattle.ll_top.specs.Endings.{cause_of}
 use Rattle.ll_top.specs.Outcome.{name_of, RunFails, whole_text}
-use Rattle.ll_top.specs.Words.{RunWords, DeepenWords}
+use Rattle.ll_words.specs.Words.{RunWords, DeepenWords}
 
 -- the problem with another bound
 abbrev pub with_bound : ProblemTree → ℕ → ProblemTree

@@ -7,7 +7,7 @@ use Rattle.ll_laws.specs.Problem.{ProblemTree}
 use Rattle.ll_top.specs.Faults.{Cause, fault_text, cause_status}
 use Rattle.ll_top.specs.Outcome.{RunAsks, RunFails, whole_text}
 use Rattle.ll_laws.specs.Output.{run_status}
-use Rattle.ll_top.specs.Words.{RunWords, DeepenWords}
+use Rattle.ll_words.specs.Words.{RunWords, DeepenWords}
 
 -- the run with one of its bounds
 abbrev pub run_within : DeepenWords → ℕ → RunWords

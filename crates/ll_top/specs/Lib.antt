@@ -1,9 +1,4 @@
-pub mod Begins
 pub mod Making
-pub mod Words
-pub mod FormWords
-pub mod SearchOptions
-pub mod MakeForm
 pub mod Faults
 pub mod Converting
 pub mod ConvertEnds

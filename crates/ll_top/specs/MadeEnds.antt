@@ -7,7 +7,7 @@ use Rattle.ll_laws.specs.Output.{run_status}
 use Rattle.ll_top.specs.declared.run.Found.{Found}
 use Rattle.ll_top.specs.declared.refusal.Refusal.{Refusal}
 use Rattle.ll_top.specs.declared.refusal.Refusal.TheVariants.{Text, Unwritable, OutOfMemory}
-use Rattle.ll_top.specs.Making.{MadeRunWords}
+use Rattle.ll_words.specs.Making.{MadeRunWords}
 use Rattle.ll_top.specs.MadeRuns.{MadeAsks, last_line, MadeRunComesTo}
 use Rattle.ll_top.specs.Calls.{AppendsOwn}
 use Rattle.ll_top.specs.Endings.{status_of_found}

@@ -4,7 +4,8 @@ use Rattle.ll_laws.specs.Problem.{ProblemTree, problem_events, problem_cost}
 use Rattle.ll_laws.specs.Search.{is_answer, is_reached}
 use Rattle.ll_laws.specs.Output.{run_status, summary_text}
 use Rattle.ll_make.specs.Kinds.{query_text}
-use Rattle.ll_top.specs.Making.{MadeRunWords, make_text}
+use Rattle.ll_top.specs.Making.{make_text}
+use Rattle.ll_words.specs.Making.{MadeRunWords}
 use Rattle.ll_top.specs.Judging.{TextsAsk}
 
 -- the program that is made and the query of its kind ask this problem

@@ -4,7 +4,7 @@ use Rattle.ll_edge.specs.Texts.{Texts}
 use Rattle.ll_laws.specs.Problem.{ProblemTree}
 use Rattle.ll_laws.specs.Line.{DerivationLines}
 use Rattle.ll_laws.specs.Completeness.{ShowsClosed}
-use Rattle.ll_top.specs.Words.{RunWords}
+use Rattle.ll_words.specs.Words.{RunWords}
 use Rattle.ll_top.specs.Outcome.{RunAsks}
 
 -- No derivation shows the query of the problem (derivations after Hodas and Miller 1994): none at all, whatever closed terms it has for

@@ -1,8 +1,7 @@
 -- What a run, a print, a check and a cover come to, by their words and the texts on the shelf.
-use Rattle.std.specs.Prelude.{◌≡◌, ◌≤◌, ◌<◌, ◌⊎◌, ℕ, Bool, true, false, List, [], ◌∷◌, ◌++◌, length, map, Option, Some, None, IsSomeAnd, IfSome, is_some}
+use Rattle.std.specs.Prelude.{◌≡◌, ◌≤◌, ◌<◌, ◌⊎◌, ℕ, Bool, true, false, List, [], ◌∷◌, ◌++◌, length, Option, Some, None, IsSomeAnd, IfSome, is_some}
 use Rattle.std.specs.Prelude.{unwrap_or, if◌then◌else◌}
 use Rattle.std.specs.List.{position_from}
-use Rattle.std.specs.Borrow.{Bor}
 use Rattle.ll_edge.specs.Texts.{Texts, text_of}
 use Rattle.ll_first.specs.Upto.{upto}
 use Rattle.ll_laws.specs.declared.Event.{Event}
@@ -20,15 +19,11 @@ use Rattle.ll_parser.specs.Raw.{ProgramTree}
 use Rattle.ll_parser.specs.Printed.{program_text}
 use Rattle.ll_top.specs.declared.judge.Role.{Role}
 use Rattle.ll_top.specs.declared.judge.Role.TheVariants.{Program, Query, Proof}
-use Rattle.ll_top.specs.Words.{RunWords, CheckWords, IsCheck}
+use Rattle.ll_words.specs.Words.{RunWords, CheckWords, IsCheck}
 use Rattle.ll_top.specs.Faults.{Cause, Absent, Unreadable, Oversized, Faulty, fault_text, cause_status}
 use Rattle.ll_top.specs.Verdicts.{yes_text, no_text, covered_text, too_long_text, counts_text, stopped_text}
 use Rattle.ll_top.specs.Running.{all_lines}
 use Rattle.ll_top.specs.Judging.{IsProgramText, IsReadingFault, IsTextFault, TextsAsk, IsCheckFault, TextsGive}
-
--- the words as bytes
-abbrev pub word_texts : List (Bor (List ℕ)) → List (List ℕ)
-word_texts words = map (λ w. w.now) words
 
 -- the greatest number of bytes of a text
 abbrev pub longest_text : ℕ

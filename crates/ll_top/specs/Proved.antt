@@ -13,7 +13,7 @@ use Rattle.ll_laws.specs.Verdict.{DerivationShows}
 use Rattle.ll_laws.specs.Dealt.{asked_terms}
 use Rattle.ll_laws.specs.Output.{answer_text, summary_text}
 use Rattle.ll_laws.specs.ProofText.{proof_text}
-use Rattle.ll_top.specs.Words.{RunWords}
+use Rattle.ll_words.specs.Words.{RunWords}
 use Rattle.ll_top.specs.Outcome.{RunAsks, front_events}
 use Rattle.ll_top.specs.Verdicts.{stopped_text}
 

@@ -9,7 +9,7 @@ use Rattle.ll_top.specs.declared.judge.Role.{Role}
 use Rattle.ll_top.specs.declared.judge.Role.TheVariants.{Program, Query, Proof}
 use Rattle.ll_top.specs.declared.refusal.TextRefusal.{TextRefusal}
 use Rattle.ll_top.specs.declared.refusal.TextRefusal.TheVariants as text
-use Rattle.ll_top.specs.Words.{SessionWords}
+use Rattle.ll_words.specs.Words.{SessionWords}
 use Rattle.ll_top.specs.Judging.{IsFaultless, IsProgramFault}
 use Rattle.ll_top.specs.Endings.{cause_of}
 use Rattle.ll_top.specs.Sessions.{reply_text, replies_text, SessionFails}

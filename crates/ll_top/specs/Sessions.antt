@@ -9,7 +9,7 @@ use Rattle.ll_session.specs.Queries.{QueryLine, AreQueries}
 use Rattle.ll_top.specs.Faults.{Cause, Faulty, fault_text, cause_status}
 use Rattle.ll_top.specs.Judging.{IsFaultless, IsProgramFault}
 use Rattle.ll_top.specs.Outcome.{IsRead, ReadFails, whole_text}
-use Rattle.ll_top.specs.Words.{SessionWords}
+use Rattle.ll_words.specs.Words.{SessionWords}
 
 -- what a reply says behind its first line: the text of a run of the problem, or the line of the fault, with the name of the queries' text
 abbrev pub answer_to : Bool → List ℕ → Result ProblemTree Fault → List ℕ

@@ -11,19 +11,19 @@ ghost use Rattle.ll_prooftext.specs.Terms.{Grows};
 ghost use Rattle.ll_prooftext.specs.Versions.{IsProofText};
 ghost use Rattle.ll_top.specs.Counting.{is_counting};
 ghost use Rattle.ll_top.specs.Judging.{TextsAsk};
-ghost use Rattle.ll_top.specs.Words.{shown_check};
+ghost use Rattle.ll_words.specs.Words.{shown_check};
 ghost use Rattle.ll_top.specs.Endings.{IsFinding, IsNoDerivation, Finds, CheckFinds, CheckEnds};
 
 use crate::finding::{Finding, write_finding};
 use crate::judge::Role;
 use crate::prepare::{problem_of, read, refusal};
 use crate::refusal::Refusal;
-use crate::words::CheckCommand;
 use ll_bank::{Names, OutOfMemory};
 use ll_cover::cover;
 use ll_edge::{Shelf, Sink};
 use ll_laws::{Derivation, Problem, Rule};
 use ll_sequent::{Verdict, check};
+use ll_words::CheckCommand;
 use std::alloc::Global;
 
 // One more than the names that a reader of derivations can number.

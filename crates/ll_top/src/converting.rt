@@ -6,18 +6,18 @@ ghost use Rattle.ll_prooftext.specs.Versions.{IsProofText};
 ghost use Rattle.ll_top.specs.Calls.{Ends};
 ghost use Rattle.ll_top.specs.Converting.{own_names, ConvertComesTo};
 ghost use Rattle.ll_top.specs.ConvertEnds.{IsConversionOf, Converts};
-ghost use Rattle.ll_top.specs.Words.{shown_convert};
+ghost use Rattle.ll_words.specs.Words.{shown_convert};
 
 use crate::checking::derivation_of;
 use crate::fault::{Cause, refuse};
 use crate::judge::Role;
 use crate::prepare::{LONGEST_TEXT, read};
 use crate::refusal::Refusal;
-use crate::words::ConvertCommand;
 use ll_bank::{Names, OutOfMemory};
 use ll_edge::{Shelf, Sink, WriteFailed, write_all};
 use ll_laws::Derivation;
 use ll_prooftext::{size, write, write2};
+use ll_words::ConvertCommand;
 use std::alloc::Global;
 
 /// What a derivation comes to in a version.

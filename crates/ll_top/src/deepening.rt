@@ -11,7 +11,7 @@ ghost use Rattle.ll_top.specs.DeepenEnds.{with_bound, first_run, DeepenRefuses, 
 ghost use Rattle.ll_top.specs.Endings.{status_of_found};
 ghost use Rattle.ll_top.specs.Outcome.{name_of};
 ghost use Rattle.ll_top.specs.OwnEnds.{EndsOwn, NoneFails};
-ghost use Rattle.ll_top.specs.Words.{shown_deepen};
+ghost use Rattle.ll_words.specs.Words.{shown_deepen};
 
 use crate::fault::refuse;
 use crate::found_status;
@@ -22,10 +22,10 @@ use crate::prepare::prepare;
 use crate::refusal::Refusal;
 use crate::run::{Found, run};
 use crate::team::Team;
-use crate::words::{DeepenCommand, RunCommand};
 use ll_deepen::{Series, is_decided};
 use ll_edge::{Gate, Shelf, Sink};
 use ll_laws::{Counts, Problem};
+use ll_words::{DeepenCommand, RunCommand};
 use std::sync::Wait;
 use std::thread::Threads;
 

@@ -18,11 +18,9 @@ mod prepare;
 mod printing;
 mod refusal;
 mod run;
-mod searches;
 mod session;
 mod silent;
 mod team;
-mod words;
 
 ghost use Rattle.std.specs.Prelude.{◌≡◌, ◌≤◌, ◌<◌, ◌↔◌, ◌⊎◌, ℕ, List, Option, None, Some, IfSome, IfOk, IfErr, OnOk, OnErr};
 ghost use Rattle.std.specs.Io.KnownBytes.{append_known};
@@ -30,8 +28,9 @@ ghost use Rattle.ll_edge.specs.Counts.{Rose};
 ghost use Rattle.ll_edge.specs.Pieces.{AppendsFront};
 ghost use Rattle.ll_edge.specs.Texts.{Texts};
 ghost use Rattle.ll_laws.specs.Valid.{IsValid};
-ghost use Rattle.ll_top.specs.Words.{FitsForm, cover_form, IsInForm, IsInWorkersForm, RunWords, IsRun, shown_words, shown_check};
-ghost use Rattle.ll_top.specs.Outcome.{word_texts, name_of, name_in_check, RunComesTo, PrintComesTo, CheckComesTo, IsDenied, IsCoveredCall, IsUncoveredCall};
+ghost use Rattle.ll_words.specs.Words.{FitsForm, cover_form, IsInForm, IsInWorkersForm, RunWords, IsRun, shown_words, shown_check};
+ghost use Rattle.ll_top.specs.Outcome.{name_of, name_in_check, RunComesTo, PrintComesTo, CheckComesTo, IsDenied, IsCoveredCall, IsUncoveredCall};
+ghost use Rattle.ll_words.specs.Words.{word_texts};
 ghost use Rattle.ll_top.specs.Outcome.{text_of_run, status_of_run};
 ghost use Rattle.ll_top.specs.Calls.{ComesTo, Ends, Completes, Headline};
 ghost use Rattle.ll_top.specs.Endings.{status_of_found, status_of_finding, RunEnds};
@@ -52,6 +51,7 @@ use ll_lexer::one_reading;
 use ll_parser::{one_program, one_query};
 use ll_prooftext::one_derivation_in_any;
 use ll_session::one_session;
+use ll_words::{CheckCommand, Command, RunCommand, read_command, workers_of};
 pub use made_runs::made_asks;
 use made_runs::serve_made_run;
 use making::serve_make;
@@ -64,7 +64,6 @@ use std::alloc::Global;
 use std::sync::Wait;
 use std::thread::Threads;
 use team::Team;
-use words::{CheckCommand, Command, RunCommand, read_command, workers_of};
 
 /// Does what the words say, over the texts of the shelf, and writes to the sink. The answer is the program's exit status:
 ///

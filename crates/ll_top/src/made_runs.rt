@@ -14,7 +14,7 @@ ghost use Rattle.ll_order.specs.Outlets.{CountsOf};
 ghost use Rattle.ll_top.specs.declared.judge.Role.{Role};
 ghost use Rattle.ll_top.specs.declared.refusal.Refusal.TheVariants.{OutOfMemory};
 ghost use Rattle.ll_top.specs.Judging.{IsTextFault, TextsAsk};
-ghost use Rattle.ll_top.specs.Words.{shown_made_run};
+ghost use Rattle.ll_words.specs.Words.{shown_made_run};
 ghost use Rattle.ll_top.specs.MadeRuns.{last_line, MadeRunComesTo};
 ghost use Rattle.ll_top.specs.MadeEnds.{MadeRunEnds};
 ghost use Rattle.ll_top.specs.Calls.{Ends};
@@ -22,7 +22,6 @@ ghost use Rattle.ll_top.specs.Endings.{status_of_found};
 ghost use Rattle.ll_top.specs.Running.{IsRunRefusal};
 
 use crate::found_status;
-use crate::making::MadeRunCommand;
 use crate::prepare::problem_of;
 use crate::refusal::Refusal;
 use crate::run::{Found, what_was_found};
@@ -37,6 +36,7 @@ use ll_make::{program, query};
 use ll_parser::{one_program, one_query};
 use ll_printer::summary;
 use ll_prooftext::one_derivation_in_any;
+use ll_words::MadeRunCommand;
 use std::sync::Wait;
 use std::thread::Threads;
 

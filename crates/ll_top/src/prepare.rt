@@ -2,18 +2,18 @@
 ghost use Rattle.std.specs.Prelude.{◌≡◌, ◌≤◌, ℕ, List, length, IfOk, IfErr};
 ghost use Rattle.ll_edge.specs.Counts.{Rose};
 ghost use Rattle.ll_laws.specs.Valid.{IsValid};
-ghost use Rattle.ll_top.specs.Words.{shown_words};
+ghost use Rattle.ll_words.specs.Words.{shown_words};
 ghost use Rattle.ll_top.specs.Judging.{IsPartOf, TextsAsk, IsProgramCause, IsQueryCause};
 ghost use Rattle.ll_top.specs.Outcome.{IsRead};
 ghost use Rattle.ll_top.specs.Endings.{refusal_of, IsNotRead, Judges, Prepares};
 
 use crate::judge::{Role, judge_program, judge_query};
 use crate::refusal::{Refusal, TextRefusal};
-use crate::words::RunCommand;
 use ll_edge::{ReadFault, Shelf, read_text};
 use ll_laws::Problem;
 use ll_lexer::TextFault;
 use ll_polarity::{Loaded, ask, load};
+use ll_words::RunCommand;
 use std::alloc::Global;
 
 /// The greatest number of bytes of a text.

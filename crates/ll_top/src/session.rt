@@ -14,7 +14,7 @@ ghost use Rattle.ll_top.specs.OwnEnds.{EndsOwn, NoneFails};
 ghost use Rattle.ll_top.specs.Running.{IsRunRefusal};
 ghost use Rattle.ll_top.specs.Sessions.{reply_text, SessionComesTo};
 ghost use Rattle.ll_top.specs.SessionEnds.{name_in_session, RefusesText, WritesReply, CutsReply, RepliesTo, TextsComeTo, RefusesProgram};
-ghost use Rattle.ll_top.specs.Words.{shown_session};
+ghost use Rattle.ll_words.specs.Words.{shown_session};
 
 use crate::fault::{Cause, refuse, write_line};
 use crate::heading::write_heading;
@@ -24,13 +24,13 @@ use crate::prepare::{load_text, read, refusal};
 use crate::refusal::Refusal;
 use crate::run::run_with;
 use crate::team::Team;
-use crate::words::SessionCommand;
 use ll_edge::{Gate, Shelf, Sink};
 use ll_index::Index;
 use ll_laws::Problem;
 use ll_lexer::{Fault, TextFault};
 use ll_polarity::Loaded;
 use ll_session::{ask_text, is_query_line, on_line, one_session, split_line};
+use ll_words::SessionCommand;
 use std::sync::{Arc, Wait};
 use std::thread::Threads;
 

@@ -21,7 +21,7 @@ use Rattle.ll_prooftext.specs.Mentions.{text_names}
 use Rattle.ll_prooftext.specs.Terms.{Grows}
 use Rattle.ll_prooftext.specs.Versions.{IsProofText, IsCauseIn}
 use Rattle.ll_sequent.specs.Told.{IsVerdict}
-use Rattle.ll_sequent.specs.declared.Verdict.TheVariants.{Yes, No}
+use Rattle.ll_sequent.specs.declared.Verdict.TheVariants.{No}
 use Rattle.ll_top.specs.declared.judge.Role.{Role}
 use Rattle.ll_top.specs.declared.judge.Role.TheVariants.{Proof}
 use Rattle.ll_top.specs.declared.finding.Finding.{Finding}
@@ -30,7 +30,7 @@ use Rattle.ll_top.specs.declared.refusal.TextRefusal.{TextRefusal}
 use Rattle.ll_top.specs.declared.refusal.TextRefusal.TheVariants as text
 use Rattle.ll_top.specs.declared.refusal.Refusal.{Refusal}
 use Rattle.ll_top.specs.declared.refusal.Refusal.TheVariants.{Text, Unwritable, OutOfMemory}
-use Rattle.ll_top.specs.Words.{CheckWords}
+use Rattle.ll_words.specs.Words.{CheckWords}
 use Rattle.ll_top.specs.Judging.{TextsAsk, IsCheckFault, of_run_texts, of_proof}
 use Rattle.ll_top.specs.Outcome.{IsRead, Reaches, check_texts, name_in_check, CheckFails, texts_not_read, faulty_text, CheckGives, IsRefuted, shown, refuted}
 use Rattle.ll_top.specs.Outcome.{covered, too_long, counting}

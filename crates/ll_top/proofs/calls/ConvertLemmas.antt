@@ -1,26 +1,24 @@
 -- From the reading and judging of a derivation's text to what a conversion comes to.
-use Rattle.std.proofs.Common.{◌≡◌, ◌≤◌, ◌<◌, ℕ, List, [], ◌∷◌, length, Option, refl, ap, sym, subst, ◌∙◌, arith}
+use Rattle.std.proofs.Common.{◌≡◌, ℕ, List, [], ◌∷◌, Option, refl, ap, subst, ◌∙◌}
 use Rattle.std.specs.Prelude.{Result, Ok, Err}
 use Rattle.std.specs.Io.KnownBytes.{append_known}
 use Rattle.ll_edge.specs.Pieces.{AppendsFront}
 use Rattle.ll_edge.specs.Texts.{Texts}
 use Rattle.ll_laws.specs.Line.{DerivationLines}
-use Rattle.ll_prooftext.specs.Mentions.{text_names}
-use Rattle.ll_prooftext.specs.Sizes.{text_in, size_in}
+use Rattle.ll_prooftext.specs.Sizes.{text_in}
 use Rattle.ll_prooftext.specs.Versions.{IsProofText}
 use Rattle.ll_top.specs.declared.converting.NewText.{NewText}
 use Rattle.ll_top.specs.declared.converting.NewText.TheVariants.{Whole, TooLong}
-use Rattle.ll_top.specs.declared.judge.Role.{Role}
 use Rattle.ll_top.specs.declared.judge.Role.TheVariants.{Proof}
 use Rattle.ll_top.specs.declared.refusal.TextRefusal.TheVariants as text
 use Rattle.ll_top.specs.declared.refusal.Refusal.{Refusal}
 use Rattle.ll_top.specs.declared.refusal.Refusal.TheVariants.{Text, Unwritable, OutOfMemory}
-use Rattle.ll_top.specs.Words.{ConvertWords}
-use Rattle.ll_top.specs.Faults.{Cause, fault_text, cause_status}
-use Rattle.ll_top.specs.Outcome.{longest_text, IsRead, first}
+use Rattle.ll_words.specs.Words.{ConvertWords}
+use Rattle.ll_top.specs.Faults.{Cause}
+use Rattle.ll_top.specs.Outcome.{IsRead, first}
 use Rattle.ll_top.specs.Converting.{own_names, IsConverted, ConvertFails, proof_not_read, faulty_proof, too_long_as, ConvertComesTo, converted, convert_failed}
 use Rattle.ll_top.specs.ConvertEnds.{IsConversionOf, Converts}
-use Rattle.ll_top.specs.Endings.{cause_of, IsNotRead, IsNoDerivation, Refuses}
+use Rattle.ll_top.specs.Endings.{cause_of, IsNotRead, Refuses}
 use Rattle.ll_top.specs.Calls.{Ends, whole, unwritable}
 use Rattle.ll_top.proofs.outcomes.OutcomeLemmas.{refused-ends}
 use Rattle.ll_top.proofs.calls.PrepareLemmas.{not-read}

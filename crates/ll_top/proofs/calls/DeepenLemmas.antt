@@ -1,5 +1,5 @@
 -- A problem with another bound, and the deepening of one up to the whole call.
-use Rattle.std.proofs.Common.{◌≡◌, ◌≤◌, ℕ, ◌+◌, refl, ap, Bool, List, ◌++◌}
+use Rattle.std.proofs.Common.{◌≡◌, ◌≤◌, ℕ, refl, ap, Bool, List, ◌++◌}
 use Rattle.std.specs.Prelude.{Option, Result, Err, IfOk, IfErr, OnOk, OnErr}
 use Rattle.std.specs.Io.KnownBytes.{append_known}
 use Rattle.ll_deepen.specs.declared.series.Series.{Series}
@@ -15,7 +15,7 @@ use Rattle.ll_top.specs.declared.refusal.TextRefusal.{TextRefusal}
 use Rattle.ll_top.specs.declared.refusal.Refusal.{Refusal}
 use Rattle.ll_top.specs.declared.refusal.Refusal.TheVariants.{Text, Unwritable, OutOfMemory}
 use Rattle.ll_top.specs.declared.run.Found.{Found}
-use Rattle.ll_top.specs.Words.{DeepenWords}
+use Rattle.ll_words.specs.Words.{DeepenWords}
 use Rattle.ll_top.specs.Judging.{TextsAsk}
 use Rattle.ll_top.specs.Outcome.{name_of, RunAsks, whole_text}
 use Rattle.ll_top.specs.Calls.{nothing, Ends}

@@ -15,16 +15,16 @@ use Rattle.ll_polarity.specs.Asks.{part_of, problem_with}
 use Rattle.ll_make.specs.Kinds.{query_text}
 use Rattle.ll_top.specs.declared.judge.Role.{Role}
 use Rattle.ll_top.specs.declared.run.Found.{Found}
-use Rattle.ll_top.specs.declared.refusal.TextRefusal.{TextRefusal}
 use Rattle.ll_top.specs.declared.refusal.TextRefusal.TheVariants as text
 use Rattle.ll_top.specs.declared.refusal.Refusal.{Refusal}
 use Rattle.ll_top.specs.declared.refusal.Refusal.TheVariants.{Text, Unwritable, OutOfMemory}
-use Rattle.ll_top.specs.Making.{MadeRunWords, make_text}
+use Rattle.ll_top.specs.Making.{make_text}
+use Rattle.ll_words.specs.Making.{MadeRunWords}
 use Rattle.ll_top.specs.MadeRuns.{MadeAsks, last_line, MadeRunComesTo}
 use Rattle.ll_top.specs.MadeEnds.{MadeRunEnds}
 use Rattle.ll_top.specs.Judging.{IsTextFault, TextsAsk}
 use Rattle.ll_top.specs.Calls.{nothing, front, Ends, whole, unwritable, no_memory}
-use Rattle.ll_top.specs.Endings.{IsFaultOf, Judges, status_of_found}
+use Rattle.ll_top.specs.Endings.{Judges, status_of_found}
 use Rattle.ll_top.specs.Running.{IsRunRefusal}
 use Rattle.ll_top.proofs.calls.RunLemmas.{last-line}
 

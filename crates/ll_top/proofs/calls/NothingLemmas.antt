@@ -1,12 +1,12 @@
 -- From a run that ends with status 1 to the derivations that there are not.
-use Rattle.std.proofs.Common.{◌≡◌, ◌≤◌, ℕ, Bool, true, false, List, Option, subst, sym, ◌∙◌, arith}
+use Rattle.std.proofs.Common.{◌≡◌, ℕ, Bool, true, false, List, Option, subst, sym, ◌∙◌, arith}
 use Rattle.std.specs.Prelude.{is_some, if◌then◌else◌}
 use Rattle.ll_edge.specs.Texts.{Texts}
 use Rattle.ll_laws.specs.Problem.{ProblemTree}
 use Rattle.ll_laws.specs.Output.{run_status}
 use Rattle.ll_laws.specs.Valid.{IsValid}
 use Rattle.ll_laws.specs.Completeness.{NothingIsShown}
-use Rattle.ll_top.specs.Words.{RunWords, IsRun}
+use Rattle.ll_words.specs.Words.{RunWords, IsRun}
 use Rattle.ll_top.specs.Outcome.{RunAsks, front_events, status_of_run}
 use Rattle.ll_top.specs.Nothing.{AsksInVain}
 use Rattle.ll_top.proofs.outcomes.OneText.{one-run}

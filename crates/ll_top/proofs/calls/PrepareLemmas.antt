@@ -14,7 +14,7 @@ use Rattle.ll_top.specs.declared.refusal.TextRefusal.{TextRefusal}
 use Rattle.ll_top.specs.declared.refusal.TextRefusal.TheVariants as text
 use Rattle.ll_top.specs.declared.refusal.Refusal.{Refusal}
 use Rattle.ll_top.specs.declared.refusal.Refusal.TheVariants.{Text, Unwritable, OutOfMemory}
-use Rattle.ll_top.specs.Words.{RunWords}
+use Rattle.ll_words.specs.Words.{RunWords}
 use Rattle.ll_top.specs.Judging.{IsProgramText, IsQueryText, IsReadingCause, of_program_reading, of_program_scope, of_query_reading, of_query_scope}
 use Rattle.ll_top.specs.Judging.{of_program, of_query, IsPartOf, IsProgramCause, IsQueryCause}
 use Rattle.ll_top.specs.Outcome.{name_of, IsRead, Reaches, first, later, run_texts, ReadFails, absent, unreadable, oversized, RunFails, not_read, faulty}

@@ -17,9 +17,9 @@ use Rattle.ll_laws.specs.Dealt.{dealt}
 use Rattle.ll_laws.specs.Output.{answer_text, answers_text}
 use Rattle.ll_laws.specs.ProofText.{derivation_text, proved_answers_text}
 use Rattle.ll_laws.specs.Valid.{IsValid}
-use Rattle.ll_top.specs.Words.{RunWords, IsRun}
+use Rattle.ll_words.specs.Words.{RunWords, IsRun}
 use Rattle.ll_top.specs.Faults.{Cause, Usage, Absent, Unreadable, Oversized, OversizedAs, Faulty, cause_status}
-use Rattle.ll_top.specs.Outcome.{RunAsks, whole_text, stopped_or_whole, text_of_run}
+use Rattle.ll_top.specs.Outcome.{RunAsks, stopped_or_whole, text_of_run}
 use Rattle.ll_top.specs.Endings.{Refuses}
 use Rattle.ll_top.specs.Running.{all_lines}
 use Rattle.ll_top.specs.Proved.{ShowsAnswer, AreShown, all_shown, answer_shown, reached_shown, events_told, stop_or_summary, end_of_run, WritesShown}

@@ -11,7 +11,6 @@ use Rattle.std.proofs.lemmas.List.Elements.{Contains-append_right}
 use Rattle.std.specs.List.{Contains}
 use Rattle.ll_laws.proofs.CallerLemmas.{cut_count-suc}
 use Rattle.ll_edge.proofs.CallerLemmas.{append_known-append}
-use Rattle.ll_lists.proofs.CallerLemmas.{OnErr-always as on_err}
 use Rattle.ll_bank.specs.Term.{Term}
 use Rattle.ll_edge.specs.Pieces.{AppendsFront}
 use Rattle.ll_laws.specs.declared.Event.{Event}

@@ -1,5 +1,5 @@
 use Rattle.std.proofs.Common.{refl}
-use Rattle.ll_top.specs.Outcome.{word_texts}
+use Rattle.ll_words.specs.Words.{word_texts}
 use Rattle.ll_top.proofs.outcomes.CallLemmas.{call-usage, call-absent, call-unreadable, call-unwritable, call-denied, call-covered, call-uncovered, completes}
 use Rattle.ll_top.proofs.outcomes.CallLemmas.{heads, plain-heads}
 use Rattle.ll_top.proofs.lolli.Goals as goal

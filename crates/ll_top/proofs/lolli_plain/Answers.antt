@@ -1,4 +1,4 @@
-use Rattle.ll_top.specs.Outcome.{word_texts}
+use Rattle.ll_words.specs.Words.{word_texts}
 use Rattle.ll_top.proofs.outcomes.CallLemmas.{plain-usage, plain-absent, plain-unreadable, plain-unwritable, plain-denied, plain-covered, plain-uncovered}
 use Rattle.ll_top.proofs.outcomes.CallLemmas.{plain-completes}
 use Rattle.ll_top.proofs.lolli_plain.Goals as goal

@@ -7,12 +7,13 @@ use Rattle.ll_edge.specs.Texts.{Texts}
 use Rattle.ll_laws.specs.Problem.{ProblemTree, problem_events}
 use Rattle.ll_laws.specs.Search.{is_answer, is_reached}
 use Rattle.ll_laws.specs.Output.{run_status, status_by}
-use Rattle.ll_top.specs.Words.{RunWords, SessionWords, DeepenWords, CheckWords, ConvertWords, FitsForm, cover_form, IsCheckForm, IsInForm, IsRun, IsSession}
-use Rattle.ll_top.specs.Words.{IsDeepen, IsPrint, IsCheck, IsConvert, IsMake, IsMadeRun, IsBadWord}
-use Rattle.ll_top.specs.Making.{MakeWords, MakeComesTo, MadeRunWords}
+use Rattle.ll_words.specs.Words.{RunWords, SessionWords, DeepenWords, CheckWords, ConvertWords, FitsForm, cover_form, IsCheckForm, IsInForm, IsRun, IsSession}
+use Rattle.ll_words.specs.Words.{IsDeepen, IsPrint, IsCheck, IsConvert, IsMake, IsMadeRun, IsBadWord}
+use Rattle.ll_top.specs.Making.{MakeComesTo}
+use Rattle.ll_words.specs.Making.{MakeWords, MadeRunWords}
 use Rattle.ll_top.specs.MadeRuns.{MadeRunComesTo}
 use Rattle.ll_top.specs.Faults.{Cause, Usage, Absent, Unreadable, Oversized, OversizedAs, Faulty, fault_text, cause_status}
-use Rattle.ll_top.specs.Outcome.{name_of, ReadFails, absent as is_absent, unreadable as is_unreadable, oversized as is_oversized, run_texts, RunFails}
+use Rattle.ll_top.specs.Outcome.{ReadFails, absent as is_absent, unreadable as is_unreadable, oversized as is_oversized, run_texts, RunFails}
 use Rattle.ll_top.specs.Outcome.{not_read, faulty, RunComesTo, ran, failed, PrintFails, source_not_read, faulty_source, PrintComesTo, printed, print_failed}
 use Rattle.ll_top.specs.Outcome.{name_in_check, check_texts, CheckFails, texts_not_read, faulty_text, CheckComesTo, shown, refuted, covered, too_long}
 use Rattle.ll_top.specs.Outcome.{counting, check_failed, IsDenied, IsCoveredCall, IsUncoveredCall, front_events, status_of_run, text_of_run, whole_text}
@@ -23,10 +24,11 @@ use Rattle.ll_top.specs.Converting.{ConvertFails, proof_not_read, faulty_proof, 
 use Rattle.ll_top.specs.Calls.{ComesTo, misused, runs, sessions, deepens, prints, checks, converts, makes, runs_made, AppendsOwn, nothing, front, Ends, whole}
 use Rattle.ll_top.specs.Calls.{unwritable, no_memory, Completes, Headline}
 use Rattle.ll_top.specs.Endings.{Refuses, line, cut}
-use Rattle.ll_top.proofs.forms.FirstWords.{Of, in-form, Kind, nothing as no_kind, a_run, a_session, a_deepening, a_print, a_check, a_conversion, a_make}
-use Rattle.ll_top.proofs.forms.FirstWords.{a_made_run, kind_of, run-kind, session-kind, deepen-kind, print-kind, check-kind, cover-kind, checked-kind}
-use Rattle.ll_top.proofs.forms.FirstWords.{convert-kind, make-kind, made-run-kind, checked-in-form, check-not-cover, bad-not-in-form}
-use Rattle.ll_top.specs.declared.words.FormWord.TheVariants as form
+use Rattle.ll_words.specs.CommandKinds.{Kind, nothing as no_kind, a_run, a_session, a_deepening, a_print, a_check, a_conversion, a_make}
+use Rattle.ll_words.specs.CommandKinds.{a_made_run, kind_of}
+use Rattle.ll_words.proofs.CallerLemmas.{run-kind, session-kind, deepen-kind, print-kind, cover-kind, checked-kind}
+use Rattle.ll_words.proofs.CallerLemmas.{convert-kind, make-kind, made-run-kind, checked-in-form, check-not-cover, bad-not-in-form}
+use Rattle.ll_words.proofs.CallerLemmas.{run-in-form, session-in-form, deepen-in-form, print-in-form, convert-in-form, make-in-form, made-run-in-form}
 
 -- ---- from a command to the call
 
@@ -115,14 +117,14 @@ module _ (words : List (List ℕ)) (told : Option Texts) (absence read_failed : 
 
   pub comes-in-form : (c : ComesTo words told absence read_failed status text) → is_misuse c ≡ false → IsInForm words
   comes-in-form (misused n b s t) h = cc
-  comes-in-form (runs run r c) h = in-form form.Run words (0, omega arith, r.form)
-  comes-in-form (sessions session r c) h = in-form form.Session words (0, omega arith, r.form)
-  comes-in-form (deepens deepen r c) h = in-form form.Deepen words r.form
-  comes-in-form (prints name r c) h = in-form form.Print words r.form
+  comes-in-form (runs run r c) h = run-in-form words r.form
+  comes-in-form (sessions session r c) h = session-in-form words r.form
+  comes-in-form (deepens deepen r c) h = deepen-in-form words r.form
+  comes-in-form (prints name r c) h = print-in-form words r.form
   comes-in-form (checks check r c) h = checked-in-form words check.bound r.form
-  comes-in-form (converts convert r c) h = in-form form.Convert words r.form
-  comes-in-form (makes make r c) h = in-form form.Make words (make.kind, inl r.form)
-  comes-in-form (runs_made run r c) h = in-form form.Make words (run.make.kind, inr r.form)
+  comes-in-form (converts convert r c) h = convert-in-form words r.form
+  comes-in-form (makes make r c) h = make-in-form words make.kind r.form
+  comes-in-form (runs_made run r c) h = made-run-in-form words run.make.kind r.form
 
 -- ---- statuses
 
@@ -501,7 +503,7 @@ module _ (texts : Texts) (absence read_failed : Type 0) where
       → ComesTo words (Some texts) absence read_failed status text
       → ComesTo words (Some texts) (Unit {0}) ⊥ status text
   calm-comes words run status text r apart (runs other o c) = runs other o (calm-run other status text apart c)
-  calm-comes words run status text r apart (misused n b e f) = absurd (bad-not-in-form words n b (in-form form.Run words (0, omega arith, r.form)))
+  calm-comes words run status text r apart (misused n b e f) = absurd (bad-not-in-form words n b (run-in-form words r.form))
   calm-comes words run status text r apart c = absurd (let k = sym (run-kind words r.form)
       ∙ comes-kind words (Some texts) absence read_failed status text c refl in cc)
 

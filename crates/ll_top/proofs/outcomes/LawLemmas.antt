@@ -27,9 +27,10 @@ use Rattle.ll_polarity.specs.Faults.{heading, program_faults, query_faults}
 use Rattle.ll_polarity.specs.Asks.{part_of, problem_with, HasProgramFault, HasQueryFault}
 use Rattle.ll_top.specs.declared.judge.Role.{Role}
 use Rattle.ll_top.specs.declared.judge.Role.TheVariants.{Program, Query}
-use Rattle.ll_top.specs.Words.{RunWords, SessionWords, DeepenWords, CheckWords, ConvertWords}
+use Rattle.ll_words.specs.Words.{RunWords, SessionWords, DeepenWords, CheckWords, ConvertWords}
 use Rattle.ll_make.specs.Kinds.{query_text}
-use Rattle.ll_top.specs.Making.{MadeRunWords, make_text}
+use Rattle.ll_top.specs.Making.{make_text}
+use Rattle.ll_words.specs.Making.{MadeRunWords}
 use Rattle.ll_top.specs.MadeRuns.{MadeRunComesTo, last_line}
 use Rattle.ll_top.specs.Faults.{Cause, Absent, Oversized, Faulty, fault_text, cause_status}
 use Rattle.ll_top.specs.Judging.{HasGrammarFault, IsProgramText, IsQueryText, IsReadingFault, lexical, grammatical, IsFaultless, IsProgramFault}
@@ -41,7 +42,6 @@ use Rattle.ll_top.specs.Outcome.{RunAsks, status_of_run, text_of_run, RunComesTo
 use Rattle.ll_top.specs.Outcome.{PrintComesTo, printed, print_failed, name_in_check, check_texts, CheckFails, texts_not_read, faulty_text, CheckGives}
 use Rattle.ll_top.specs.Outcome.{bound_in, IsRefuted, IsCovered, CountsAt, CheckComesTo, shown, refuted, covered, too_long, counting, check_failed}
 use Rattle.ll_top.specs.Outcome.{longest_text}
-use Rattle.ll_top.specs.Calls.{runs, prints, checks}
 use Rattle.ll_top.proofs.calls.GrammarLemmas.{IsOfGrammar}
 use Rattle.ll_top.proofs.calls.DistinctNames.{none-differ, differ-names, differ-problem}
 use Rattle.ll_prooftext.specs.Versions.{IsTextIn, IsProofText, HasFaultIn}

@@ -1,11 +1,12 @@
 -- Words and texts determine what is written.
-use Rattle.std.proofs.Common.{◌≡◌, ◌+◌, ℕ, Bool, true, false, List, Option, Some, None, refl, ap, sym, subst, ◌∙◌, inl, inr}
+use Rattle.std.proofs.Common.{◌≡◌, ◌+◌, ℕ, List, Option, Some, None, refl, ap, sym, subst, ◌∙◌, inl, inr}
 use Rattle.std.specs.Prelude.{slice_get, codes, option_map}
 use Rattle.std.specs.Str.Parse.{digits_value}
 use Rattle.ll_edge.specs.Texts.{Texts}
-use Rattle.ll_top.specs.Words.{RunWords, SessionWords, DeepenWords, CheckWords, ConvertWords, HasFirst, IsInForm, IsRun, IsSession, IsDeepen, IsCheckForm}
-use Rattle.ll_top.specs.Words.{IsCheck, IsConvert, IsMake, IsMadeRun, IsBadWord, number_behind, has_word}
-use Rattle.ll_top.specs.Making.{MakeWords, MadeRunWords, make_text}
+use Rattle.ll_words.specs.Words.{RunWords, SessionWords, DeepenWords, CheckWords, ConvertWords, HasFirst, IsInForm, IsRun, IsSession, IsDeepen, IsCheckForm}
+use Rattle.ll_words.specs.Words.{IsCheck, IsConvert, IsMake, IsMadeRun, IsBadWord, number_behind}
+use Rattle.ll_top.specs.Making.{make_text}
+use Rattle.ll_words.specs.Making.{MakeWords, MadeRunWords}
 use Rattle.ll_top.specs.MadeRuns.{MadeRunComesTo}
 use Rattle.ll_top.specs.Faults.{Usage, fault_text}
 use Rattle.ll_top.specs.Outcome.{RunComesTo, PrintComesTo, CheckComesTo}
@@ -13,11 +14,11 @@ use Rattle.ll_top.specs.Sessions.{SessionComesTo}
 use Rattle.ll_top.specs.Deepening.{DeepenComesTo}
 use Rattle.ll_top.specs.Converting.{ConvertComesTo}
 use Rattle.ll_top.specs.Calls.{ComesTo, misused, runs, sessions, deepens, prints, checks, converts, makes, runs_made}
-use Rattle.ll_top.proofs.forms.FirstBad.{one-bad}
-use Rattle.ll_top.proofs.forms.WordValues.{word-behind}
-use Rattle.ll_top.proofs.forms.FirstWords.{check-not-cover, bad-not-in-form}
+use Rattle.ll_words.proofs.CallerLemmas.{one-bad}
+use Rattle.ll_words.proofs.CallerLemmas.{word-behind}
+use Rattle.ll_words.proofs.CallerLemmas.{check-not-cover, bad-not-in-form}
 use Rattle.ll_top.proofs.outcomes.CallLemmas.{comes-kind, comes-in-form}
-use Rattle.ll_top.proofs.forms.MakeLemmas.{same-kind}
+use Rattle.ll_words.proofs.CallerLemmas.{same-kind}
 
 -- ---- words
 

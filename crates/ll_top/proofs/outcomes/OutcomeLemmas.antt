@@ -6,14 +6,14 @@ use Rattle.ll_edge.specs.Counts.{Rose}
 use Rattle.ll_edge.specs.Pieces.{AppendsFront}
 use Rattle.ll_edge.specs.Texts.{Texts}
 use Rattle.ll_laws.specs.Problem.{ProblemTree}
-use Rattle.ll_laws.specs.Output.{run_status}
 use Rattle.ll_laws.specs.Valid.{IsValid}
 use Rattle.ll_top.specs.declared.run.Found.{Found}
 use Rattle.ll_top.specs.declared.finding.Finding.{Finding}
 use Rattle.ll_top.specs.declared.refusal.Refusal.{Refusal}
 use Rattle.ll_top.specs.declared.refusal.Refusal.TheVariants.{Text, Unwritable, OutOfMemory}
-use Rattle.ll_top.specs.Words.{RunWords, CheckWords}
-use Rattle.ll_top.specs.Making.{MakeWords, make_text, MakeComesTo}
+use Rattle.ll_words.specs.Words.{RunWords, CheckWords}
+use Rattle.ll_top.specs.Making.{make_text, MakeComesTo}
+use Rattle.ll_words.specs.Making.{MakeWords}
 use Rattle.ll_top.specs.Faults.{Cause, fault_text, cause_status}
 use Rattle.ll_top.specs.Outcome.{RunFails, RunAsks, status_of_run, text_of_run, RunComesTo, ran, failed, IsPrintedAs, PrintFails, PrintComesTo, printed}
 use Rattle.ll_top.specs.Outcome.{print_failed, CheckFails, CheckComesTo, check_failed}

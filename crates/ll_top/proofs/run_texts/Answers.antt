@@ -1,5 +1,5 @@
 use Rattle.std.proofs.Common.{refl}
-use Rattle.ll_top.specs.Words.{shown_words}
+use Rattle.ll_words.specs.Words.{shown_words}
 use Rattle.ll_top.proofs.outcomes.OutcomeLemmas.{run-ended-as}
 use Rattle.ll_top.proofs.run_texts.Goals as goal
 

@@ -1,6 +1,6 @@
 use Rattle.std.proofs.Common.{ap, ◌∙◌}
 use Rattle.ll_edge.proofs.CallerLemmas.{Rose-later}
-use Rattle.ll_top.specs.Words.{shown_check}
+use Rattle.ll_words.specs.Words.{shown_check}
 use Rattle.ll_top.specs.Endings.{cause_of}
 use Rattle.ll_top.specs.Outcome.{name_in_check}
 use Rattle.ll_top.proofs.outcomes.OutcomeLemmas.{finding-ends, check-cut-ends, refuses-later, check-refusal-ends}

@@ -1,6 +1,6 @@
 use Rattle.std.proofs.Common.{ap, ◌∙◌, arith}
 use Rattle.ll_edge.proofs.CallerLemmas.{Rose-later}
-use Rattle.ll_top.specs.Words.{shown_words}
+use Rattle.ll_words.specs.Words.{shown_words}
 use Rattle.ll_top.specs.Endings.{cause_of}
 use Rattle.ll_top.specs.Outcome.{name_of}
 use Rattle.ll_top.proofs.outcomes.OutcomeLemmas.{found-ends, cut-ends, memory-ends, refuses-later, refusal-ends}

@@ -1,4 +1,4 @@
-use Rattle.std.proofs.Common.{◌≡◌, ◌≤◌, ◌∙◌, sym, ap, length, arith, None, Some}
+use Rattle.std.proofs.Common.{◌≤◌, ◌∙◌, sym, ap, length, arith}
 use Rattle.std.specs.List.{position_from}
 use Rattle.ll_laws.specs.Line.{DerivationLines, counts_numbers}
 use Rattle.ll_laws.specs.Problem.{ProblemTree}

@@ -1,7 +1,7 @@
 use Rattle.std.proofs.lemmas.Result.{err_from_is_err_and}
 use Rattle.ll_edge.proofs.CallerLemmas.{Rose-later}
 use Rattle.ll_top.specs.declared.judge.Role.TheVariants.{Program, Query, Proof}
-use Rattle.ll_top.specs.Words.{shown_check}
+use Rattle.ll_words.specs.Words.{shown_check}
 use Rattle.ll_top.specs.Outcome.{first, later}
 use Rattle.ll_top.proofs.calls.PrepareLemmas.{not-read-later}
 use Rattle.ll_top.proofs.calls.CheckLemmas.{text-refused, texts-judged}

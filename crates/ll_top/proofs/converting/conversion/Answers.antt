@@ -1,5 +1,5 @@
 use Rattle.std.proofs.lemmas.Result.{err_from_is_err_and}
-use Rattle.ll_top.specs.Words.{shown_convert}
+use Rattle.ll_words.specs.Words.{shown_convert}
 use Rattle.ll_top.proofs.calls.ConvertLemmas.{proof-unread, proof-converted}
 use Rattle.ll_top.proofs.converting.conversion.Goals as goal
 

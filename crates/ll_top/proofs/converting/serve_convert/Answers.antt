@@ -1,4 +1,4 @@
-use Rattle.ll_top.specs.Words.{shown_convert}
+use Rattle.ll_words.specs.Words.{shown_convert}
 use Rattle.ll_top.specs.Faults.{OversizedAs}
 use Rattle.ll_top.specs.Endings.{cause_of}
 use Rattle.ll_top.proofs.calls.ConvertLemmas.{converted-ends, convert-cut-ends, convert-refusal-ends}

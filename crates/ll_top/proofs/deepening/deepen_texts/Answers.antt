@@ -1,5 +1,5 @@
 use Rattle.std.proofs.lemmas.Result.{err_from_is_err_and}
-use Rattle.ll_top.specs.Words.{shown_deepen}
+use Rattle.ll_words.specs.Words.{shown_deepen}
 use Rattle.ll_top.proofs.calls.DeepenLemmas.{not-deepened, texts-deepened}
 use Rattle.ll_top.proofs.deepening.deepen_texts.Goals as goal
 

@@ -2,7 +2,7 @@ use Rattle.std.proofs.Common.{ap, ◌∙◌}
 use Rattle.ll_edge.proofs.CallerLemmas.{Rose-later}
 use Rattle.ll_top.specs.Endings.{cause_of, status_of_found}
 use Rattle.ll_top.specs.OwnEnds.{NoneFails}
-use Rattle.ll_top.specs.Words.{shown_deepen}
+use Rattle.ll_words.specs.Words.{shown_deepen}
 use Rattle.ll_top.proofs.outcomes.OutcomeLemmas.{refuses-later}
 use Rattle.ll_top.proofs.outcomes.OwnLemmas.{done-ends, cut-ends, memory-ends}
 use Rattle.ll_top.proofs.calls.DeepenLemmas.{deepen-refused}

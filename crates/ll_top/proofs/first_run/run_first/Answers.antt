@@ -1,4 +1,4 @@
-use Rattle.std.proofs.Common.{◌≡◌, ◌∙◌, sym, subst, IfOk, Some}
+use Rattle.std.proofs.Common.{◌≡◌, ◌∙◌, sym, subst, IfOk}
 use Rattle.std.specs.Prelude.{count_by}
 use Rattle.ll_lists.proofs.CallerLemmas.{OnErr-always as on_err}
 use Rattle.ll_laws.specs.Problem.{problem_events}

@@ -1,6 +1,6 @@
 use Rattle.std.proofs.Common.{◌∙◌}
 use Rattle.ll_make.proofs.CallerLemmas.{program_short, query_short}
-use Rattle.ll_top.specs.Words.{shown_made_run}
+use Rattle.ll_words.specs.Words.{shown_made_run}
 use Rattle.ll_top.proofs.calls.MadeRunLemmas.{unjudged, counted-ends}
 use Rattle.ll_top.proofs.made_runs.run_made.Goals as goal
 

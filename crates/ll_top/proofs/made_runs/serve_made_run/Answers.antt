@@ -1,4 +1,4 @@
-use Rattle.ll_top.specs.Words.{shown_made_run}
+use Rattle.ll_words.specs.Words.{shown_made_run}
 use Rattle.ll_top.proofs.calls.MadeRunLemmas.{made-found-ends, made-cut-ends, made-memory-ends}
 use Rattle.ll_top.proofs.made_runs.serve_made_run.Goals as goal
 

@@ -1,4 +1,4 @@
-use Rattle.ll_top.specs.Words.{shown_make}
+use Rattle.ll_words.specs.Words.{shown_make}
 use Rattle.ll_top.proofs.outcomes.OutcomeLemmas.{made-ends, made-cut}
 use Rattle.ll_top.proofs.making.serve_make.Goals as goal
 

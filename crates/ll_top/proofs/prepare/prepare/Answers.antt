@@ -1,6 +1,6 @@
 use Rattle.std.proofs.lemmas.Result.{err_from_is_err_and}
 use Rattle.ll_edge.proofs.CallerLemmas.{Rose-later}
-use Rattle.ll_top.specs.Words.{shown_words}
+use Rattle.ll_words.specs.Words.{shown_words}
 use Rattle.ll_top.proofs.calls.PrepareLemmas.{program-refused, query-refused, not-read-later, prepared}
 use Rattle.ll_top.proofs.prepare.prepare.Goals as goal
 

@@ -1,0 +1,62 @@
+use Rattle.std.proofs.Common.{◌<◌, ◌≤◌, ℕ, List, length, arith}
+use Rattle.std.specs.Prelude.{codes}
+use Rattle.std.specs.Borrow.{Bor}
+use Rattle.std.proofs.lemmas.List.{length-map}
+use Rattle.ll_words.specs.declared.making.MadeOptions.{MadeOptions}
+use Rattle.ll_words.specs.Words.{word_texts}
+use Rattle.ll_words.specs.Words.{greatest_bound}
+use Rattle.ll_words.specs.MakeForm.{IsBadMakeWord, HasOptions}
+use Rattle.ll_words.proofs.WordValues.{bad-answer, this-word}
+use Rattle.ll_words.proofs.MakeLemmas.{no-options, no-value, no-second, no-last, one-more, whole-bound_first, bound_first, number-inside, text-inside}
+use Rattle.ll_words.proofs.making.read_bound_first.Goals as goal
+
+pub returns-in_err-this_at-clause-options : goal.returns-in_err-this_at-clause-options
+returns-in_err-this_at-clause-options c =
+    let words = word_texts c.args.words.now in
+    bad-answer (λ (o : MadeOptions). HasOptions words o.bound o.workers) (IsBadMakeWord words) _ _ c.from_residual.ensures.1
+    (no-options words c.requires.front _ c.in_err-this_at.ensures.0 c.in_err-this_at.ensures.1 c.requires.other)
+
+pub returns-in_err-bound-clause-options : goal.returns-in_err-bound-clause-options
+returns-in_err-bound-clause-options c =
+    let words = word_texts c.args.words.now in
+    bad-answer (λ (o : MadeOptions). HasOptions words o.bound o.workers) (IsBadMakeWord words) _ _ c.from_residual-in_err-bound.ensures.1
+    (no-value words c.requires.front bound_first (this-word words 3 (codes "--bound") c.in_ok-this_at.ensures) _ c.in_err-bound.ensures.0
+    c.in_err-bound.ensures.1)
+
+pub this_at-requires-2 : goal.this_at-requires-2
+this_at-requires-2 c =
+    let h = number-inside c.args.words.now 4 0 greatest_bound _ c.in_ok-bound.ensures in omega arith
+
+pub returns-in_err-this_at-2-clause-options : goal.returns-in_err-this_at-2-clause-options
+returns-in_err-this_at-2-clause-options c =
+    let words = word_texts c.args.words.now in
+    bad-answer (λ (o : MadeOptions). HasOptions words o.bound o.workers) (IsBadMakeWord words) _ _ c.from_residual-in_err-this_at-2.ensures.1
+    (no-second words c.requires.front bound_first (this-word words 3 (codes "--bound") c.in_ok-this_at.ensures) _ c.in_ok-bound.ensures _
+    c.in_err-this_at-2.ensures.0 c.in_err-this_at-2.ensures.1)
+
+pub number_at-requires-2 : goal.number_at-requires-2
+number_at-requires-2 c =
+    let h = text-inside c.args.words.now 5 (codes "--workers") c.in_ok-this_at-2.ensures in omega arith
+
+pub returns-in_err-workers-clause-options : goal.returns-in_err-workers-clause-options
+returns-in_err-workers-clause-options c =
+    let words = word_texts c.args.words.now in
+    bad-answer (λ (o : MadeOptions). HasOptions words o.bound o.workers) (IsBadMakeWord words) _ _ c.from_residual-in_err-workers.ensures.1
+    (no-last words c.requires.front bound_first (this-word words 3 (codes "--bound") c.in_ok-this_at.ensures) _ c.in_ok-bound.ensures c.in_ok-this_at-2.ensures
+    _ c.in_err-workers.ensures.0 c.in_err-workers.ensures.1)
+
+pub returns-then-words-gt7-clause-options : goal.returns-then-words-gt7-clause-options
+returns-then-words-gt7-clause-options c =
+    let words = word_texts c.args.words.now in
+    let same = length-map c.args.words.now (λ (b : Bor (List ℕ)). b.now) in
+    let more : 7 < length words = let h = c.if-words-gt7.true in omega arith in
+    one-more words c.requires.front bound_first (this-word words 3 (codes "--bound") c.in_ok-this_at.ensures) _ c.in_ok-bound.ensures c.in_ok-this_at-2.ensures
+    _ c.in_ok-workers.ensures more
+
+pub returns-clause-options : goal.returns-clause-options
+returns-clause-options c =
+    let words = word_texts c.args.words.now in
+    let same = length-map c.args.words.now (λ (b : Bor (List ℕ)). b.now) in
+    let few : length words ≤ 7 = let h = c.if-words-gt7.false in omega arith in
+    whole-bound_first words c.requires.front _ _ few (this-word words 3 (codes "--bound") c.in_ok-this_at.ensures) c.in_ok-bound.ensures
+    c.in_ok-this_at-2.ensures c.in_ok-workers.ensures

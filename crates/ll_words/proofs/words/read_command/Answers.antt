@@ -1,0 +1,77 @@
+use Rattle.std.proofs.Common.{ap, ◌∙◌}
+use Rattle.ll_words.specs.declared.words.FormWord.TheVariants as form
+use Rattle.ll_words.specs.Words.{word_texts}
+use Rattle.ll_words.specs.Words.{IsCommand, IsBadWord}
+use Rattle.ll_words.specs.FormWords.{form_word}
+use Rattle.ll_words.proofs.WordValues.{bad-answer}
+use Rattle.ll_words.proofs.FirstWords.{bad-among, bad-first, make-answer, first-lacks, first-other, first-same}
+use Rattle.ll_words.proofs.words.read_command.Goals as goal
+
+pub returns-in_default-clause-command : goal.returns-in_default-clause-command
+returns-in_default-clause-command c = bad-first (word_texts c.args.words.now) (first-lacks c.args.words.now c.in_default.ensures.value)
+
+pub returns-in_default-form_of-clause-command : goal.returns-in_default-form_of-clause-command
+returns-in_default-form_of-clause-command c = bad-first (word_texts c.args.words.now)
+    (first-other c.args.words.now c.in-Some.first c.in-Some.ensures.value c.in_default-form_of.ensures)
+
+pub returns-in_err-read_run-in-Run-clause-command : goal.returns-in_err-read_run-in-Run-clause-command
+returns-in_err-read_run-in-Run-clause-command c =
+    let words = word_texts c.args.words.now in
+    let bad = c.in_err-read_run-in-Run.ensures.run in
+    bad-answer (IsCommand words) (IsBadWord words) _ _ c.from_residual.ensures.1
+    (bad-among form.Run words _ bad.place (first-same form.Run c.args.words.now c.in-Some.first c.in-Some.ensures.value
+    (c.in-Some-form_of.ensures ∙ ap form_word c.in-Run.is)) bad.is bad.bad)
+
+pub returns-in_err-read_session-in-Session-clause-command : goal.returns-in_err-read_session-in-Session-clause-command
+returns-in_err-read_session-in-Session-clause-command c =
+    let words = word_texts c.args.words.now in
+    let bad = c.in_err-read_session-in-Session.ensures.session in
+    bad-answer (IsCommand words) (IsBadWord words) _ _ c.from_residual-in_err-read_session-in-Session.ensures.1
+    (bad-among form.Session words _ bad.place (first-same form.Session c.args.words.now c.in-Some.first c.in-Some.ensures.value
+    (c.in-Some-form_of.ensures ∙ ap form_word c.in-Session.is)) bad.is bad.bad)
+
+pub returns-in_err-read_deepen-in-Deepen-clause-command : goal.returns-in_err-read_deepen-in-Deepen-clause-command
+returns-in_err-read_deepen-in-Deepen-clause-command c =
+    let words = word_texts c.args.words.now in
+    let bad = c.in_err-read_deepen-in-Deepen.ensures.deepen in
+    bad-answer (IsCommand words) (IsBadWord words) _ _ c.from_residual-in_err-read_deepen-in-Deepen.ensures.1
+    (bad-among form.Deepen words _ bad.place (first-same form.Deepen c.args.words.now c.in-Some.first c.in-Some.ensures.value
+    (c.in-Some-form_of.ensures ∙ ap form_word c.in-Deepen.is)) bad.is bad.bad)
+
+pub returns-in_err-read_print-in-Print-clause-command : goal.returns-in_err-read_print-in-Print-clause-command
+returns-in_err-read_print-in-Print-clause-command c =
+    let words = word_texts c.args.words.now in
+    let bad = c.in_err-read_print-in-Print.ensures in
+    bad-answer (IsCommand words) (IsBadWord words) _ _ c.from_residual-in_err-read_print-in-Print.ensures.1
+    (bad-among form.Print words _ bad.place (first-same form.Print c.args.words.now c.in-Some.first c.in-Some.ensures.value
+    (c.in-Some-form_of.ensures ∙ ap form_word c.in-Print.is)) bad.is bad.bad)
+
+pub returns-in_err-read_check-in-Check-clause-command : goal.returns-in_err-read_check-in-Check-clause-command
+returns-in_err-read_check-in-Check-clause-command c =
+    let words = word_texts c.args.words.now in
+    let bad = c.in_err-read_check-in-Check.ensures in
+    bad-answer (IsCommand words) (IsBadWord words) _ _ c.from_residual-in_err-read_check-in-Check.ensures.1
+    (bad-among form.Check words _ bad.place (first-same form.Check c.args.words.now c.in-Some.first c.in-Some.ensures.value
+    (c.in-Some-form_of.ensures ∙ ap form_word c.in-Check.is)) bad.is bad.bad)
+
+pub returns-in_err-read_cover-in-Cover-clause-command : goal.returns-in_err-read_cover-in-Cover-clause-command
+returns-in_err-read_cover-in-Cover-clause-command c =
+    let words = word_texts c.args.words.now in
+    let bad = c.in_err-read_cover-in-Cover.ensures.cover in
+    bad-answer (IsCommand words) (IsBadWord words) _ _ c.from_residual-in_err-read_cover-in-Cover.ensures.1
+    (bad-among form.Cover words _ bad.place (first-same form.Cover c.args.words.now c.in-Some.first c.in-Some.ensures.value
+    (c.in-Some-form_of.ensures ∙ ap form_word c.in-Cover.is)) bad.is bad.bad)
+
+pub returns-in_err-read_convert-in-Convert-clause-command : goal.returns-in_err-read_convert-in-Convert-clause-command
+returns-in_err-read_convert-in-Convert-clause-command c =
+    let words = word_texts c.args.words.now in
+    let bad = c.in_err-read_convert-in-Convert.ensures.convert in
+    bad-answer (IsCommand words) (IsBadWord words) _ _ c.from_residual-in_err-read_convert-in-Convert.ensures.1
+    (bad-among form.Convert words _ bad.place (first-same form.Convert c.args.words.now c.in-Some.first c.in-Some.ensures.value
+    (c.in-Some-form_of.ensures ∙ ap form_word c.in-Convert.is)) bad.is bad.bad)
+
+pub returns-in-Make-clause-command : goal.returns-in-Make-clause-command
+returns-in-Make-clause-command c =
+    let words = word_texts c.args.words.now in
+    make-answer words (IsCommand words) c.read_make.result (first-same form.Make c.args.words.now c.in-Some.first c.in-Some.ensures.value
+    (c.in-Some-form_of.ensures ∙ ap form_word c.in-Make.is)) c.read_make.ensures.command

@@ -1,0 +1,50 @@
+use Rattle.std.proofs.Common.{◌<◌, ◌≤◌, ℕ, List, length, refl, arith}
+use Rattle.std.specs.Borrow.{Bor}
+use Rattle.std.proofs.lemmas.List.{length-map}
+use Rattle.ll_words.specs.Words.{word_texts}
+use Rattle.ll_words.specs.Words.{IsConvert, convert_form, shown_convert}
+use Rattle.ll_words.specs.FormWords.{IsBadFormWord}
+use Rattle.ll_words.proofs.WordValues.{bad-answer, has-name}
+use Rattle.ll_words.proofs.CommandWords.{no-converted, no-version_word, no-version, version-is, one-more_converted, whole-convert}
+use Rattle.ll_words.proofs.words.read_convert.Goals as goal
+
+pub returns-in_err-proof-clause-convert : goal.returns-in_err-proof-clause-convert
+returns-in_err-proof-clause-convert c =
+    let words = word_texts c.args.words.now in
+    bad-answer (λ convert. IsConvert words (shown_convert convert)) (IsBadFormWord convert_form words) _ _ c.from_residual.ensures.1
+    (no-converted words c.requires _ c.in_err-proof.ensures.0 c.in_err-proof.ensures.1)
+
+pub returns-in_err-this_at-clause-convert : goal.returns-in_err-this_at-clause-convert
+returns-in_err-this_at-clause-convert c =
+    let words = word_texts c.args.words.now in
+    bad-answer (λ convert. IsConvert words (shown_convert convert)) (IsBadFormWord convert_form words) _ _ c.from_residual-in_err-this_at.ensures.1
+    (no-version_word words c.requires (has-name words 1 _ c.in_ok-proof.ensures.0 c.in_ok-proof.ensures.1) _ c.in_err-this_at.ensures.0
+    c.in_err-this_at.ensures.1)
+
+pub returns-in_err-version-clause-convert : goal.returns-in_err-version-clause-convert
+returns-in_err-version-clause-convert c =
+    let words = word_texts c.args.words.now in
+    bad-answer (λ convert. IsConvert words (shown_convert convert)) (IsBadFormWord convert_form words) _ _ c.from_residual-in_err-version.ensures.1
+    (no-version words c.requires (has-name words 1 _ c.in_ok-proof.ensures.0 c.in_ok-proof.ensures.1) c.in_ok-this_at.ensures _ c.in_err-version.ensures.0
+    c.in_err-version.ensures.1)
+
+pub returns-then-words-gt4-clause-convert : goal.returns-then-words-gt4-clause-convert
+returns-then-words-gt4-clause-convert c =
+    let words = word_texts c.args.words.now in
+    let same = length-map c.args.words.now (λ (b : Bor (List ℕ)). b.now) in
+    let more : 4 < length words = let h = c.if-words-gt4.true in omega arith in
+    one-more_converted words c.requires (has-name words 1 _ c.in_ok-proof.ensures.0 c.in_ok-proof.ensures.1) c.in_ok-this_at.ensures _ c.in_ok-version.ensures
+    more
+
+pub returns-clause-convert : goal.returns-clause-convert
+returns-clause-convert c =
+    let words = word_texts c.args.words.now in
+    let same = length-map c.args.words.now (λ (b : Bor (List ℕ)). b.now) in
+    let few : length words ≤ 4 = let h = c.if-words-gt4.false in omega arith in
+    whole-convert words c.requires (has-name words 1 _ c.in_ok-proof.ensures.0 c.in_ok-proof.ensures.1) c.in_ok-this_at.ensures _ c.in_ok-version.ensures _ refl
+    c.in_ok-proof.ensures.0 few
+
+pub returns-clause-version : goal.returns-clause-version
+returns-clause-version c =
+    let words = word_texts c.args.words.now in
+    version-is words c.requires (has-name words 1 _ c.in_ok-proof.ensures.0 c.in_ok-proof.ensures.1) c.in_ok-this_at.ensures _ c.in_ok-version.ensures

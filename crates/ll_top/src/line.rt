@@ -6,11 +6,12 @@ use crate::outlet::Lined;
 use ll_bank::OutOfMemory;
 use ll_laws::{Branch, Event, Notice, Problem};
 use ll_printer::{bindings, title};
+use smallvec::SmallVec;
 use std::alloc::Global;
 use std::marker::{Brand, PhantomData};
 use std::snapshot::Snapshot;
 
-/// Room for the lines of most answers.
+/// So many bytes are the lines of most answers. They are kept in place, so those of a report lie one behind the other for its taker.
 const ROOM: usize = 64;
 
 /// Stands for the problem that is searched, which is known at run time only: a call that passes `Brand` picks it.
@@ -32,7 +33,7 @@ impl Asked for Brand {
 #[derive(Drop)]
 pub struct Line<K: Asked> {
     // The lines of an answer behind its number. None stand for a branch that reached the bound.
-    text: Option<Vec<u8>>,
+    text: Option<SmallVec<u8, ROOM>>,
     // The event, which lives in contracts alone.
     event: Snapshot<Event>,
     of: PhantomData<K>,
@@ -78,18 +79,22 @@ impl<K: Asked> Lined for Line<K> {
         };
         let number = answers.saturating_add(1);
         title(number, lines)?;
-        lines.extend_from_slice(text)?;
+        lines.extend_from_slice(text.as_slice())?;
         Ok(number)
     }
 }
 
 // The lines of an answer behind its number. An answer that lacks a term of a variable that is asked for has none.
-fn lines_behind(alloc: Global, problem: &Problem, branch: &Branch) -> Result<Vec<u8>, OutOfMemory>
+fn lines_behind(
+    alloc: Global,
+    problem: &Problem,
+    branch: &Branch,
+) -> Result<SmallVec<u8, ROOM>, OutOfMemory>
     ensures { IfOk result (λ lines. lines.items ≡ lines_behind problem.now branch.now) }
 {
     let mut lines = Vec::with_capacity(alloc, ROOM)?;
     if problem.asked.len() <= branch.terms.len() {
         bindings(alloc, problem, branch, &mut lines)?;
     }
-    Ok(lines)
+    Ok(SmallVec::from_vec(lines))
 }

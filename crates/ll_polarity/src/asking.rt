@@ -35,8 +35,6 @@ use std::alloc::Global;
 /// What a query adds to a part.
 #[derive(Drop)]
 struct Addition {
-    /// The names of the part and those of the query.
-    names: Names,
     goal: FormAt,
     /// The number of the name of each variable, none for `_`.
     asked: Vec<Option<u32>>,
@@ -153,46 +151,62 @@ fn goal_of(
     Ok(goal)
 }
 
-/// What a query adds to the names and modules of a part.
+/// What a query adds to the names that were met, where the modules have these places.
+fn added_over(
+    alloc: Global,
+    places: &Modules<'_>,
+    met: &mut Met,
+    query: &RawQuery,
+    bank: &mut Bank,
+) -> Result<Addition, OutOfMemory>
+    requires whole { IsWhole queries query.now }
+    requires few { length met.old.names ≤ 16777216 }
+    requires first { met.old.variables ≡ [] }
+    ensures shows { IfOk result (λ p. (ms : List (List ℕ)) (heads : List Heading) → FindsFirst places.now.places ms → query_faults heads query.now ≡ []
+        → form_tree bank.new p.goal.0 ≡ (read_form ms [] (record { names = met.old.names; variables = [] }) query.now).it) }
+    ensures asked { IfOk result (λ p. (ms : List (List ℕ)) → let after = (read_form ms [] (record { names = met.old.names; variables = [] }) query.now).met in
+        p.asked.items ≡ (read_asked after.names after.variables).it) }
+    ensures names { IfOk result (λ _. (ms : List (List ℕ)) → let after = (read_form ms [] (record { names = met.old.names; variables = [] }) query.now).met in
+        met.new.names ≡ (read_asked after.names after.variables).names) }
+    ensures inside { IfOk result (λ p. HasForm bank.new p.goal.0) }
+    ensures keeps { Extends bank.old bank.new }
+{
+    let goal = goal_of(
+        alloc,
+        places,
+        &query.names,
+        &query.forms,
+        query.goal,
+        met,
+        bank,
+    )?;
+    let asked = asked(alloc, &query.names, &mut met.names, met.variables.order())?;
+    Ok(Addition { goal, asked })
+}
+
+/// What a query adds to the names that were met and to the modules of a part.
 fn added(
     alloc: Global,
-    names: Names,
+    met: &mut Met,
     modules: &[Module],
     query: &RawQuery,
     bank: &mut Bank,
 ) -> Result<Addition, OutOfMemory>
     requires whole { IsWhole queries query.now }
-    requires numbered { IsNumbered names modules.now }
-    ensures shows { IfOk result (λ p. (heads : List Heading) → query_faults heads query.now ≡ []
-        → form_tree bank.new p.goal.0 ≡ (read_form (map (λ m. text_of names m.name) modules.now) [] (record { names = names; variables = [] }) query.now).it) }
-    ensures asked { IfOk result (λ p. (ms : List (List ℕ)) → let met = (read_form ms [] (record { names = names; variables = [] }) query.now).met in
-        p.asked.items ≡ (read_asked met.names met.variables).it) }
-    ensures names { IfOk result (λ p. (ms : List (List ℕ)) → let met = (read_form ms [] (record { names = names; variables = [] }) query.now).met in
-        p.names ≡ (read_asked met.names met.variables).names) }
+    requires numbered { IsNumbered met.old.names modules.now }
+    requires first { met.old.variables ≡ [] }
+    ensures shows { IfOk result (λ p. (heads : List Heading) → query_faults heads query.now ≡ [] → form_tree bank.new p.goal.0
+        ≡ (read_form (map (λ m. text_of met.old.names m.name) modules.now) [] (record { names = met.old.names; variables = [] }) query.now).it) }
+    ensures asked { IfOk result (λ p. (ms : List (List ℕ)) → let after = (read_form ms [] (record { names = met.old.names; variables = [] }) query.now).met in
+        p.asked.items ≡ (read_asked after.names after.variables).it) }
+    ensures names { IfOk result (λ _. (ms : List (List ℕ)) → let after = (read_form ms [] (record { names = met.old.names; variables = [] }) query.now).met in
+        met.new.names ≡ (read_asked after.names after.variables).names) }
     ensures inside { IfOk result (λ p. HasForm bank.new p.goal.0) }
     ensures keeps { Extends bank.old bank.new }
 {
-    let texts = module_texts(alloc, &names, modules)?;
+    let texts = module_texts(alloc, &met.names, modules)?;
     let places = places_by(alloc, &texts)?;
-    let mut met = Met {
-        names,
-        variables: Variables::new(alloc),
-    };
-    let goal = goal_of(
-        alloc,
-        &places,
-        &query.names,
-        &query.forms,
-        query.goal,
-        &mut met,
-        bank,
-    )?;
-    let asked = asked(alloc, &query.names, &mut met.names, met.variables.order())?;
-    Ok(Addition {
-        names: met.names,
-        goal,
-        asked,
-    })
+    added_over(alloc, &places, met, query, bank)
 }
 
 /// The first fault of a query over the names and modules of a part.
@@ -209,6 +223,35 @@ fn query_fault(
     let headings = known_headings(alloc, names, modules)?;
     let fault = judge_query(alloc, &headings, query)?;
     Ok(fault)
+}
+
+/// What a query without a fault adds to the names that were met and to the modules of a part. `Text` is the query's first fault.
+fn judged(
+    alloc: Global,
+    met: &mut Met,
+    modules: &[Module],
+    query: &RawQuery,
+    bank: &mut Bank,
+) -> Result<Addition, TextFault>
+    requires whole { IsWhole queries query.now }
+    requires numbered { IsNumbered met.old.names modules.now }
+    requires first { met.old.variables ≡ [] }
+    ensures faultless { IfOk result (λ _. query_faults (map (known_heading met.old.names) modules.now) query.now ≡ []) }
+    ensures shows { IfOk result (λ p. form_tree bank.new p.goal.0
+        ≡ (read_form (map (λ m. text_of met.old.names m.name) modules.now) [] (record { names = met.old.names; variables = [] }) query.now).it) }
+    ensures asked { IfOk result (λ p. (ms : List (List ℕ)) → let after = (read_form ms [] (record { names = met.old.names; variables = [] }) query.now).met in
+        p.asked.items ≡ (read_asked after.names after.variables).it) }
+    ensures names { IfOk result (λ _. (ms : List (List ℕ)) → let after = (read_form ms [] (record { names = met.old.names; variables = [] }) query.now).met in
+        met.new.names ≡ (read_asked after.names after.variables).names) }
+    ensures inside { IfOk result (λ p. HasForm bank.new p.goal.0) }
+    ensures keeps { Extends bank.old bank.new }
+    ensures cause { IfErr result (IsCauseOf (λ fault. IsFirst fault (query_faults (map (known_heading met.old.names) modules.now) query.now))) }
+{
+    if let Some(fault) = query_fault(alloc, &met.names, modules, query)? {
+        return Err(TextFault::Text(fault));
+    }
+    let addition = added(alloc, met, modules, query, bank)?;
+    Ok(addition)
 }
 
 /// The problem that a query asks of a program's part, with a bound on the inferences of a branch, from 0 to 1,000,000. `Text` is the
@@ -236,13 +279,14 @@ pub fn ask(
         modules,
         clauses,
     } = loaded;
-    if let Some(fault) = query_fault(alloc, &names, &modules, query)? {
-        return Err(TextFault::Text(fault));
-    }
-    let addition = added(alloc, names, &modules, query, &mut bank)?;
+    let mut met = Met {
+        names,
+        variables: Variables::new(alloc),
+    };
+    let addition = judged(alloc, &mut met, &modules, query, &mut bank)?;
     Ok(Problem {
         bank,
-        names: addition.names,
+        names: met.names,
         modules,
         clauses,
         goal: addition.goal,

@@ -32,11 +32,11 @@ impl Loaded {
     pub fn copy(&self, alloc: Global) -> Result<Loaded, OutOfMemory>
         ensures { IfOk result (λ copy. copy ≡ self.now) }
     {
+        let clauses = Vec::from_slice(alloc, &self.clauses)?;
+        let modules = copied_modules(alloc, &self.modules)?;
+        let names = self.names.copy()?;
         let size = self.bank.size();
         let bank = self.bank.image(size)?;
-        let names = self.names.copy()?;
-        let modules = copied_modules(alloc, &self.modules)?;
-        let clauses = Vec::from_slice(alloc, &self.clauses)?;
         Ok(Loaded {
             bank,
             names,

@@ -127,6 +127,36 @@ fn module_fault(
     Ok(fault)
 }
 
+// The first fault of modules, before which none stands and no name is bound. Their names become binders, the earlier ones for each.
+fn fault_among(
+    alloc: Global,
+    source: &Source<'_, '_, '_>,
+    earlier: &mut Binders<'_>,
+    binders: &mut Binders<'_>,
+    modules: &[RawModule],
+) -> Result<Option<Fault>, OutOfMemory>
+    requires ready { All (IsModuleReady source.now.names.now source.now.forms.now) modules.now }
+    requires earlier { earlier.old ≡ record { texts = source.now.names.now; scope = [] } }
+    requires binders { binders.old ≡ record { texts = source.now.names.now; scope = [] } }
+    ensures { IfOk result (λ fault. (ms : List Heading) → AreFound source.now.headings.now.params ms
+        → IsHead fault (modules_faults ms [] (map (shown_module source.now.names.now source.now.forms.now) modules.now))) }
+{
+    for module in modules {
+        if earlier.has(module.name.name) {
+            return Ok(Some(Fault {
+                at: module.name.at,
+                kind: 12,
+            }));
+        }
+        earlier.open(module.name.name, false)?;
+        let fault = module_fault(alloc, source, binders, module)?;
+        if fault.is_some() {
+            return Ok(fault);
+        }
+    }
+    Ok(None)
+}
+
 // The first fault of modules.
 fn modules_fault(
     alloc: Global,
@@ -139,20 +169,28 @@ fn modules_fault(
 {
     let mut earlier = Binders::new(alloc, source.names)?;
     let mut binders = Binders::new(alloc, source.names)?;
-    for module in modules {
-        if earlier.has(module.name.name) {
-            return Ok(Some(Fault {
-                at: module.name.at,
-                kind: 12,
-            }));
-        }
-        earlier.open(module.name.name, false)?;
-        let fault = module_fault(alloc, source, &mut binders, module)?;
-        if fault.is_some() {
-            return Ok(fault);
-        }
+    fault_among(alloc, source, &mut earlier, &mut binders, modules)
+}
+
+// The first fault of clauses and of the modules behind them.
+fn rows_fault(
+    alloc: Global,
+    source: &Source<'_, '_, '_>,
+    clauses: &[RawClause],
+    modules: &[RawModule],
+) -> Result<Option<Fault>, OutOfMemory>
+    requires clauses { AreClausesReady source.now.names.now source.now.forms.now clauses.now }
+    requires modules { All (IsModuleReady source.now.names.now source.now.forms.now) modules.now }
+    ensures { IfOk result (λ fault. (ms : List Heading) → AreFound source.now.headings.now.params ms
+        → IsHead fault (clauses_faults ms [] (map (shown_clause source.now.names.now source.now.forms.now) clauses.now)
+        ++ modules_faults ms [] (map (shown_module source.now.names.now source.now.forms.now) modules.now))) }
+{
+    let mut binders = Binders::new(alloc, source.names)?;
+    let fault = clauses_fault(alloc, source, &mut binders, clauses)?;
+    if fault.is_some() {
+        return Ok(fault);
     }
-    Ok(None)
+    modules_fault(alloc, source, modules)
 }
 
 // The modules of a program as its loads see them.
@@ -198,13 +236,7 @@ pub fn judge_program(alloc: Global, program: &RawProgram) -> Result<Option<Fault
         forms: &program.forms,
         headings: &headings,
     };
-    let mut binders = Binders::new(alloc, &program.names)?;
-    let fault = clauses_fault(alloc, &source, &mut binders, &program.clauses)?;
-    if fault.is_some() {
-        return Ok(fault);
-    }
-    let fault = modules_fault(alloc, &source, &program.modules)?;
-    Ok(fault)
+    rows_fault(alloc, &source, &program.clauses, &program.modules)
 }
 
 /// The first fault of scope or sorting in a query, kinds 7 to 11, where its loads name these modules.

@@ -1,11 +1,13 @@
 //! The part of a problem that a program fixes, from its text.
 
-ghost use Rattle.std.specs.Prelude.{◌≡◌, [], IfOk, IfErr};
+ghost use Rattle.std.specs.Prelude.{◌≡◌, [], map, IfOk, IfErr};
+ghost use Rattle.ll_laws.specs.Shown.{clause_tree, module_tree, HasClauses, HasModules};
 ghost use Rattle.ll_parser.specs.Text.{programs};
 ghost use Rattle.ll_parser.specs.Reads.{IsWhole};
 ghost use Rattle.ll_polarity.specs.Asks.{module_names, part_of, HasProgramFault};
 ghost use Rattle.ll_polarity.specs.Causes.{IsCauseOf};
 ghost use Rattle.ll_polarity.specs.Faults.{program_faults};
+ghost use Rattle.ll_polarity.specs.Loading.{IsNumbered};
 ghost use Rattle.ll_polarity.specs.Places.{FindsFirst};
 
 use crate::front::Met;
@@ -18,9 +20,50 @@ use crate::put_modules::modules;
 use crate::scope::Binders;
 use crate::variables::Variables;
 use ll_bank::{Bank, Names, OutOfMemory};
+use ll_laws::{Clause, Module};
 use ll_lexer::TextFault;
 use ll_parser::RawProgram;
 use std::alloc::Global;
+
+/// The modules and the clauses of a part.
+#[derive(Drop)]
+struct Rows {
+    modules: Vec<Module>,
+    clauses: Vec<Clause>,
+}
+
+/// The modules and the clauses of a program without a fault, put into a bank. No name was met before.
+fn put_rows(
+    alloc: Global,
+    places: &Modules<'_>,
+    program: &RawProgram,
+    met: &mut Met,
+    bank: &mut Bank,
+) -> Result<Rows, OutOfMemory>
+    requires whole { IsWhole programs program.now }
+    requires faultless { program_faults program.now ≡ [] }
+    requires found { FindsFirst places.now.places (module_names program.now) }
+    requires first { met.old.names ≡ [] }
+    ensures part { IfOk result (λ rows. part_of program.now ≡ record {
+      names = met.new.names;
+      modules = map (module_tree bank.new) rows.modules.items;
+      clauses = map (clause_tree bank.new) rows.clauses.items;
+    }) }
+    ensures modules { IfOk result (λ rows. HasModules bank.new rows.modules.items) }
+    ensures clauses { IfOk result (λ rows. HasClauses bank.new rows.clauses.items) }
+    ensures numbered { IfOk result (λ rows. IsNumbered met.new.names rows.modules.items) }
+{
+    let text = Text {
+        names: &program.names,
+        forms: &program.forms,
+        modules: places,
+    };
+    let mut binders = Binders::new(alloc, &program.names)?;
+    let _texts = program.names.len();
+    let clauses = clauses(alloc, &text, &mut binders, met, bank, &program.clauses)?;
+    let modules = modules(alloc, &text, &mut binders, met, bank, &program.modules)?;
+    Ok(Rows { modules, clauses })
+}
 
 /// The part that a program without a fault fixes, whose modules have these places.
 fn put_part(
@@ -33,39 +76,17 @@ fn put_part(
     requires found { FindsFirst places.now.places (module_names program.now) }
     ensures { IfOk result (λ loaded. loaded ≡ part_of program.now) }
 {
-    let text = Text {
-        names: &program.names,
-        forms: &program.forms,
-        modules: places,
-    };
-    let mut binders = Binders::new(alloc, &program.names)?;
     let mut bank = Bank::new(alloc);
     let mut met = Met {
         names: Names::new(alloc),
         variables: Variables::new(alloc),
     };
-    let _texts = program.names.len();
-    let clauses = clauses(
-        alloc,
-        &text,
-        &mut binders,
-        &mut met,
-        &mut bank,
-        &program.clauses,
-    )?;
-    let modules = modules(
-        alloc,
-        &text,
-        &mut binders,
-        &mut met,
-        &mut bank,
-        &program.modules,
-    )?;
+    let rows = put_rows(alloc, places, program, &mut met, &mut bank)?;
     Ok(Loaded {
         bank,
         names: met.names,
-        modules,
-        clauses,
+        modules: rows.modules,
+        clauses: rows.clauses,
     })
 }
 

@@ -1,6 +1,6 @@
 //! Clauses, put into a bank with quantifiers for their variables.
 
-ghost use Rattle.std.specs.Prelude.{◌≡◌, ◌*◌, ◌+◌, ◌^◌, ◌<◌, ℕ, List, [], None, length, map, All, IfOk};
+ghost use Rattle.std.specs.Prelude.{◌≡◌, ◌*◌, ◌+◌, ◌^◌, ◌<◌, ◌≤◌, ℕ, List, [], None, length, map, All, IfOk};
 ghost use Rattle.ll_bank.specs.Nodes.{HasForm, ShowsForm, form_tree, Extends};
 ghost use Rattle.ll_laws.specs.Module.{forall_all};
 ghost use Rattle.ll_laws.specs.Shown.{clause_tree, HasClauses};
@@ -9,7 +9,7 @@ ghost use Rattle.ll_parser.specs.Nodes.{raw_at, shown_clause};
 ghost use Rattle.ll_parser.specs.Weights.{weight, clauses_weight};
 ghost use Rattle.ll_polarity.specs.Asks.{kind_of as kind_by, read_clause, read_clauses};
 ghost use Rattle.ll_polarity.specs.Faults.{Heading, form_faults, clauses_faults};
-ghost use Rattle.ll_polarity.specs.Reading.{module_in};
+ghost use Rattle.ll_polarity.specs.Reading.{module_in, read_form};
 ghost use Rattle.ll_polarity.specs.Standing.{StandsIn};
 ghost use Rattle.ll_polarity.specs.Calls.{IsReady};
 ghost use Rattle.ll_polarity.specs.Grounds.{ground};
@@ -36,9 +36,36 @@ fn under(bank: &mut Bank, count: u32, body: FormAt) -> Result<FormAt, OutOfMemor
     Ok(form)
 }
 
+/// How many variables a clause has, by a reading into a bank of its own. It meets the names of the clause.
+fn counted(
+    alloc: Global,
+    text: &Text<'_>,
+    binders: &mut Binders<'_>,
+    met: &mut Met,
+    clause: RawClause,
+) -> Result<u32, OutOfMemory>
+    requires stands { StandsIn text.now.names.now binders.old (record { quantified = None; depth = 0 }) }
+    requires ready { IsReady text.now.names.now text.now.forms.now clause.form.0 }
+    requires room { length met.old.names + length binders.old.scope + 6 * weight (raw_at text.now.names.now text.now.forms.now clause.form.0) < 2 ^ 32 }
+    ensures count { IfOk result (λ count. (ms : List (List ℕ)) → count ≡ length (read_form ms binders.old.scope
+        (record { names = met.old.names; variables = [] }) (raw_at text.now.names.now text.now.forms.now clause.form.0)).met.variables) }
+    ensures names { IfOk result (λ _. (ms : List (List ℕ)) → met.new.names ≡ (read_form ms binders.old.scope
+        (record { names = met.old.names; variables = [] }) (raw_at text.now.names.now text.now.forms.now clause.form.0)).met.names) }
+    ensures few { IfOk result (λ count. length met.new.names + count ≤ length met.old.names
+        + weight (raw_at text.now.names.now text.now.forms.now clause.form.0)) }
+    ensures scope { IfOk result (λ _. binders.new.scope ≡ binders.old.scope) }
+    ensures texts { IfOk result (λ _. binders.new.texts ≡ text.now.names.now) }
+{
+    let mut scratch = Bank::new(alloc);
+    met.variables = Variables::new(alloc);
+    form(alloc, text, binders, None, met, &mut scratch, clause.form)?;
+    let count = met.variables.len() as u32;
+    Ok(count)
+}
+
 /// The formula of a clause, under quantifiers for its variables.
 ///
-/// A first reading, into a bank of its own, counts the variables; in a second one each stands for the place of its quantifier.
+/// A first reading counts the variables; in a second one each stands for the place of its quantifier.
 fn quantified(
     alloc: Global,
     text: &Text<'_>,
@@ -60,15 +87,11 @@ fn quantified(
     ensures texts { IfOk result (λ _. binders.new.texts ≡ text.now.names.now) }
     ensures keeps { Extends bank.old bank.new }
 {
-    let mut scratch = Bank::new(alloc);
-    met.variables = Variables::new(alloc);
-    form(alloc, text, binders, None, met, &mut scratch, clause.form)?;
-    let count = met.variables.len() as u32;
+    let count = counted(alloc, text, binders, met, clause)?;
     let _known = met.names.len();
     met.variables = Variables::new(alloc);
     let body = form(alloc, text, binders, Some(count), met, bank, clause.form)?;
-    let closed = under(bank, count, body)?;
-    Ok(closed)
+    under(bank, count, body)
 }
 
 /// A clause, put into the bank.

@@ -1,30 +1,36 @@
-use Rattle.std.proofs.Common.{◌≡◌, ◌<◌, [], length, All, sym, subst}
+use Rattle.std.proofs.Common.{◌≡◌, [], sym, subst}
+use Rattle.std.proofs.lemmas.Result.{err_from_is_err_and, IfOk-from_err}
 use Rattle.ll_bank.specs.Nodes.{form_tree}
-use Rattle.ll_laws.specs.declared.Module.{Module}
+use Rattle.ll_polarity.specs.Causes.{IsCauseOf}
 use Rattle.ll_polarity.specs.Faults.{query_faults}
-use Rattle.ll_polarity.specs.Asks.{headings_of, IsFirst}
+use Rattle.ll_polarity.specs.Asks.{IsFirst}
 use Rattle.ll_polarity.specs.Loading.{IsNumbered}
 use Rattle.ll_polarity.proofs.problems.Problems.{asked_problem_valid}
 use Rattle.ll_polarity.proofs.putting.Shown.{modules_stay, clauses_stay, headings_shown, problem_shown}
-use Rattle.ll_polarity.proofs.problems.Asked.{asks_problem, fault_of_part}
+use Rattle.ll_polarity.proofs.problems.Asked.{asks_problem, cause_of_part}
 use Rattle.ll_polarity.proofs.asking.ask.Goals as goal
 
-pub query_fault-requires-clause-named : goal.query_fault-requires-clause-named
-query_fault-requires-clause-named c = subst (All (λ (m : Module). m.name < length c.loaded.inside.names)) (sym c.deref.ensures.value) c.loaded.invariant.2.named
+pub judged-requires-clause-numbered : goal.judged-requires-clause-numbered
+judged-requires-clause-numbered c = subst (IsNumbered c.loaded.inside.names) (sym c.deref.ensures.value) c.loaded.invariant.2
 
-pub added-requires-clause-numbered : goal.added-requires-clause-numbered
-added-requires-clause-numbered c = subst (IsNumbered c.loaded.inside.names) (sym c.deref-2.ensures.value) c.loaded.invariant.2
-
-pub returns-in-Some-clause-cause : goal.returns-in-Some-clause-cause
-returns-in-Some-clause-cause c =
+pub returns-in_err-addition-clause-cause : goal.returns-in_err-addition-clause-cause
+returns-in_err-addition-clause-cause c =
     let part = c.loaded.inside in
-    subst (λ hs. IsFirst c.in-Some.fault (query_faults hs c.args.query.now))
+    let p = err_from_is_err_and c.from_residual.result c.from_residual.ensures.1 in
+    rw (p.1, p.2)
+    (subst (λ hs. IsCauseOf (λ fault. IsFirst fault (query_faults hs c.args.query.now)) c.in_err-addition.field-0.0)
     (headings_shown part.bank part.names part.modules.items c.deref.result.now part.clauses.items c.args.loaded c.deref.ensures.value c.loaded.view_is)
-    (rw c.in-Some.is at c.in_ok-fault.ensures)
+    c.in_err-addition.ensures.cause)
 
-pub returns-in-Some-clause-fault : goal.returns-in-Some-clause-fault
-returns-in-Some-clause-fault c =
-    fault_of_part c.args.loaded c.args.query.now c.in-Some.fault (returns-in-Some-clause-cause c)
+pub returns-in_err-addition-clause-fault : goal.returns-in_err-addition-clause-fault
+returns-in_err-addition-clause-fault c =
+    let part = c.loaded.inside in
+    let p = err_from_is_err_and c.from_residual.result c.from_residual.ensures.1 in
+    rw (p.1, p.2)
+    (cause_of_part c.args.loaded c.args.query.now _
+    (subst (λ hs. IsCauseOf (λ fault. IsFirst fault (query_faults hs c.args.query.now)) c.in_err-addition.field-0.0)
+    (headings_shown part.bank part.names part.modules.items c.deref.result.now part.clauses.items c.args.loaded c.deref.ensures.value c.loaded.view_is)
+    c.in_err-addition.ensures.cause))
 
 pub invariant_of-result : goal.invariant_of-result
 invariant_of-result c =
@@ -37,16 +43,16 @@ returns-clause-faultless c =
     let part = c.loaded.inside in
     subst (λ hs. query_faults hs c.args.query.now ≡ [])
     (headings_shown part.bank part.names part.modules.items c.deref.result.now part.clauses.items c.args.loaded c.deref.ensures.value c.loaded.view_is)
-    (rw c.in_default.is at c.in_ok-fault.ensures)
+    c.in_ok-addition.ensures.faultless
 
 pub returns-clause-problem : goal.returns-clause-problem
 returns-clause-problem c =
     let part = c.loaded.inside in
     let new = c.in_ok-addition.addition in
-    problem_shown part.bank c.added.new.bank part.names part.modules.items c.deref-2.result.now part.clauses.items c.args.loaded c.deref-2.ensures.value
+    problem_shown part.bank c.judged.new.bank part.names part.modules.items c.deref.result.now part.clauses.items c.args.loaded c.deref.ensures.value
     c.loaded.view_is c.loaded.invariant.0 c.loaded.invariant.1 c.in_ok-addition.ensures.keeps
-    c.args.query.now c.args.bound new.names (form_tree c.added.new.bank new.goal.0) new.asked.items
-    (c.in_ok-addition.ensures.shows (headings_of c.args.loaded) (returns-clause-faultless c)) c.in_ok-addition.ensures.asked c.in_ok-addition.ensures.names
+    c.args.query.now c.args.bound c.judged.new.met.names (form_tree c.judged.new.bank new.goal.0) new.asked.items
+    c.in_ok-addition.ensures.shows c.in_ok-addition.ensures.asked c.in_ok-addition.ensures.names
 
 pub returns-clause-asks : goal.returns-clause-asks
 returns-clause-asks c =
@@ -55,3 +61,15 @@ returns-clause-asks c =
 pub returns-clause-valid : goal.returns-clause-valid
 returns-clause-valid c = λ program whole faultless is.
     asked_problem_valid program c.args.query.now c.args.bound _ (returns-clause-asks c program faultless is) whole c.requires.whole c.requires.bound
+
+pub returns-in_err-addition-clause-problem : goal.returns-in_err-addition-clause-problem
+returns-in_err-addition-clause-problem c = IfOk-from_err c.from_residual.result _ c.from_residual.ensures.0
+
+pub returns-in_err-addition-clause-faultless : goal.returns-in_err-addition-clause-faultless
+returns-in_err-addition-clause-faultless c = IfOk-from_err c.from_residual.result _ c.from_residual.ensures.0
+
+pub returns-in_err-addition-clause-asks : goal.returns-in_err-addition-clause-asks
+returns-in_err-addition-clause-asks c = IfOk-from_err c.from_residual.result _ c.from_residual.ensures.0
+
+pub returns-in_err-addition-clause-valid : goal.returns-in_err-addition-clause-valid
+returns-in_err-addition-clause-valid c = IfOk-from_err c.from_residual.result _ c.from_residual.ensures.0

@@ -1,4 +1,5 @@
 use Rattle.std.proofs.Common.{◌≡◌, None, take, get_or, refl, sym, subst, ap, ◌∙◌}
+use Rattle.std.proofs.lemmas.Result.{IfOk-from_err}
 use Rattle.std.proofs.lemmas.List.{take_more, take_all}
 use Rattle.std.specs.Prelude.{◌^◌}
 use Rattle.ll_polarity.specs.Numbered.{variables_of}
@@ -36,3 +37,15 @@ returns-clause-names c =
     let e : take c.loop-variable.variable-index c.args.variables.now ≡ c.args.variables.now =
     take_all c.loop-variable.variable-index c.args.variables.now c.loop-variable-test.false in
     c.loop-variable.invariant.texts_are ∙ ap (λ vs. (read_asked c.args.names.now (variables_of c.args.texts.now vs)).names) e
+
+pub returns-in_err-number-clause-asked : goal.returns-in_err-number-clause-asked
+returns-in_err-number-clause-asked c = IfOk-from_err c.from_residual.result _ c.from_residual.ensures.0
+
+pub returns-in_err-number-clause-names : goal.returns-in_err-number-clause-names
+returns-in_err-number-clause-names c = IfOk-from_err c.from_residual.result _ c.from_residual.ensures.0
+
+pub returns-in_err-push-clause-asked : goal.returns-in_err-push-clause-asked
+returns-in_err-push-clause-asked c = IfOk-from_err c.from_residual-in_err-push.result _ c.from_residual-in_err-push.ensures.0
+
+pub returns-in_err-push-clause-names : goal.returns-in_err-push-clause-names
+returns-in_err-push-clause-names c = IfOk-from_err c.from_residual-in_err-push.result _ c.from_residual-in_err-push.ensures.0

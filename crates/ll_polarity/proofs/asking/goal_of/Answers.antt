@@ -1,4 +1,5 @@
 use Rattle.std.proofs.Common.{[], length, None, ap, ◌∙◌, arith}
+use Rattle.std.proofs.lemmas.Result.{IfOk-from_err}
 use Rattle.std.specs.Prelude.{unwrap_or}
 use Rattle.ll_bank.proofs.CallerLemmas.{Extends-refl}
 use Rattle.ll_laws.specs.Valid.{GoalSide}
@@ -55,3 +56,21 @@ returns-clause-met c = λ ms.
     ((λ i. (built_form places (outermost None ((c.in_ok-binders.ensures i).scope))
     (record { names = c.args.met.now.names; variables = variables_of texts (c.requires.first i) }) raw).met)
     ∙ met_form places ms (outermost None []) met raw)
+
+pub returns-in_err-binders-clause-inside : goal.returns-in_err-binders-clause-inside
+returns-in_err-binders-clause-inside c = IfOk-from_err c.from_residual.result _ c.from_residual.ensures.0
+
+pub returns-in_err-binders-clause-met : goal.returns-in_err-binders-clause-met
+returns-in_err-binders-clause-met c = IfOk-from_err c.from_residual.result _ c.from_residual.ensures.0
+
+pub returns-in_err-binders-clause-shows : goal.returns-in_err-binders-clause-shows
+returns-in_err-binders-clause-shows c = IfOk-from_err c.from_residual.result _ c.from_residual.ensures.0
+
+pub returns-in_err-goal-clause-inside : goal.returns-in_err-goal-clause-inside
+returns-in_err-goal-clause-inside c = IfOk-from_err c.from_residual-in_err-goal.result _ c.from_residual-in_err-goal.ensures.0
+
+pub returns-in_err-goal-clause-met : goal.returns-in_err-goal-clause-met
+returns-in_err-goal-clause-met c = IfOk-from_err c.from_residual-in_err-goal.result _ c.from_residual-in_err-goal.ensures.0
+
+pub returns-in_err-goal-clause-shows : goal.returns-in_err-goal-clause-shows
+returns-in_err-goal-clause-shows c = IfOk-from_err c.from_residual-in_err-goal.result _ c.from_residual-in_err-goal.ensures.0

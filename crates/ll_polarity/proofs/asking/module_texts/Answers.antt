@@ -1,4 +1,5 @@
 use Rattle.std.proofs.Common.{[]}
+use Rattle.std.proofs.lemmas.Result.{IfOk-from_err}
 use Rattle.std.specs.String.{string_bytes}
 use Rattle.std.proofs.lemmas.Option.{get_or_from_slice_get}
 use Rattle.ll_polarity.specs.Numbered.{text_of}
@@ -12,3 +13,9 @@ loop-module-preserved c =
     c.loop-module.texts.items c.push.new.self.items c.in_ok-text.text c.loop-module-test.true c.module-item.is
     (get_or_from_slice_get c.args.names.now item.name c.text.result.now [] c.text.ensures) c.in_ok-text.ensures.ok c.loop-module.invariant
     c.in_ok-push.ensures.items
+
+pub returns-in_err-push : goal.returns-in_err-push
+returns-in_err-push c = IfOk-from_err c.from_residual-in_err-push.result _ c.from_residual-in_err-push.ensures.0
+
+pub returns-in_err-text : goal.returns-in_err-text
+returns-in_err-text c = IfOk-from_err c.from_residual.result _ c.from_residual.ensures.0

@@ -1,4 +1,5 @@
 use Rattle.std.proofs.Common.{◌≡◌, [], sym, subst, ap, ◌∙◌, arith}
+use Rattle.std.proofs.lemmas.Result.{IfOk-from_err}
 use Rattle.std.proofs.lemmas.Option.{get_or_from_slice_get}
 use Rattle.ll_bank.specs.declared.Head.TheVariants as head
 use Rattle.ll_bank.specs.Term.{Var, Con}
@@ -62,3 +63,17 @@ returns-in_ok-number-in-Constant-clause-met c =
     ≡ (read_name m (met_of texts c.args.met.now) w).met) e
     (ap (λ ns. let m : Met = record { names = ns; variables = variables_of texts c.args.met.now.variables } in m)
     (c.in_ok-number-in-Constant.ensures.added ∙ ap (with_name c.args.met.now.names) (sym t)))
+
+pub returns-in_err-number-in-Constant-clause-front : goal.returns-in_err-number-in-Constant-clause-front
+returns-in_err-number-in-Constant-clause-front c =
+    IfOk-from_err c.from_residual-in_err-number-in-Constant.result _ c.from_residual-in_err-number-in-Constant.ensures.0
+
+pub returns-in_err-number-in-Constant-clause-met : goal.returns-in_err-number-in-Constant-clause-met
+returns-in_err-number-in-Constant-clause-met c =
+    IfOk-from_err c.from_residual-in_err-number-in-Constant.result _ c.from_residual-in_err-number-in-Constant.ensures.0
+
+pub returns-in_err-number-in-Free-clause-front : goal.returns-in_err-number-in-Free-clause-front
+returns-in_err-number-in-Free-clause-front c = IfOk-from_err c.from_residual.result _ c.from_residual.ensures.0
+
+pub returns-in_err-number-in-Free-clause-met : goal.returns-in_err-number-in-Free-clause-met
+returns-in_err-number-in-Free-clause-met c = IfOk-from_err c.from_residual.result _ c.from_residual.ensures.0

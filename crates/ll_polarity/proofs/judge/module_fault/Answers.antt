@@ -1,4 +1,5 @@
 use Rattle.std.proofs.Common.{◌++◌, map, [], subst, sym, ◌∙◌}
+use Rattle.std.proofs.lemmas.Result.{IfOk-from_err}
 use Rattle.ll_parser.specs.Nodes.{identifier, shown_clause}
 use Rattle.ll_polarity.specs.Scope.{Scoped}
 use Rattle.ll_polarity.specs.Faults.{repeated, clauses_faults}
@@ -21,3 +22,27 @@ returns-clause-first c = λ ms known.
     (subst (λ s. IsHead c.in_ok-fault-2.fault (clauses_faults ms s (map (shown_clause texts nodes) c.args.body.now.clauses.items))) scope
     (subst (λ cs. IsHead c.in_ok-fault-2.fault (clauses_faults ms c.open_all-2.new.binders.scope (map (shown_clause texts nodes) cs))) c.deref-3.ensures.value
     (c.in_ok-fault-2.ensures.first ms known)))
+
+pub returns-in_err-fault-2-clause-binders : goal.returns-in_err-fault-2-clause-binders
+returns-in_err-fault-2-clause-binders c = IfOk-from_err c.from_residual-in_err-fault-2.result _ c.from_residual-in_err-fault-2.ensures.0
+
+pub returns-in_err-fault-2-clause-first : goal.returns-in_err-fault-2-clause-first
+returns-in_err-fault-2-clause-first c = IfOk-from_err c.from_residual-in_err-fault-2.result _ c.from_residual-in_err-fault-2.ensures.0
+
+pub returns-in_err-fault-clause-binders : goal.returns-in_err-fault-clause-binders
+returns-in_err-fault-clause-binders c = IfOk-from_err c.from_residual.result _ c.from_residual.ensures.0
+
+pub returns-in_err-fault-clause-first : goal.returns-in_err-fault-clause-first
+returns-in_err-fault-clause-first c = IfOk-from_err c.from_residual.result _ c.from_residual.ensures.0
+
+pub returns-in_err-open_all-2-clause-binders : goal.returns-in_err-open_all-2-clause-binders
+returns-in_err-open_all-2-clause-binders c = IfOk-from_err c.from_residual-in_err-open_all-2.result _ c.from_residual-in_err-open_all-2.ensures.0
+
+pub returns-in_err-open_all-2-clause-first : goal.returns-in_err-open_all-2-clause-first
+returns-in_err-open_all-2-clause-first c = IfOk-from_err c.from_residual-in_err-open_all-2.result _ c.from_residual-in_err-open_all-2.ensures.0
+
+pub returns-in_err-open_all-clause-binders : goal.returns-in_err-open_all-clause-binders
+returns-in_err-open_all-clause-binders c = IfOk-from_err c.from_residual-in_err-open_all.result _ c.from_residual-in_err-open_all.ensures.0
+
+pub returns-in_err-open_all-clause-first : goal.returns-in_err-open_all-clause-first
+returns-in_err-open_all-clause-first c = IfOk-from_err c.from_residual-in_err-open_all.result _ c.from_residual-in_err-open_all.ensures.0

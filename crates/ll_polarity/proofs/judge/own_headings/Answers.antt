@@ -1,4 +1,5 @@
 use Rattle.std.proofs.Common.{◌≡◌, [], length, slice_index_or, rules, sym, ap, ◌∙◌}
+use Rattle.std.proofs.lemmas.Result.{IfOk-from_err}
 use Rattle.std.proofs.lemmas.Option.{get_or_from_slice_get}
 use Rattle.ll_polarity.specs.Faults.{Heading}
 use Rattle.ll_polarity.specs.Ready.{raw_heading}
@@ -15,3 +16,6 @@ loop-module-preserved c =
     ∙ ap (λ k. let h : Heading = record { name = slice_index_or c.args.names.now item.name.name []; params = k } in h) count in
     headings-more (raw_heading c.args.names.now) c.args.modules.now c.loop-module.module-index item _ c.loop-module.headings.params c.add.new.self.params
     c.loop-module-test.true c.module-item.is this c.loop-module.invariant c.in_ok-add.ensures
+
+pub returns-in_err-add : goal.returns-in_err-add
+returns-in_err-add c = IfOk-from_err c.from_residual.result _ c.from_residual.ensures.0

@@ -1,4 +1,5 @@
 use Rattle.std.proofs.Common.{◌<◌, All, length, sym, subst}
+use Rattle.std.proofs.lemmas.Result.{IfOk-from_err}
 use Rattle.ll_parser.specs.declared.RawModule.{RawModule}
 use Rattle.ll_parser.specs.Reads.{IsWhole}
 use Rattle.ll_parser.specs.Text.{programs}
@@ -26,3 +27,9 @@ put_part-requires-clause-found c =
     let p = c.program.inside in
     subst (λ tree. FindsFirst c.in_ok-places.places.places (module_names tree)) c.program.view_is
     (places_found p.names p.forms c.in_ok-places.places.places p.clauses.items p.modules.items c.deref.result.now c.deref.ensures.value c.in_ok-places.ensures)
+
+pub returns-in_err-part : goal.returns-in_err-part
+returns-in_err-part c = IfOk-from_err c.from_residual-in_err-part.result _ c.from_residual-in_err-part.ensures.0
+
+pub returns-in_err-places : goal.returns-in_err-places
+returns-in_err-places c = IfOk-from_err c.from_residual.result _ c.from_residual.ensures.0

@@ -1,4 +1,5 @@
 use Rattle.std.proofs.Common.{◌≡◌, [], length, take, map, subst, ◌∙◌, arith, length-take}
+use Rattle.std.proofs.lemmas.Result.{IfOk-from_err}
 use Rattle.std.proofs.lemmas.List.{length-map, take_all}
 use Rattle.std.proofs.lemmas.Option.{get_or_from_slice_get}
 use Rattle.ll_polarity.specs.Numbered.{text_of}
@@ -18,3 +19,6 @@ pub returns : goal.returns
 returns c =
     let e : take c.loop-place.place c.args.modules.now ≡ c.args.modules.now = take_all c.loop-place.place c.args.modules.now c.loop-place-test.false in
     subst (λ ms. FindsFirst c.loop-place.found.places (map (λ m. text_of c.args.names.now m.name.name) ms)) e c.loop-place.invariant
+
+pub returns-in_err-add : goal.returns-in_err-add
+returns-in_err-add c = IfOk-from_err c.from_residual.result _ c.from_residual.ensures.0

@@ -1,4 +1,20 @@
+use Rattle.std.proofs.lemmas.Result.{IfOk-from_err}
 use Rattle.ll_polarity.proofs.put_clauses.clause.Goals as goal
 
 pub returns-clause-shows : goal.returns-clause-shows
 returns-clause-shows c = λ ms heads first h. λ i. record { kind = c.kind_of-kind.ensures i; form = (c.in_ok-form.ensures.shows ms heads first h).tree i }
+
+pub returns-in_err-form-clause-inside : goal.returns-in_err-form-clause-inside
+returns-in_err-form-clause-inside c = IfOk-from_err c.from_residual.result _ c.from_residual.ensures.0
+
+pub returns-in_err-form-clause-names : goal.returns-in_err-form-clause-names
+returns-in_err-form-clause-names c = IfOk-from_err c.from_residual.result _ c.from_residual.ensures.0
+
+pub returns-in_err-form-clause-scope : goal.returns-in_err-form-clause-scope
+returns-in_err-form-clause-scope c = IfOk-from_err c.from_residual.result _ c.from_residual.ensures.0
+
+pub returns-in_err-form-clause-shows : goal.returns-in_err-form-clause-shows
+returns-in_err-form-clause-shows c = IfOk-from_err c.from_residual.result _ c.from_residual.ensures.0
+
+pub returns-in_err-form-clause-texts : goal.returns-in_err-form-clause-texts
+returns-in_err-form-clause-texts c = IfOk-from_err c.from_residual.result _ c.from_residual.ensures.0

@@ -1,4 +1,5 @@
 use Rattle.std.proofs.Common.{◌≡◌, suc, ◌+◌, refl, ap, ◌∙◌, arith}
+use Rattle.std.proofs.lemmas.Result.{IfOk-from_err}
 use Rattle.ll_bank.specs.Form.{Forall}
 use Rattle.ll_bank.specs.Nodes.{form_tree}
 use Rattle.ll_bank.proofs.CallerLemmas.{Extends-refl, Extends-trans}
@@ -19,3 +20,6 @@ loop-passed-preserved c = record {
   };
   keeps = Extends-trans c.loop-passed.invariant.keeps c.in_ok-form.ensures.keeps;
 }
+
+pub returns-in_err-form-clause-shows : goal.returns-in_err-form-clause-shows
+returns-in_err-form-clause-shows c = IfOk-from_err c.from_residual.result _ c.from_residual.ensures.0

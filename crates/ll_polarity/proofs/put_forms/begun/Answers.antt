@@ -1,4 +1,5 @@
 use Rattle.std.proofs.Common.{◌≡◌, ℕ, suc, ◌+◌, ◌*◌, ◌<◌, ◌≤◌, List, length, refl, sym, subst, ap, arith}
+use Rattle.std.proofs.lemmas.Result.{IfOk-from_err}
 use Rattle.std.specs.Prelude.{◌^◌, unwrap_or}
 use Rattle.ll_bank.specs.Form.{One, Top}
 use Rattle.ll_bank.proofs.CallerLemmas.{Extends-refl}
@@ -212,3 +213,12 @@ returns-in-Most c = record {
   scope = always c.number_goal-in-Most.result _ (one_more (length c.args.binders.now.scope));
   keeps = c.number_goal-in-Most.ensures.keeps;
 }
+
+pub returns-in_err-form-in-Head-clause-scope : goal.returns-in_err-form-in-Head-clause-scope
+returns-in_err-form-in-Head-clause-scope c = IfOk-from_err c.from_residual.result _ c.from_residual.ensures.0
+
+pub returns-in_err-form-in-Head-clause-stands : goal.returns-in_err-form-in-Head-clause-stands
+returns-in_err-form-in-Head-clause-stands c = IfOk-from_err c.from_residual.result _ c.from_residual.ensures.0
+
+pub returns-in_err-form-in-Head-clause-step : goal.returns-in_err-form-in-Head-clause-step
+returns-in_err-form-in-Head-clause-step c = IfOk-from_err c.from_residual.result _ c.from_residual.ensures.0

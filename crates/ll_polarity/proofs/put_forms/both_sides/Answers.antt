@@ -1,3 +1,4 @@
+use Rattle.std.proofs.lemmas.Result.{IfOk-from_err}
 use Rattle.ll_bank.proofs.CallerLemmas.{ShowsTerm-extends}
 use Rattle.ll_parser.specs.Nodes.{raw_at}
 use Rattle.ll_polarity.specs.Standing.{met_of, around}
@@ -14,3 +15,21 @@ term-requires-clause-room c =
 
 pub returns-clause-left : goal.returns-clause-left
 returns-clause-left c = ShowsTerm-extends c.term-2.ensures.keeps c.in_ok-left.ensures.shows
+
+pub returns-in_err-left-clause-left : goal.returns-in_err-left-clause-left
+returns-in_err-left-clause-left c = IfOk-from_err c.from_residual.result _ c.from_residual.ensures.0
+
+pub returns-in_err-left-clause-met : goal.returns-in_err-left-clause-met
+returns-in_err-left-clause-met c = IfOk-from_err c.from_residual.result _ c.from_residual.ensures.0
+
+pub returns-in_err-left-clause-right : goal.returns-in_err-left-clause-right
+returns-in_err-left-clause-right c = IfOk-from_err c.from_residual.result _ c.from_residual.ensures.0
+
+pub returns-in_err-right-clause-left : goal.returns-in_err-right-clause-left
+returns-in_err-right-clause-left c = IfOk-from_err c.from_residual-in_err-right.result _ c.from_residual-in_err-right.ensures.0
+
+pub returns-in_err-right-clause-met : goal.returns-in_err-right-clause-met
+returns-in_err-right-clause-met c = IfOk-from_err c.from_residual-in_err-right.result _ c.from_residual-in_err-right.ensures.0
+
+pub returns-in_err-right-clause-right : goal.returns-in_err-right-clause-right
+returns-in_err-right-clause-right c = IfOk-from_err c.from_residual-in_err-right.result _ c.from_residual-in_err-right.ensures.0

@@ -1,4 +1,5 @@
 use Rattle.std.proofs.Common.{refl, arith, ◌∙◌}
+use Rattle.std.proofs.lemmas.Result.{IfOk-from_err}
 use Rattle.ll_bank.proofs.CallerLemmas.{Extends-refl}
 use Rattle.ll_polarity.specs.Grounds.{ground}
 use Rattle.ll_polarity.proofs.putting.Framing.{at_step, stands_now, coming_room, read_on, taken_fits, given_on, has_parts}
@@ -71,3 +72,27 @@ steps-preserved c =
     c.in_ok-step-in-Some.ensures.keeps in
     let l = f.less in
     record { coming = f.coming; texts = c.in_ok-step-in-Some.ensures.texts ∙ c.steps.invariant.texts; low = omega arith }
+
+pub returns-in_err-step-in-Read-clause-met : goal.returns-in_err-step-in-Read-clause-met
+returns-in_err-step-in-Read-clause-met c = IfOk-from_err c.from_residual.result _ c.from_residual.ensures.0
+
+pub returns-in_err-step-in-Read-clause-scope : goal.returns-in_err-step-in-Read-clause-scope
+returns-in_err-step-in-Read-clause-scope c = IfOk-from_err c.from_residual.result _ c.from_residual.ensures.0
+
+pub returns-in_err-step-in-Read-clause-shows : goal.returns-in_err-step-in-Read-clause-shows
+returns-in_err-step-in-Read-clause-shows c = IfOk-from_err c.from_residual.result _ c.from_residual.ensures.0
+
+pub returns-in_err-step-in-Read-clause-texts : goal.returns-in_err-step-in-Read-clause-texts
+returns-in_err-step-in-Read-clause-texts c = IfOk-from_err c.from_residual.result _ c.from_residual.ensures.0
+
+pub returns-in_err-step-in-Some-clause-met : goal.returns-in_err-step-in-Some-clause-met
+returns-in_err-step-in-Some-clause-met c = IfOk-from_err c.from_residual-in_err-step-in-Some.result _ c.from_residual-in_err-step-in-Some.ensures.0
+
+pub returns-in_err-step-in-Some-clause-scope : goal.returns-in_err-step-in-Some-clause-scope
+returns-in_err-step-in-Some-clause-scope c = IfOk-from_err c.from_residual-in_err-step-in-Some.result _ c.from_residual-in_err-step-in-Some.ensures.0
+
+pub returns-in_err-step-in-Some-clause-shows : goal.returns-in_err-step-in-Some-clause-shows
+returns-in_err-step-in-Some-clause-shows c = IfOk-from_err c.from_residual-in_err-step-in-Some.result _ c.from_residual-in_err-step-in-Some.ensures.0
+
+pub returns-in_err-step-in-Some-clause-texts : goal.returns-in_err-step-in-Some-clause-texts
+returns-in_err-step-in-Some-clause-texts c = IfOk-from_err c.from_residual-in_err-step-in-Some.result _ c.from_residual-in_err-step-in-Some.ensures.0

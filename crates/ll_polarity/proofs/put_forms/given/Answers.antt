@@ -1,4 +1,5 @@
 use Rattle.std.proofs.Common.{◌≡◌, ◌+◌, refl, sym, subst, arith, ap}
+use Rattle.std.proofs.lemmas.Result.{IfOk-from_err}
 use Rattle.ll_bank.specs.Form.{Form, Use}
 use Rattle.ll_bank.specs.Nodes.{form_tree, term_trees}
 use Rattle.ll_bank.proofs.CallerLemmas.{Extends-refl}
@@ -85,3 +86,21 @@ returns-in_ok-form-in-Load-clause-step c = λ g a met.
     (around c.args.place.now c.args.binders.now.scope) c.in_ok-form-in-Load.field-0 _ c.in_ok-form-in-Load.ensures.shows
     (ap (λ ts. let x : Read Form = record { it = Use c.in-Load.module (term_trees c.args.bank.now ts) (form_tree c.args.bank.now c.args.form.0); met = met }
     in x) c.deref.ensures.value) refl e (omega arith))
+
+pub returns-in_err-form-in-Braces-clause-step : goal.returns-in_err-form-in-Braces-clause-step
+returns-in_err-form-in-Braces-clause-step c = IfOk-from_err c.from_residual.result _ c.from_residual.ensures.0
+
+pub returns-in_err-form-in-Exists-clause-step : goal.returns-in_err-form-in-Exists-clause-step
+returns-in_err-form-in-Exists-clause-step c = IfOk-from_err c.from_residual-in_err-form-in-Exists.result _ c.from_residual-in_err-form-in-Exists.ensures.0
+
+pub returns-in_err-form-in-Forall-clause-step : goal.returns-in_err-form-in-Forall-clause-step
+returns-in_err-form-in-Forall-clause-step c = IfOk-from_err c.from_residual-in_err-form-in-Forall.result _ c.from_residual-in_err-form-in-Forall.ensures.0
+
+pub returns-in_err-form-in-Load-clause-step : goal.returns-in_err-form-in-Load-clause-step
+returns-in_err-form-in-Load-clause-step c = IfOk-from_err c.from_residual-in_err-form-in-Load.result _ c.from_residual-in_err-form-in-Load.ensures.0
+
+pub returns-in_err-joined-in-Right-clause-step : goal.returns-in_err-joined-in-Right-clause-step
+returns-in_err-joined-in-Right-clause-step c = IfOk-from_err c.from_residual-in_err-joined-in-Right.result _ c.from_residual-in_err-joined-in-Right.ensures.0
+
+pub returns-in_err-push-in-Left-clause-step : goal.returns-in_err-push-in-Left-clause-step
+returns-in_err-push-in-Left-clause-step c = IfOk-from_err c.from_residual-in_err-push-in-Left.result _ c.from_residual-in_err-push-in-Left.ensures.0

@@ -1,4 +1,5 @@
 use Rattle.std.proofs.Common.{◌≡◌, ◌+◌, ◌*◌, ◌<◌, refl, sym, subst, ap, ◌∙◌, arith}
+use Rattle.std.proofs.lemmas.Result.{IfOk-from_err}
 use Rattle.std.proofs.lemmas.Option.{get_or_from_slice_get}
 use Rattle.std.specs.Prelude.{[]}
 use Rattle.ll_bank.specs.Nodes.{term_trees}
@@ -43,3 +44,6 @@ returns-clause-step c =
     (c.place_of-module.ensures ∙ ap (place_in c.args.text.now.modules.now.places) (sym t)) c.in_ok-args.ensures.show c.in_ok-args.ensures.met)
     c.in_ok-args.ensures.inside (part_ready texts forms c.args.at.0 c.args.goal.0 c.requires.goal c.requires.ready.inside named.2)
     (load_less raw l.0 (identifier texts c.args.name) l.1 body l.2) c.waits.ensures.step c.waits.ensures.frames (always c.waits.result _ refl)
+
+pub returns-in_err-args-clause-step : goal.returns-in_err-args-clause-step
+returns-in_err-args-clause-step c = IfOk-from_err c.from_residual.result _ c.from_residual.ensures.0

@@ -1,4 +1,5 @@
 use Rattle.std.proofs.Common.{◌≡◌, [], length, rules, refl}
+use Rattle.std.proofs.lemmas.Result.{IfOk-from_err}
 use Rattle.std.proofs.lemmas.Option.{get_or_from_slice_get}
 use Rattle.ll_polarity.proofs.faults.Judging.{scope-of-module}
 use Rattle.ll_polarity.proofs.problems.PartShown.{clauses_faultless, module_shown, module_names_met}
@@ -31,3 +32,63 @@ returns-clause-names c = λ ms.
     let text = get_or_from_slice_get texts body.name.name c.text.result.now [] c.text.ensures in
     module_names_met texts nodes body c.args.met.now.names c.add.new.self c.text.result.now c.open_all-2.new.binders.scope c.deref-3.result.now text
     c.in_ok-name.ensures.added inside c.deref-3.ensures.value ms c.clauses.new.met.names (c.in_ok-clauses.ensures.names ms)
+
+pub returns-in_err-clauses-clause-binders : goal.returns-in_err-clauses-clause-binders
+returns-in_err-clauses-clause-binders c = IfOk-from_err c.from_residual-in_err-clauses.result _ c.from_residual-in_err-clauses.ensures.0
+
+pub returns-in_err-clauses-clause-inside : goal.returns-in_err-clauses-clause-inside
+returns-in_err-clauses-clause-inside c = IfOk-from_err c.from_residual-in_err-clauses.result _ c.from_residual-in_err-clauses.ensures.0
+
+pub returns-in_err-clauses-clause-keeps : goal.returns-in_err-clauses-clause-keeps
+returns-in_err-clauses-clause-keeps c = IfOk-from_err c.from_residual-in_err-clauses.result _ c.from_residual-in_err-clauses.ensures.0
+
+pub returns-in_err-clauses-clause-names : goal.returns-in_err-clauses-clause-names
+returns-in_err-clauses-clause-names c = IfOk-from_err c.from_residual-in_err-clauses.result _ c.from_residual-in_err-clauses.ensures.0
+
+pub returns-in_err-clauses-clause-shows : goal.returns-in_err-clauses-clause-shows
+returns-in_err-clauses-clause-shows c = IfOk-from_err c.from_residual-in_err-clauses.result _ c.from_residual-in_err-clauses.ensures.0
+
+pub returns-in_err-name-clause-binders : goal.returns-in_err-name-clause-binders
+returns-in_err-name-clause-binders c = IfOk-from_err c.from_residual.result _ c.from_residual.ensures.0
+
+pub returns-in_err-name-clause-inside : goal.returns-in_err-name-clause-inside
+returns-in_err-name-clause-inside c = IfOk-from_err c.from_residual.result _ c.from_residual.ensures.0
+
+pub returns-in_err-name-clause-keeps : goal.returns-in_err-name-clause-keeps
+returns-in_err-name-clause-keeps c = IfOk-from_err c.from_residual.result _ c.from_residual.ensures.0
+
+pub returns-in_err-name-clause-names : goal.returns-in_err-name-clause-names
+returns-in_err-name-clause-names c = IfOk-from_err c.from_residual.result _ c.from_residual.ensures.0
+
+pub returns-in_err-name-clause-shows : goal.returns-in_err-name-clause-shows
+returns-in_err-name-clause-shows c = IfOk-from_err c.from_residual.result _ c.from_residual.ensures.0
+
+pub returns-in_err-open_all-2-clause-binders : goal.returns-in_err-open_all-2-clause-binders
+returns-in_err-open_all-2-clause-binders c = IfOk-from_err c.from_residual-in_err-open_all-2.result _ c.from_residual-in_err-open_all-2.ensures.0
+
+pub returns-in_err-open_all-2-clause-inside : goal.returns-in_err-open_all-2-clause-inside
+returns-in_err-open_all-2-clause-inside c = IfOk-from_err c.from_residual-in_err-open_all-2.result _ c.from_residual-in_err-open_all-2.ensures.0
+
+pub returns-in_err-open_all-2-clause-keeps : goal.returns-in_err-open_all-2-clause-keeps
+returns-in_err-open_all-2-clause-keeps c = IfOk-from_err c.from_residual-in_err-open_all-2.result _ c.from_residual-in_err-open_all-2.ensures.0
+
+pub returns-in_err-open_all-2-clause-names : goal.returns-in_err-open_all-2-clause-names
+returns-in_err-open_all-2-clause-names c = IfOk-from_err c.from_residual-in_err-open_all-2.result _ c.from_residual-in_err-open_all-2.ensures.0
+
+pub returns-in_err-open_all-2-clause-shows : goal.returns-in_err-open_all-2-clause-shows
+returns-in_err-open_all-2-clause-shows c = IfOk-from_err c.from_residual-in_err-open_all-2.result _ c.from_residual-in_err-open_all-2.ensures.0
+
+pub returns-in_err-open_all-clause-binders : goal.returns-in_err-open_all-clause-binders
+returns-in_err-open_all-clause-binders c = IfOk-from_err c.from_residual-in_err-open_all.result _ c.from_residual-in_err-open_all.ensures.0
+
+pub returns-in_err-open_all-clause-inside : goal.returns-in_err-open_all-clause-inside
+returns-in_err-open_all-clause-inside c = IfOk-from_err c.from_residual-in_err-open_all.result _ c.from_residual-in_err-open_all.ensures.0
+
+pub returns-in_err-open_all-clause-keeps : goal.returns-in_err-open_all-clause-keeps
+returns-in_err-open_all-clause-keeps c = IfOk-from_err c.from_residual-in_err-open_all.result _ c.from_residual-in_err-open_all.ensures.0
+
+pub returns-in_err-open_all-clause-names : goal.returns-in_err-open_all-clause-names
+returns-in_err-open_all-clause-names c = IfOk-from_err c.from_residual-in_err-open_all.result _ c.from_residual-in_err-open_all.ensures.0
+
+pub returns-in_err-open_all-clause-shows : goal.returns-in_err-open_all-clause-shows
+returns-in_err-open_all-clause-shows c = IfOk-from_err c.from_residual-in_err-open_all.result _ c.from_residual-in_err-open_all.ensures.0

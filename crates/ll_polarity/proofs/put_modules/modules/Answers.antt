@@ -1,4 +1,5 @@
 use Rattle.std.proofs.Common.{◌≡◌, ◌+◌, ◌∷◌, ◌++◌, [], List, ◌∙◌, ap, refl, sym, subst, take, arith}
+use Rattle.std.proofs.lemmas.Result.{IfOk-from_err}
 use Rattle.std.proofs.lemmas.List.{take_more}
 use Rattle.ll_bank.proofs.CallerLemmas.{Extends-refl}
 use Rattle.ll_parser.specs.declared.RawModule.{RawModule}
@@ -41,3 +42,27 @@ loop-body-preserved c =
           c.in_ok-push.ensures.items);
       binders = c.in_ok-next.ensures.binders;
     }
+
+pub returns-in_err-next-clause-inside : goal.returns-in_err-next-clause-inside
+returns-in_err-next-clause-inside c = IfOk-from_err c.from_residual.result _ c.from_residual.ensures.0
+
+pub returns-in_err-next-clause-keeps : goal.returns-in_err-next-clause-keeps
+returns-in_err-next-clause-keeps c = IfOk-from_err c.from_residual.result _ c.from_residual.ensures.0
+
+pub returns-in_err-next-clause-names : goal.returns-in_err-next-clause-names
+returns-in_err-next-clause-names c = IfOk-from_err c.from_residual.result _ c.from_residual.ensures.0
+
+pub returns-in_err-next-clause-shows : goal.returns-in_err-next-clause-shows
+returns-in_err-next-clause-shows c = IfOk-from_err c.from_residual.result _ c.from_residual.ensures.0
+
+pub returns-in_err-push-clause-inside : goal.returns-in_err-push-clause-inside
+returns-in_err-push-clause-inside c = IfOk-from_err c.from_residual-in_err-push.result _ c.from_residual-in_err-push.ensures.0
+
+pub returns-in_err-push-clause-keeps : goal.returns-in_err-push-clause-keeps
+returns-in_err-push-clause-keeps c = IfOk-from_err c.from_residual-in_err-push.result _ c.from_residual-in_err-push.ensures.0
+
+pub returns-in_err-push-clause-names : goal.returns-in_err-push-clause-names
+returns-in_err-push-clause-names c = IfOk-from_err c.from_residual-in_err-push.result _ c.from_residual-in_err-push.ensures.0
+
+pub returns-in_err-push-clause-shows : goal.returns-in_err-push-clause-shows
+returns-in_err-push-clause-shows c = IfOk-from_err c.from_residual-in_err-push.result _ c.from_residual-in_err-push.ensures.0

@@ -1,4 +1,5 @@
 use Rattle.std.proofs.Common.{◌≡◌, ◌<◌, ℕ, suc, [], length, refl, sym, subst, ap, ◌∙◌, arith, ◌∷◌, length-append}
+use Rattle.std.proofs.lemmas.Result.{IfOk-from_err}
 use Rattle.ll_bank.proofs.CallerLemmas.{Extends-refl}
 use Rattle.ll_bank.specs.Term.{Term}
 use Rattle.std.specs.Prelude.{List}
@@ -56,3 +57,21 @@ arguments-preserved c =
     args_more s target c.args.bank.now c.args.at.0 c.arguments.bank c.term.new.bank c.arguments.args.items c.push.new.self.items
     (met_of c.args.names.now c.arguments.met) (met_of c.args.names.now c.term.new.met) c.in-Some.arg c.in_ok-put.put
     c.arguments.invariant e c.in_ok-put.ensures.shows c.in_ok-put.ensures.met c.in_ok-put.ensures.keeps c.in_ok-push.ensures.items
+
+pub returns-in_err-push-clause-inside : goal.returns-in_err-push-clause-inside
+returns-in_err-push-clause-inside c = IfOk-from_err c.from_residual-in_err-push.result _ c.from_residual-in_err-push.ensures.0
+
+pub returns-in_err-push-clause-met : goal.returns-in_err-push-clause-met
+returns-in_err-push-clause-met c = IfOk-from_err c.from_residual-in_err-push.result _ c.from_residual-in_err-push.ensures.0
+
+pub returns-in_err-push-clause-show : goal.returns-in_err-push-clause-show
+returns-in_err-push-clause-show c = IfOk-from_err c.from_residual-in_err-push.result _ c.from_residual-in_err-push.ensures.0
+
+pub returns-in_err-put-clause-inside : goal.returns-in_err-put-clause-inside
+returns-in_err-put-clause-inside c = IfOk-from_err c.from_residual.result _ c.from_residual.ensures.0
+
+pub returns-in_err-put-clause-met : goal.returns-in_err-put-clause-met
+returns-in_err-put-clause-met c = IfOk-from_err c.from_residual.result _ c.from_residual.ensures.0
+
+pub returns-in_err-put-clause-show : goal.returns-in_err-put-clause-show
+returns-in_err-put-clause-show c = IfOk-from_err c.from_residual.result _ c.from_residual.ensures.0

@@ -1,4 +1,5 @@
 use Rattle.std.proofs.Common.{subst}
+use Rattle.std.proofs.lemmas.Result.{IfOk-from_err}
 use Rattle.ll_bank.proofs.CallerLemmas.{Extends-refl}
 use Rattle.ll_parser.specs.Nodes.{identifier, raws_in, raw_trees}
 use Rattle.ll_parser.specs.Seen.{places}
@@ -22,3 +23,39 @@ returns-in_err-number-in-Any-clause-keeps c = Extends-refl c.args.bank.now
 
 pub returns-in_ok-front-in-Head-clause-keeps : goal.returns-in_ok-front-in-Head-clause-keeps
 returns-in_ok-front-in-Head-clause-keeps c = Extends-refl c.args.bank.now
+
+pub returns-in_err-front-in-Head-clause-begun : goal.returns-in_err-front-in-Head-clause-begun
+returns-in_err-front-in-Head-clause-begun c = IfOk-from_err c.from_residual.result _ c.from_residual.ensures.0
+
+pub returns-in_err-front-in-Head-clause-fits : goal.returns-in_err-front-in-Head-clause-fits
+returns-in_err-front-in-Head-clause-fits c = IfOk-from_err c.from_residual.result _ c.from_residual.ensures.0
+
+pub returns-in_err-front-in-Head-clause-next : goal.returns-in_err-front-in-Head-clause-next
+returns-in_err-front-in-Head-clause-next c = IfOk-from_err c.from_residual.result _ c.from_residual.ensures.0
+
+pub returns-in_err-number-in-Any-clause-begun : goal.returns-in_err-number-in-Any-clause-begun
+returns-in_err-number-in-Any-clause-begun c = IfOk-from_err c.from_residual-in_err-number-in-Any.result _ c.from_residual-in_err-number-in-Any.ensures.0
+
+pub returns-in_err-number-in-Any-clause-fits : goal.returns-in_err-number-in-Any-clause-fits
+returns-in_err-number-in-Any-clause-fits c = IfOk-from_err c.from_residual-in_err-number-in-Any.result _ c.from_residual-in_err-number-in-Any.ensures.0
+
+pub returns-in_err-number-in-Any-clause-next : goal.returns-in_err-number-in-Any-clause-next
+returns-in_err-number-in-Any-clause-next c = IfOk-from_err c.from_residual-in_err-number-in-Any.result _ c.from_residual-in_err-number-in-Any.ensures.0
+
+pub returns-in_err-term-in-Any-clause-begun : goal.returns-in_err-term-in-Any-clause-begun
+returns-in_err-term-in-Any-clause-begun c = IfOk-from_err c.from_residual-in_err-term-in-Any.result _ c.from_residual-in_err-term-in-Any.ensures.0
+
+pub returns-in_err-term-in-Any-clause-fits : goal.returns-in_err-term-in-Any-clause-fits
+returns-in_err-term-in-Any-clause-fits c = IfOk-from_err c.from_residual-in_err-term-in-Any.result _ c.from_residual-in_err-term-in-Any.ensures.0
+
+pub returns-in_err-term-in-Any-clause-next : goal.returns-in_err-term-in-Any-clause-next
+returns-in_err-term-in-Any-clause-next c = IfOk-from_err c.from_residual-in_err-term-in-Any.result _ c.from_residual-in_err-term-in-Any.ensures.0
+
+pub returns-in_err-term-in-Int-clause-begun : goal.returns-in_err-term-in-Int-clause-begun
+returns-in_err-term-in-Int-clause-begun c = IfOk-from_err c.from_residual-in_err-term-in-Int.result _ c.from_residual-in_err-term-in-Int.ensures.0
+
+pub returns-in_err-term-in-Int-clause-fits : goal.returns-in_err-term-in-Int-clause-fits
+returns-in_err-term-in-Int-clause-fits c = IfOk-from_err c.from_residual-in_err-term-in-Int.result _ c.from_residual-in_err-term-in-Int.ensures.0
+
+pub returns-in_err-term-in-Int-clause-next : goal.returns-in_err-term-in-Int-clause-next
+returns-in_err-term-in-Int-clause-next c = IfOk-from_err c.from_residual-in_err-term-in-Int.result _ c.from_residual-in_err-term-in-Int.ensures.0

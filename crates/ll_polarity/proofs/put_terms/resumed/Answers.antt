@@ -1,4 +1,5 @@
 use Rattle.std.proofs.Common.{◌≡◌, suc, [], length, refl, subst, arith}
+use Rattle.std.proofs.lemmas.Result.{IfOk-from_err}
 use Rattle.ll_parser.specs.Raw.{more}
 use Rattle.ll_parser.specs.Nodes.{raw_at}
 use Rattle.ll_polarity.specs.Calls.{arguments_from}
@@ -21,3 +22,9 @@ returns-in_ok-push-in-Some-clause-resumed c = record {
 
 pub returns-in_ok-push-in-Some-clause-keeps : goal.returns-in_ok-push-in-Some-clause-keeps
 returns-in_ok-push-in-Some-clause-keeps c = Extends-refl c.args.bank.now
+
+pub returns-in_err-push-in-Some-clause-resumed : goal.returns-in_err-push-in-Some-clause-resumed
+returns-in_err-push-in-Some-clause-resumed c = IfOk-from_err c.from_residual.result _ c.from_residual.ensures.0
+
+pub returns-in_err-term-in-None-clause-resumed : goal.returns-in_err-term-in-None-clause-resumed
+returns-in_err-term-in-None-clause-resumed c = IfOk-from_err c.from_residual-in_err-term-in-None.result _ c.from_residual-in_err-term-in-None.ensures.0

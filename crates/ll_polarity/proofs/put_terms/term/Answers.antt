@@ -1,4 +1,5 @@
 use Rattle.std.proofs.Common.{◌+◌, ◌<◌, refl, sym, subst, arith}
+use Rattle.std.proofs.lemmas.Result.{IfOk-from_err}
 use Rattle.ll_bank.proofs.CallerLemmas.{Extends-refl}
 use Rattle.ll_polarity.specs.declared.put_terms.Turn.{Turn}
 use Rattle.ll_polarity.proofs.putting.Calling.{calls_left, turn_left, at_turn, room_on_the_way, way_begun, way_resumed, way_given}
@@ -51,3 +52,21 @@ pub turns-preserved : goal.turns-preserved
 turns-preserved c =
     way_given c.in-Some.call c.in_ok-turn-in-Some.turn (at_turn c.in-Give.is c.turns.invariant) c.in-Some.ensures.items
     c.in_ok-turn-in-Some.ensures
+
+pub returns-in_err-turn-in-Read-clause-met : goal.returns-in_err-turn-in-Read-clause-met
+returns-in_err-turn-in-Read-clause-met c = IfOk-from_err c.from_residual.result _ c.from_residual.ensures.0
+
+pub returns-in_err-turn-in-Read-clause-shows : goal.returns-in_err-turn-in-Read-clause-shows
+returns-in_err-turn-in-Read-clause-shows c = IfOk-from_err c.from_residual.result _ c.from_residual.ensures.0
+
+pub returns-in_err-turn-in-Resume-clause-met : goal.returns-in_err-turn-in-Resume-clause-met
+returns-in_err-turn-in-Resume-clause-met c = IfOk-from_err c.from_residual-in_err-turn-in-Resume.result _ c.from_residual-in_err-turn-in-Resume.ensures.0
+
+pub returns-in_err-turn-in-Resume-clause-shows : goal.returns-in_err-turn-in-Resume-clause-shows
+returns-in_err-turn-in-Resume-clause-shows c = IfOk-from_err c.from_residual-in_err-turn-in-Resume.result _ c.from_residual-in_err-turn-in-Resume.ensures.0
+
+pub returns-in_err-turn-in-Some-clause-met : goal.returns-in_err-turn-in-Some-clause-met
+returns-in_err-turn-in-Some-clause-met c = IfOk-from_err c.from_residual-in_err-turn-in-Some.result _ c.from_residual-in_err-turn-in-Some.ensures.0
+
+pub returns-in_err-turn-in-Some-clause-shows : goal.returns-in_err-turn-in-Some-clause-shows
+returns-in_err-turn-in-Some-clause-shows c = IfOk-from_err c.from_residual-in_err-turn-in-Some.result _ c.from_residual-in_err-turn-in-Some.ensures.0

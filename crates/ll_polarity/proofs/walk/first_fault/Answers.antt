@@ -1,4 +1,5 @@
 use Rattle.std.proofs.Common.{◌∷◌, sym, ap, ◌∙◌}
+use Rattle.std.proofs.lemmas.Result.{IfOk-from_err}
 use Rattle.ll_polarity.specs.Pending.{pending_faults}
 use Rattle.ll_polarity.proofs.walk.first_fault.Goals as goal
 
@@ -7,3 +8,25 @@ pub returns-in-Found-clause-first : goal.returns-in-Found-clause-first
 returns-in-Found-clause-first c = λ ms known.
     let pending = pending_faults c.args.source.now.names.now c.args.source.now.forms.now ms c.loop-part.binders.scope in
     (pending c.pop.new.self, sym (c.loop-part.invariant.faults ms known) ∙ ap pending (c.in-Some.ensures ∙ ap (λ p. p ∷ c.pop.new.self) c.in-Found.is))
+
+pub returns-in_err-open_form-in-Form-clause-binders : goal.returns-in_err-open_form-in-Form-clause-binders
+returns-in_err-open_form-in-Form-clause-binders c =
+    IfOk-from_err c.from_residual-in_err-open_form-in-Form.result _ c.from_residual-in_err-open_form-in-Form.ensures.0
+
+pub returns-in_err-open_form-in-Form-clause-first : goal.returns-in_err-open_form-in-Form-clause-first
+returns-in_err-open_form-in-Form-clause-first c =
+    IfOk-from_err c.from_residual-in_err-open_form-in-Form.result _ c.from_residual-in_err-open_form-in-Form.ensures.0
+
+pub returns-in_err-open_term-in-Term-clause-binders : goal.returns-in_err-open_term-in-Term-clause-binders
+returns-in_err-open_term-in-Term-clause-binders c =
+    IfOk-from_err c.from_residual-in_err-open_term-in-Term.result _ c.from_residual-in_err-open_term-in-Term.ensures.0
+
+pub returns-in_err-open_term-in-Term-clause-first : goal.returns-in_err-open_term-in-Term-clause-first
+returns-in_err-open_term-in-Term-clause-first c =
+    IfOk-from_err c.from_residual-in_err-open_term-in-Term.result _ c.from_residual-in_err-open_term-in-Term.ensures.0
+
+pub returns-in_err-push-clause-binders : goal.returns-in_err-push-clause-binders
+returns-in_err-push-clause-binders c = IfOk-from_err c.from_residual.result _ c.from_residual.ensures.0
+
+pub returns-in_err-push-clause-first : goal.returns-in_err-push-clause-first
+returns-in_err-push-clause-first c = IfOk-from_err c.from_residual.result _ c.from_residual.ensures.0

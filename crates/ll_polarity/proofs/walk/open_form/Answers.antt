@@ -1,4 +1,5 @@
 use Rattle.std.proofs.Common.{ℕ, suc, ◌+◌, ◌*◌, ◌<◌, ◌≤◌, List, [], ◌∷◌, ◌++◌, map, length, append_assoc, sym, subst, ap, ◌∙◌, arith, slice_index_or}
+use Rattle.std.proofs.lemmas.Result.{IfOk-from_err}
 use Rattle.std.specs.Prelude.{option_to_list, OnOk}
 use Rattle.ll_lexer.specs.declared.Fault.{Fault}
 use Rattle.ll_parser.specs.Nodes.{raw_at}
@@ -164,3 +165,17 @@ returns-in-Head-clause-opened c =
 
 pub returns-in-Head-clause-texts : goal.returns-in-Head-clause-texts
 returns-in-Head-clause-texts c = ok-always c.open_atom.result _ c.requires.texts
+
+pub returns-in_err-open_body-in-Exists-clause-opened : goal.returns-in_err-open_body-in-Exists-clause-opened
+returns-in_err-open_body-in-Exists-clause-opened c = IfOk-from_err c.from_residual.result _ c.from_residual.ensures.0
+
+pub returns-in_err-open_body-in-Exists-clause-texts : goal.returns-in_err-open_body-in-Exists-clause-texts
+returns-in_err-open_body-in-Exists-clause-texts c = IfOk-from_err c.from_residual.result _ c.from_residual.ensures.0
+
+pub returns-in_err-open_number-in-Is-clause-opened : goal.returns-in_err-open_number-in-Is-clause-opened
+returns-in_err-open_number-in-Is-clause-opened c =
+    IfOk-from_err c.from_residual-in_err-open_number-in-Is.result _ c.from_residual-in_err-open_number-in-Is.ensures.0
+
+pub returns-in_err-open_number-in-Is-clause-texts : goal.returns-in_err-open_number-in-Is-clause-texts
+returns-in_err-open_number-in-Is-clause-texts c =
+    IfOk-from_err c.from_residual-in_err-open_number-in-Is.result _ c.from_residual-in_err-open_number-in-Is.ensures.0

@@ -1,4 +1,5 @@
 use Rattle.std.proofs.Common.{◌≡◌, sym, ap, ◌∙◌, slice_index_or, [], map, ◌++◌}
+use Rattle.std.proofs.lemmas.Result.{IfOk-from_err}
 use Rattle.ll_parser.specs.Nodes.{raws_in, raw_trees, identifier}
 use Rattle.ll_parser.specs.Seen.{places}
 use Rattle.ll_polarity.specs.declared.pending.Part.TheVariants.{Found}
@@ -25,3 +26,9 @@ returns-in_ok-push_fault c =
     fault
     (c.in_ok-push_fault.ensures ∙ (ap (λ fs. map Found fs ++ c.push_terms.new.self) c.unless.ensures
     ∙ ap (λ ps. map Found (unless c.if-is_empty.fits 9 n.at) ++ ps) c.in_ok-push_terms.ensures))
+
+pub returns-in_err-push_fault : goal.returns-in_err-push_fault
+returns-in_err-push_fault c = IfOk-from_err c.from_residual-in_err-push_fault.result _ c.from_residual-in_err-push_fault.ensures.0
+
+pub returns-in_err-push_terms : goal.returns-in_err-push_terms
+returns-in_err-push_terms c = IfOk-from_err c.from_residual.result _ c.from_residual.ensures.0

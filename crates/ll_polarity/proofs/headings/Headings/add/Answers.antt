@@ -1,4 +1,5 @@
 use Rattle.std.proofs.Common.{sym, ◌∙◌}
+use Rattle.std.proofs.lemmas.Result.{IfOk-from_err}
 use Rattle.std.specs.HashMap.{get_by}
 use Rattle.std.specs.Str.{bytes_eq}
 use Rattle.std.proofs.lemmas.Map.Text.{hash_map_updates_str}
@@ -14,3 +15,6 @@ returns-in_ok-insert c = λ ms known.
 pub returns-else-not-contains_key : goal.returns-else-not-contains_key
 returns-else-not-contains_key c = λ ms known. stays (λ w. get_by (λ k. bytes_eq w k.now) c.args.self.now.params) ms
     (record { name = c.args.name.now; params = c.args.params }) known (sym c.contains_key.ensures ∙ c.if-not-contains_key.false)
+
+pub returns-in_err-insert : goal.returns-in_err-insert
+returns-in_err-insert c = IfOk-from_err c.from_residual.result _ c.from_residual.ensures.0

@@ -1,4 +1,5 @@
 use Rattle.std.proofs.Common.{◌≡◌, sym, subst, ap, ◌∙◌, cond, Some, arith, length}
+use Rattle.std.proofs.lemmas.Result.{IfOk-from_err}
 use Rattle.std.specs.Prelude.{vec_len}
 use Rattle.std.specs.Ordering.{nat_cmp}
 use Rattle.std.specs.BTreeMap.{get}
@@ -30,3 +31,9 @@ returns-in-Ok-clause-added c =
     c.in_ok-push.ensures.items
     ∙ (new_variable (get nat_cmp c.self.inside.numbers) c.self.inside.order.items c.args.name c.self.invariant c.in_default.ensures.value
     ∙ ap (λ vs. with_number vs c.args.name) c.self.view_is)
+
+pub returns-in_err-push-clause-added : goal.returns-in_err-push-clause-added
+returns-in_err-push-clause-added c = IfOk-from_err c.from_residual.result _ c.from_residual.ensures.0
+
+pub returns-in_err-push-clause-number : goal.returns-in_err-push-clause-number
+returns-in_err-push-clause-number c = IfOk-from_err c.from_residual.result _ c.from_residual.ensures.0

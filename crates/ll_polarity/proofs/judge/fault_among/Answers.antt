@@ -1,4 +1,5 @@
 use Rattle.std.proofs.Common.{◌+◌, ◌∷◌, map, drop, [], sym, ap, ◌∙◌, slice_index_or}
+use Rattle.std.proofs.lemmas.Result.{IfOk-from_err}
 use Rattle.std.specs.List.{list_any}
 use Rattle.std.specs.Str.{bytes_eq}
 use Rattle.std.proofs.lemmas.List.{drop_all}
@@ -6,7 +7,7 @@ use Rattle.ll_parser.specs.Nodes.{shown_module}
 use Rattle.ll_polarity.specs.Scope.{Binder, Scoped}
 use Rattle.ll_polarity.specs.Faults.{modules_faults}
 use Rattle.ll_polarity.proofs.faults.Judging.{first-along, head-along, name-repeated, fault-inside, module-done, where-none}
-use Rattle.ll_polarity.proofs.judge.modules_fault.Goals as goal
+use Rattle.ll_polarity.proofs.judge.fault_among.Goals as goal
 
 pub returns-then-has : goal.returns-then-has
 returns-then-has c = λ ms known.
@@ -52,3 +53,9 @@ returns c = λ ms known.
     ∙ ap (λ rs. modules_faults ms (map (λ (b : Binder). b.text) c.loop-module.earlier.scope)
     (map (shown_module c.args.source.now.names.now c.args.source.now.forms.now) rs))
     (drop_all c.loop-module.module-index c.args.modules.now c.loop-module-test.false)
+
+pub returns-in_err-fault : goal.returns-in_err-fault
+returns-in_err-fault c = IfOk-from_err c.from_residual-in_err-fault.result _ c.from_residual-in_err-fault.ensures.0
+
+pub returns-in_err-open : goal.returns-in_err-open
+returns-in_err-open c = IfOk-from_err c.from_residual.result _ c.from_residual.ensures.0

@@ -1,4 +1,5 @@
 use Rattle.std.proofs.Common.{◌≡◌, ◌+◌, ◌<◌, [], All, get_or, length, sym, subst, ap, ◌∙◌}
+use Rattle.std.proofs.lemmas.Result.{IfOk-from_err}
 use Rattle.std.specs.Prelude.{◌^◌, unwrap_or}
 use Rattle.ll_bank.proofs.CallerLemmas.{HasForm-extends}
 use Rattle.ll_parser.specs.declared.RawClause.{RawClause}
@@ -17,7 +18,7 @@ use Rattle.ll_polarity.proofs.putting.ModuleRows.{few_own_shown, ready_clauses, 
 use Rattle.ll_polarity.proofs.naming.Named.{whole_program_named}
 use Rattle.ll_polarity.proofs.naming.PartNumbers.{part_numbered, room_at_clauses, room_at_modules}
 use Rattle.ll_polarity.proofs.problems.PartShown.{part_shown}
-use Rattle.ll_polarity.proofs.loading.put_part.Goals as goal
+use Rattle.ll_polarity.proofs.loading.put_rows.Goals as goal
 
 -- what is whole is whole as its parts show it
 whole_inside : {shown tree : ProgramTree} → shown ≡ tree → IsWhole programs tree → IsWhole programs shown
@@ -36,8 +37,9 @@ clauses-requires-clause-ready c =
 pub clauses-requires-clause-room : goal.clauses-requires-clause-room
 clauses-requires-clause-room c =
     let p = c.program.inside in let whole = whole_inside c.program.view_is c.requires.whole in
-    room_at_clauses p.names p.forms p.clauses.items p.modules.items whole c.deref.result.now c.in_ok-binders.binders.scope c.new-2.result c.deref.ensures.value
-    (ap (λ b. b.scope) c.in_ok-binders.ensures) c.new-2.ensures
+    room_at_clauses p.names p.forms p.clauses.items p.modules.items whole c.deref.result.now c.in_ok-binders.binders.scope c.args.met.now.names
+    c.deref.ensures.value
+    (ap (λ b. b.scope) c.in_ok-binders.ensures) c.requires.first
 
 pub modules-requires-clause-stands : goal.modules-requires-clause-stands
 modules-requires-clause-stands c =
@@ -62,34 +64,75 @@ modules-requires-clause-few c =
 pub modules-requires-clause-room : goal.modules-requires-clause-room
 modules-requires-clause-room c =
     let p = c.program.inside in let whole = whole_inside c.program.view_is c.requires.whole in
-    room_at_modules p.names p.forms p.clauses.items p.modules.items whole c.deref.result.now c.in_ok-binders.binders.scope c.new-2.result c.deref.ensures.value
-    (ap (λ b. b.scope) c.in_ok-binders.ensures) c.new-2.ensures
+    room_at_modules p.names p.forms p.clauses.items p.modules.items whole c.deref.result.now c.in_ok-binders.binders.scope c.args.met.now.names
+    c.deref.ensures.value
+    (ap (λ b. b.scope) c.in_ok-binders.ensures) c.requires.first
     c.deref-2.result.now c.clauses.new.met.names c.deref-2.ensures.value c.in_ok-clauses.ensures.names
 
-pub invariant_of-result : goal.invariant_of-result
-invariant_of-result c =
-    let p = c.program.inside in let whole = whole_inside c.program.view_is c.requires.whole in
-    let found = subst (λ tree. FindsFirst c.args.places.now.places (module_names tree)) (sym c.program.view_is) c.requires.found in
-    let faultless = subst (λ tree. program_faults tree ≡ []) (sym c.program.view_is) c.requires.faultless in
-    let is = part_shown p.names p.forms (place_in c.args.places.now.places) p.clauses.items c.deref.result.now p.modules.items c.deref-2.result.now
-    c.in_ok-binders.binders.scope c.new-2.result c.clauses.new.met.names c.modules.new.met.names c.clauses.new.bank c.modules.new.bank
-    c.in_ok-clauses.clauses.items c.in_ok-modules.modules.items c.deref.ensures.value c.deref-2.ensures.value (ap (λ b. b.scope) c.in_ok-binders.ensures)
-    c.new-2.ensures (λ w. ap (λ o. unwrap_or o 0) (found w)) c.in_ok-clauses.ensures.shows c.in_ok-clauses.ensures.names
-    c.in_ok-modules.ensures.shows c.in_ok-modules.ensures.names c.in_ok-clauses.ensures.inside c.in_ok-modules.ensures.keeps faultless in (
-      c.in_ok-modules.ensures.inside,
-      λ k d l. HasForm-extends c.in_ok-modules.ensures.keeps (get_or c.in_ok-clauses.clauses.items k d).form.0 (c.in_ok-clauses.ensures.inside k d l),
-      part_numbered (shown_program p.names p.forms p.clauses.items p.modules.items) whole c.modules.new.met.names c.modules.new.bank
-          c.in_ok-modules.modules.items (ap (λ x. x.names) is) (ap (λ x. x.modules) is),
-    )
+pub returns-clause-modules : goal.returns-clause-modules
+returns-clause-modules c = c.in_ok-modules.ensures.inside
 
-pub returns : goal.returns
-returns c =
+pub returns-clause-clauses : goal.returns-clause-clauses
+returns-clause-clauses c =
+    λ k d l. HasForm-extends c.in_ok-modules.ensures.keeps (get_or c.in_ok-clauses.clauses.items k d).form.0 (c.in_ok-clauses.ensures.inside k d l)
+
+pub returns-clause-numbered : goal.returns-clause-numbered
+returns-clause-numbered c =
     let p = c.program.inside in
     let found = subst (λ tree. FindsFirst c.args.places.now.places (module_names tree)) (sym c.program.view_is) c.requires.found in
     let faultless = subst (λ tree. program_faults tree ≡ []) (sym c.program.view_is) c.requires.faultless in
-    rw (← c.program.view_is)
-    (part_shown p.names p.forms (place_in c.args.places.now.places) p.clauses.items c.deref.result.now p.modules.items c.deref-2.result.now
-    c.in_ok-binders.binders.scope c.new-2.result c.clauses.new.met.names c.modules.new.met.names c.clauses.new.bank c.modules.new.bank
+    let is = part_shown p.names p.forms (place_in c.args.places.now.places) p.clauses.items c.deref.result.now p.modules.items c.deref-2.result.now
+    c.in_ok-binders.binders.scope c.args.met.now.names c.clauses.new.met.names c.modules.new.met.names c.clauses.new.bank c.modules.new.bank
     c.in_ok-clauses.clauses.items c.in_ok-modules.modules.items c.deref.ensures.value c.deref-2.ensures.value (ap (λ b. b.scope) c.in_ok-binders.ensures)
-    c.new-2.ensures (λ w. ap (λ o. unwrap_or o 0) (found w)) c.in_ok-clauses.ensures.shows c.in_ok-clauses.ensures.names
-    c.in_ok-modules.ensures.shows c.in_ok-modules.ensures.names c.in_ok-clauses.ensures.inside c.in_ok-modules.ensures.keeps faultless)
+    c.requires.first (λ w. ap (λ o. unwrap_or o 0) (found w)) c.in_ok-clauses.ensures.shows c.in_ok-clauses.ensures.names
+    c.in_ok-modules.ensures.shows c.in_ok-modules.ensures.names c.in_ok-clauses.ensures.inside c.in_ok-modules.ensures.keeps faultless in
+    part_numbered (shown_program p.names p.forms p.clauses.items p.modules.items) (whole_inside c.program.view_is c.requires.whole) c.modules.new.met.names
+    c.modules.new.bank c.in_ok-modules.modules.items (ap (λ x. x.names) is) (ap (λ x. x.modules) is)
+
+pub returns-clause-part : goal.returns-clause-part
+returns-clause-part c =
+    let p = c.program.inside in
+    let found = subst (λ tree. FindsFirst c.args.places.now.places (module_names tree)) (sym c.program.view_is) c.requires.found in
+    let faultless = subst (λ tree. program_faults tree ≡ []) (sym c.program.view_is) c.requires.faultless in
+    sym (rw (← c.program.view_is)
+    (part_shown p.names p.forms (place_in c.args.places.now.places) p.clauses.items c.deref.result.now p.modules.items c.deref-2.result.now
+    c.in_ok-binders.binders.scope c.args.met.now.names c.clauses.new.met.names c.modules.new.met.names c.clauses.new.bank c.modules.new.bank
+    c.in_ok-clauses.clauses.items c.in_ok-modules.modules.items c.deref.ensures.value c.deref-2.ensures.value (ap (λ b. b.scope) c.in_ok-binders.ensures)
+    c.requires.first (λ w. ap (λ o. unwrap_or o 0) (found w)) c.in_ok-clauses.ensures.shows c.in_ok-clauses.ensures.names
+    c.in_ok-modules.ensures.shows c.in_ok-modules.ensures.names c.in_ok-clauses.ensures.inside c.in_ok-modules.ensures.keeps faultless))
+
+pub returns-in_err-binders-clause-clauses : goal.returns-in_err-binders-clause-clauses
+returns-in_err-binders-clause-clauses c = IfOk-from_err c.from_residual.result _ c.from_residual.ensures.0
+
+pub returns-in_err-binders-clause-modules : goal.returns-in_err-binders-clause-modules
+returns-in_err-binders-clause-modules c = IfOk-from_err c.from_residual.result _ c.from_residual.ensures.0
+
+pub returns-in_err-binders-clause-numbered : goal.returns-in_err-binders-clause-numbered
+returns-in_err-binders-clause-numbered c = IfOk-from_err c.from_residual.result _ c.from_residual.ensures.0
+
+pub returns-in_err-binders-clause-part : goal.returns-in_err-binders-clause-part
+returns-in_err-binders-clause-part c = IfOk-from_err c.from_residual.result _ c.from_residual.ensures.0
+
+pub returns-in_err-clauses-clause-clauses : goal.returns-in_err-clauses-clause-clauses
+returns-in_err-clauses-clause-clauses c = IfOk-from_err c.from_residual-in_err-clauses.result _ c.from_residual-in_err-clauses.ensures.0
+
+pub returns-in_err-clauses-clause-modules : goal.returns-in_err-clauses-clause-modules
+returns-in_err-clauses-clause-modules c = IfOk-from_err c.from_residual-in_err-clauses.result _ c.from_residual-in_err-clauses.ensures.0
+
+pub returns-in_err-clauses-clause-numbered : goal.returns-in_err-clauses-clause-numbered
+returns-in_err-clauses-clause-numbered c = IfOk-from_err c.from_residual-in_err-clauses.result _ c.from_residual-in_err-clauses.ensures.0
+
+pub returns-in_err-clauses-clause-part : goal.returns-in_err-clauses-clause-part
+returns-in_err-clauses-clause-part c = IfOk-from_err c.from_residual-in_err-clauses.result _ c.from_residual-in_err-clauses.ensures.0
+
+pub returns-in_err-modules-clause-clauses : goal.returns-in_err-modules-clause-clauses
+returns-in_err-modules-clause-clauses c = IfOk-from_err c.from_residual-in_err-modules.result _ c.from_residual-in_err-modules.ensures.0
+
+pub returns-in_err-modules-clause-modules : goal.returns-in_err-modules-clause-modules
+returns-in_err-modules-clause-modules c = IfOk-from_err c.from_residual-in_err-modules.result _ c.from_residual-in_err-modules.ensures.0
+
+pub returns-in_err-modules-clause-numbered : goal.returns-in_err-modules-clause-numbered
+returns-in_err-modules-clause-numbered c = IfOk-from_err c.from_residual-in_err-modules.result _ c.from_residual-in_err-modules.ensures.0
+
+pub returns-in_err-modules-clause-part : goal.returns-in_err-modules-clause-part
+returns-in_err-modules-clause-part c = IfOk-from_err c.from_residual-in_err-modules.result _ c.from_residual-in_err-modules.ensures.0

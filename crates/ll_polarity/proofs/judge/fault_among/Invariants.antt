@@ -3,7 +3,7 @@ use Rattle.ll_parser.specs.Nodes.{shown_module}
 use Rattle.ll_polarity.specs.Scope.{Binder}
 use Rattle.ll_polarity.specs.Faults.{Heading, modules_faults}
 use Rattle.ll_polarity.specs.Headings.{AreFound}
-use Rattle.ll_polarity.proofs.judge.modules_fault.Given as goal
+use Rattle.ll_polarity.proofs.judge.fault_among.Given as goal
 
 abbrev pub invariant-loop-module : goal.invariant-loop-module
 invariant-loop-module l = record {

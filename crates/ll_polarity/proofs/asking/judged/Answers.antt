@@ -1,0 +1,51 @@
+use Rattle.std.proofs.lemmas.Result.{IfOk-from_err}
+use Rattle.ll_bank.proofs.CallerLemmas.{Extends-refl}
+use Rattle.ll_polarity.proofs.asking.judged.Goals as goal
+
+pub query_fault-requires-clause-named : goal.query_fault-requires-clause-named
+query_fault-requires-clause-named c = c.requires.numbered.named
+
+pub returns-in_err-fault-clause-keeps : goal.returns-in_err-fault-clause-keeps
+returns-in_err-fault-clause-keeps c = Extends-refl c.args.bank.now
+
+pub returns-in-Some-clause-keeps : goal.returns-in-Some-clause-keeps
+returns-in-Some-clause-keeps c = Extends-refl c.args.bank.now
+
+pub returns-in-Some-clause-cause : goal.returns-in-Some-clause-cause
+returns-in-Some-clause-cause c = rw c.in-Some.is at c.in_ok-fault.ensures
+
+pub returns-clause-faultless : goal.returns-clause-faultless
+returns-clause-faultless c = rw c.in_default.is at c.in_ok-fault.ensures
+
+pub returns-clause-shows : goal.returns-clause-shows
+returns-clause-shows c = c.in_ok-addition.ensures.shows _ (returns-clause-faultless c)
+
+pub returns-in_err-addition-clause-asked : goal.returns-in_err-addition-clause-asked
+returns-in_err-addition-clause-asked c = IfOk-from_err c.from_residual-in_err-addition.result _ c.from_residual-in_err-addition.ensures.0
+
+pub returns-in_err-addition-clause-faultless : goal.returns-in_err-addition-clause-faultless
+returns-in_err-addition-clause-faultless c = IfOk-from_err c.from_residual-in_err-addition.result _ c.from_residual-in_err-addition.ensures.0
+
+pub returns-in_err-addition-clause-inside : goal.returns-in_err-addition-clause-inside
+returns-in_err-addition-clause-inside c = IfOk-from_err c.from_residual-in_err-addition.result _ c.from_residual-in_err-addition.ensures.0
+
+pub returns-in_err-addition-clause-names : goal.returns-in_err-addition-clause-names
+returns-in_err-addition-clause-names c = IfOk-from_err c.from_residual-in_err-addition.result _ c.from_residual-in_err-addition.ensures.0
+
+pub returns-in_err-addition-clause-shows : goal.returns-in_err-addition-clause-shows
+returns-in_err-addition-clause-shows c = IfOk-from_err c.from_residual-in_err-addition.result _ c.from_residual-in_err-addition.ensures.0
+
+pub returns-in_err-fault-clause-asked : goal.returns-in_err-fault-clause-asked
+returns-in_err-fault-clause-asked c = IfOk-from_err c.from_residual.result _ c.from_residual.ensures.0
+
+pub returns-in_err-fault-clause-faultless : goal.returns-in_err-fault-clause-faultless
+returns-in_err-fault-clause-faultless c = IfOk-from_err c.from_residual.result _ c.from_residual.ensures.0
+
+pub returns-in_err-fault-clause-inside : goal.returns-in_err-fault-clause-inside
+returns-in_err-fault-clause-inside c = IfOk-from_err c.from_residual.result _ c.from_residual.ensures.0
+
+pub returns-in_err-fault-clause-names : goal.returns-in_err-fault-clause-names
+returns-in_err-fault-clause-names c = IfOk-from_err c.from_residual.result _ c.from_residual.ensures.0
+
+pub returns-in_err-fault-clause-shows : goal.returns-in_err-fault-clause-shows
+returns-in_err-fault-clause-shows c = IfOk-from_err c.from_residual.result _ c.from_residual.ensures.0

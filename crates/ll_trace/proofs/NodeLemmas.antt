@@ -1,7 +1,7 @@
 -- The nodes that a walker has told so far.
 use Rattle.std.proofs.Common.{◌≡◌, ℕ, zero, suc, ◌+◌, ◌<◌, ◌≤◌, refl, ap, sym, subst, ◌∙◌, arith, List, [], ◌∷◌, ◌++◌, map, length, drop, append_assoc}
 use Rattle.std.proofs.Common.{slice_index_or}
-use Rattle.std.proofs.lemmas.List.{map-append, append-nil as append-none}
+use Rattle.std.proofs.lemmas.List.{map-append, append-nil as append-none, drop_all}
 use Rattle.std.proofs.lemmas.List.Elements.{All-nil, All-push}
 use Rattle.ll_bank.specs.declared.At.{At}
 use Rattle.ll_bank.specs.Nodes.{Nodes, no_nodes, term_trees}
@@ -19,10 +19,6 @@ drop-next [] k d l = absurd (omega (arith, l))
 drop-next (c ∷ cs) zero d l = refl
 drop-next (c ∷ cs) (suc k) d l = drop-next cs k d (omega (arith, l))
     ∙ ap (λ n. slice_index_or cs k d ∷ drop n (c ∷ cs)) (let e : suc (k + 1) ≡ suc k + 1 = omega arith in e)
-
-drop-all : (cs : List Step) → drop (length cs) cs ≡ []
-drop-all [] = refl
-drop-all (c ∷ cs) = drop-all cs
 
 tells-now : (t : Told) (go : Walk → List Line) (n : ℕ) → length (after_node t go) ≡ suc n → IsTold t
 tells-now Lost go n h = absurd (omega (arith, h))
@@ -76,12 +72,12 @@ module _ (forms : Nodes) (modules : List Module) (terms : List At) (steps : List
         places = λ bank h. subst (HasLines bank) (sym m) (All-push (HasLine bank) rules rule (p.places bank h) (s.places bank h));
       }
 
-  pub part_end : (w : Walker) (rules : List Rule) (k : ℕ) → k ≡ length steps → IsPartWay forms modules terms steps first k w rules
+  pub part_end : (w : Walker) (rules : List Rule) (k : ℕ) → length steps ≤ k → IsPartWay forms modules terms steps first k w rules
       → AreNodes forms modules terms steps first rules
   part_end w rules k e p =
       record {
         told =
-            λ bank. sym (p.so_far bank ∙ (ap (λ (cs : List Step). map (line_of bank) rules ++ ahead bank cs w) (ap (λ n. drop n steps) e ∙ drop-all steps)
+            λ bank. sym (p.so_far bank ∙ (ap (λ (cs : List Step). map (line_of bank) rules ++ ahead bank cs w) (drop_all k steps e)
             ∙ append-none (map (line_of bank) rules)));
         places = p.places;
       }

@@ -5,6 +5,8 @@ ghost use Rattle.ll_laws.specs.Dealing.{deal as deal_labels, without as labels_w
 ghost use Rattle.ll_laws.specs.Line.{WithLine, BangLine, LolliLine, lines, trees_of};
 ghost use Rattle.ll_laws.specs.Shows.{Tree};
 ghost use Rattle.ll_laws.specs.ShownLines.{line_of, HasLine, HasLines};
+ghost use Rattle.ll_trace.specs.Picks.{ArePicks};
+ghost use Rattle.ll_trace.specs.Spans.{AreSpans};
 ghost use Rattle.ll_trace.specs.Shares.{goes_to_first, GivesRule, GivesTensor, GivesAnywhere, GivesClause, GivesParts, KeepsTerms};
 
 use crate::picks::{deeper, picks};
@@ -55,6 +57,22 @@ pub(crate) fn deal(
         spans: spans(alloc, rules)?,
         uses: Uses::new(alloc, picks)?,
     };
+    deal_by(alloc, &outline, labels, rules)
+}
+
+// Deals labels out to the nodes of a tree with this outline.
+fn deal_by(
+    alloc: Global,
+    outline: &Outline,
+    labels: Vec<u32>,
+    rules: &mut Vec<Rule>,
+) -> Result<(), OutOfMemory>
+    requires spans { AreSpans rules.old.items outline.now.spans.items }
+    requires picks { ArePicks rules.old.items outline.now.uses }
+    ensures dealt { OnOk result ((bank : Nodes) (x : Tree) → trees_of (map (line_of bank) rules.old.items) ≡ Some (x ∷ [])
+        → map (line_of bank) rules.new.items ≡ lines (deal_labels labels.items x)) }
+    ensures places { OnOk result ((bank : Nodes) → HasLines bank rules.old.items → HasLines bank rules.new.items) }
+{
     let nodes = std::mem::replace(rules, Vec::new(alloc));
     let mut pending = Vec::new(alloc);
     pending.push(Share { labels, level: 0 })?;
@@ -63,7 +81,7 @@ pub(crate) fn deal(
             labels: Vec::new(alloc),
             level: 0,
         });
-        let dealt = deal_node(alloc, &outline, rules.len(), node, share, &mut pending)?;
+        let dealt = deal_node(alloc, outline, rules.len(), node, share, &mut pending)?;
         rules.push(dealt)?;
     }
     Ok(())
@@ -246,22 +264,23 @@ fn without(alloc: Global, label: u32, labels: &[u32]) -> Result<Vec<u32>, OutOfM
     Ok(rest)
 }
 
-// Premises whose trees stand between two places, with these labels, and what each one's tree gets.
-fn deal_parts(
+// Deals labels out to premises whose trees stand between two places, and says what each one's tree gets. It takes labels out of these.
+fn deal_each(
     alloc: Global,
     outline: &Outline,
     start: usize,
     end: usize,
     level: usize,
-    labels: Vec<u32>,
+    labels: &mut Vec<u32>,
     parts: &[Part],
-) -> Result<(Vec<Part>, Vec<Share>), OutOfMemory>
-    ensures { IfOk result (λ two. GivesParts outline.now start end level labels.items parts.now two.0.items two.1.items) }
+    dealt: &mut Vec<Part>,
+    shares: &mut Vec<Share>,
+) -> Result<(), OutOfMemory>
+    requires dealt { dealt.old.items ≡ [] }
+    requires shares { shares.old.items ≡ [] }
+    ensures { OnOk result (GivesParts outline.now start end level labels.old.items parts.now dealt.new.items shares.new.items) }
 {
     let mut from = start;
-    let mut labels = labels;
-    let mut dealt = Vec::new(alloc);
-    let mut shares = Vec::new(alloc);
     for part in parts {
         let first = span_at(&outline.spans, from);
         match part {
@@ -272,14 +291,14 @@ fn deal_parts(
                     first,
                     end,
                 };
-                let (mine, others) = divide(alloc, &outline.uses, fork, &labels)?;
+                let (mine, others) = divide(alloc, &outline.uses, fork, labels)?;
+                *labels = others;
                 let copy = Vec::from_slice(alloc, &mine)?;
                 dealt.push(Part::Bounded(copy))?;
                 shares.push(Share {
                     labels: mine,
                     level,
                 })?;
-                labels = others;
             }
             Part::Unbounded => {
                 dealt.push(Part::Unbounded)?;
@@ -292,5 +311,34 @@ fn deal_parts(
         }
         from = first.end;
     }
+    Ok(())
+}
+
+// Premises whose trees stand between two places, with these labels, and what each one's tree gets.
+fn deal_parts(
+    alloc: Global,
+    outline: &Outline,
+    start: usize,
+    end: usize,
+    level: usize,
+    labels: Vec<u32>,
+    parts: &[Part],
+) -> Result<(Vec<Part>, Vec<Share>), OutOfMemory>
+    ensures { IfOk result (λ two. GivesParts outline.now start end level labels.items parts.now two.0.items two.1.items) }
+{
+    let mut labels = labels;
+    let mut dealt = Vec::new(alloc);
+    let mut shares = Vec::new(alloc);
+    deal_each(
+        alloc,
+        outline,
+        start,
+        end,
+        level,
+        &mut labels,
+        parts,
+        &mut dealt,
+        &mut shares,
+    )?;
     Ok((dealt, shares))
 }

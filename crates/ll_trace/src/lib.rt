@@ -36,6 +36,7 @@ pub fn explain(alloc: Global, problem: &Problem, branch: &Branch) -> Result<Deri
 {
     answers_are_shown();
     let count = problem.asked.len();
+    let labels = root::root_labels(alloc, &problem.clauses)?;
     let walker = root::start(alloc, problem.goal, &problem.clauses, count)?;
     let mut nodes = walk::nodes(
         alloc,
@@ -45,12 +46,8 @@ pub fn explain(alloc: Global, problem: &Problem, branch: &Branch) -> Result<Deri
         &branch.steps,
         walker,
     )?;
-    deal::deal(
-        alloc,
-        root::root_labels(alloc, &problem.clauses)?,
-        &mut nodes,
-    )?;
-    let bank = branch.bank.image(branch.bank.size())?;
+    deal::deal(alloc, labels, &mut nodes)?;
     let asked = Vec::from_slice(alloc, &branch.terms[..count])?;
+    let bank = branch.bank.image(branch.bank.size())?;
     Ok(Derivation { bank, asked, nodes })
 }

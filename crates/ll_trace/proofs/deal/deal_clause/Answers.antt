@@ -1,4 +1,5 @@
 use Rattle.std.proofs.Common.{List, ◌++◌, ap, ◌∙◌}
+use Rattle.std.proofs.lemmas.Result.{IfOk-from_err}
 use Rattle.ll_laws.specs.Dealing.{without}
 use Rattle.ll_trace.specs.declared.deal.Share.{Share}
 use Rattle.ll_trace.specs.declared.spans.Span.{Span}
@@ -14,3 +15,12 @@ returns c = λ leaf terms bank ts vs h f1 f2 d.
     (ap (λ (z : Span). z.end) (c.span_at-end.ensures ∙ ap (λ (ss : List Span). span_or_none ss c.args.at) c.deref-2.ensures.value))
     (c.in_ok-append.ensures.items ∙ ap (λ (xs : List Share). c.args.pending.now.items ++ xs) c.reverse.ensures.items)
     (λ us ps more k f e g. c.in_ok-dealt.ensures ts us ps more k f e g) h f1 f2 d
+
+pub returns-in_err-append : goal.returns-in_err-append
+returns-in_err-append c = IfOk-from_err c.from_residual-in_err-append.result _ c.from_residual-in_err-append.ensures.0
+
+pub returns-in_err-dealt : goal.returns-in_err-dealt
+returns-in_err-dealt c = IfOk-from_err c.from_residual-in_err-dealt.result _ c.from_residual-in_err-dealt.ensures.0
+
+pub returns-in_err-labels : goal.returns-in_err-labels
+returns-in_err-labels c = IfOk-from_err c.from_residual.result _ c.from_residual.ensures.0

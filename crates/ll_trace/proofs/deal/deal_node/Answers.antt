@@ -1,4 +1,5 @@
 use Rattle.std.proofs.Common.{◌≡◌, List, sym, ap, subst, map}
+use Rattle.std.proofs.lemmas.Result.{IfOk-from_err}
 use Rattle.std.specs.Prelude.{Some}
 use Rattle.ll_lists.proofs.CallerLemmas.{IfOk-each as if_ok-more}
 use Rattle.ll_bank.specs.Nodes.{term_trees}
@@ -71,3 +72,15 @@ returns-in_ok-push-in_default-clause-dealt c = λ bank ts vs h f1 f2 d.
     c.in_default.not-Bang c.in_default.not-Lolli c.in_default.not-Clause in
     passing-step (line_of bank c.args.rule) (p.mk bank) (p.passing bank) c.args.outline.now c.args.at c.args.share c.args.pending.now.items
     c.push.new.self.items ts vs c.in_ok-push-in_default.ensures.items h d
+
+pub returns-in_err-parts-in-Clause-clause-dealt : goal.returns-in_err-parts-in-Clause-clause-dealt
+returns-in_err-parts-in-Clause-clause-dealt c = IfOk-from_err c.from_residual.result _ c.from_residual.ensures.0
+
+pub returns-in_err-parts-in-Clause-clause-keeps : goal.returns-in_err-parts-in-Clause-clause-keeps
+returns-in_err-parts-in-Clause-clause-keeps c = IfOk-from_err c.from_residual.result _ c.from_residual.ensures.0
+
+pub returns-in_err-push-in_default-clause-dealt : goal.returns-in_err-push-in_default-clause-dealt
+returns-in_err-push-in_default-clause-dealt c = IfOk-from_err c.from_residual-in_err-push-in_default.result _ c.from_residual-in_err-push-in_default.ensures.0
+
+pub returns-in_err-push-in_default-clause-keeps : goal.returns-in_err-push-in_default-clause-keeps
+returns-in_err-push-in_default-clause-keeps c = IfOk-from_err c.from_residual-in_err-push-in_default.result _ c.from_residual-in_err-push-in_default.ensures.0

@@ -1,4 +1,5 @@
 use Rattle.std.proofs.Common.{◌≡◌, List, ◌+◌, ap, sym, subst, refl, ◌∙◌}
+use Rattle.std.proofs.lemmas.Result.{IfOk-from_err}
 use Rattle.std.specs.Prelude.{filter, not}
 use Rattle.ll_laws.specs.Line.{Line, TensorLine}
 use Rattle.ll_trace.specs.declared.deal.Fork.{Fork}
@@ -31,3 +32,33 @@ returns-clause-dealt c = λ s t bank ts vs h f1 f2 d.
     (c.in_ok-mine.ensures.others
     ∙ ap (filter (λ n. not (goes_to_first c.args.outline.now.uses fork n))) c.deref-3.ensures.value)
     refl c.in_ok-push.ensures.items c.in_ok-push-2.ensures.items h f1 f2 d)
+
+pub returns-in_err-left-clause-dealt : goal.returns-in_err-left-clause-dealt
+returns-in_err-left-clause-dealt c = IfOk-from_err c.from_residual-in_err-left.result _ c.from_residual-in_err-left.ensures.0
+
+pub returns-in_err-left-clause-keeps : goal.returns-in_err-left-clause-keeps
+returns-in_err-left-clause-keeps c = IfOk-from_err c.from_residual-in_err-left.result _ c.from_residual-in_err-left.ensures.0
+
+pub returns-in_err-mine-clause-dealt : goal.returns-in_err-mine-clause-dealt
+returns-in_err-mine-clause-dealt c = IfOk-from_err c.from_residual.result _ c.from_residual.ensures.0
+
+pub returns-in_err-mine-clause-keeps : goal.returns-in_err-mine-clause-keeps
+returns-in_err-mine-clause-keeps c = IfOk-from_err c.from_residual.result _ c.from_residual.ensures.0
+
+pub returns-in_err-push-2-clause-dealt : goal.returns-in_err-push-2-clause-dealt
+returns-in_err-push-2-clause-dealt c = IfOk-from_err c.from_residual-in_err-push-2.result _ c.from_residual-in_err-push-2.ensures.0
+
+pub returns-in_err-push-2-clause-keeps : goal.returns-in_err-push-2-clause-keeps
+returns-in_err-push-2-clause-keeps c = IfOk-from_err c.from_residual-in_err-push-2.result _ c.from_residual-in_err-push-2.ensures.0
+
+pub returns-in_err-push-clause-dealt : goal.returns-in_err-push-clause-dealt
+returns-in_err-push-clause-dealt c = IfOk-from_err c.from_residual-in_err-push.result _ c.from_residual-in_err-push.ensures.0
+
+pub returns-in_err-push-clause-keeps : goal.returns-in_err-push-clause-keeps
+returns-in_err-push-clause-keeps c = IfOk-from_err c.from_residual-in_err-push.result _ c.from_residual-in_err-push.ensures.0
+
+pub returns-in_err-right-clause-dealt : goal.returns-in_err-right-clause-dealt
+returns-in_err-right-clause-dealt c = IfOk-from_err c.from_residual-in_err-right.result _ c.from_residual-in_err-right.ensures.0
+
+pub returns-in_err-right-clause-keeps : goal.returns-in_err-right-clause-keeps
+returns-in_err-right-clause-keeps c = IfOk-from_err c.from_residual-in_err-right.result _ c.from_residual-in_err-right.ensures.0

@@ -1,4 +1,5 @@
 use Rattle.std.proofs.Common.{ℕ, ◌++◌, ap, sym, ◌∙◌, Vec, Global, get_or, [], ◌∷◌}
+use Rattle.std.proofs.lemmas.Result.{IfOk-from_err}
 use Rattle.std.specs.Prelude.{cond, filter, not}
 use Rattle.ll_trace.specs.Shares.{goes_to_first}
 use Rattle.ll_trace.proofs.Sharing.{keep-step, keep-end}
@@ -46,3 +47,15 @@ returns-clause-first c = keep-end (goes_to_first c.args.uses.now c.args.fork) c.
 pub returns-clause-others : goal.returns-clause-others
 returns-clause-others c = keep-end (λ n. not (goes_to_first c.args.uses.now c.args.fork n)) c.args.labels.now c.loop-label.label-index c.loop-label.others.items
     c.loop-label-test.false c.loop-label.invariant.others
+
+pub returns-in_err-push-2-clause-first : goal.returns-in_err-push-2-clause-first
+returns-in_err-push-2-clause-first c = IfOk-from_err c.from_residual-in_err-push-2.result _ c.from_residual-in_err-push-2.ensures.0
+
+pub returns-in_err-push-2-clause-others : goal.returns-in_err-push-2-clause-others
+returns-in_err-push-2-clause-others c = IfOk-from_err c.from_residual-in_err-push-2.result _ c.from_residual-in_err-push-2.ensures.0
+
+pub returns-in_err-push-clause-first : goal.returns-in_err-push-clause-first
+returns-in_err-push-clause-first c = IfOk-from_err c.from_residual.result _ c.from_residual.ensures.0
+
+pub returns-in_err-push-clause-others : goal.returns-in_err-push-clause-others
+returns-in_err-push-clause-others c = IfOk-from_err c.from_residual.result _ c.from_residual.ensures.0

@@ -1,4 +1,5 @@
 use Rattle.std.proofs.Common.{ℕ, ◌++◌, ap, sym, refl, ◌∙◌, Vec, Global, get_or, [], ◌∷◌}
+use Rattle.std.proofs.lemmas.Result.{IfOk-from_err}
 use Rattle.std.specs.Prelude.{cond, not, nat_eq}
 use Rattle.std.proofs.lemmas.Bool.{eq-eqb, ne_eqb}
 use Rattle.ll_laws.specs.Dealing.{without}
@@ -26,3 +27,6 @@ loop-other-preserved c =
 pub returns : goal.returns
 returns c = keep-end (λ m. not (nat_eq c.args.label m)) c.args.labels.now c.loop-other.other-index c.loop-other.rest.items c.loop-other-test.false
     c.loop-other.invariant
+
+pub returns-in_err-push : goal.returns-in_err-push
+returns-in_err-push c = IfOk-from_err c.from_residual.result _ c.from_residual.ensures.0

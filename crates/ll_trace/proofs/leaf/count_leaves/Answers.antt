@@ -1,4 +1,5 @@
 use Rattle.std.proofs.Common.{ap, ◌∙◌, arith, length, ◌∷◌, []}
+use Rattle.std.proofs.lemmas.Result.{IfOk-from_err}
 use Rattle.std.proofs.lemmas.List.Elements.{All-nil, All-cons}
 use Rattle.ll_bank.specs.declared.FormAt.{FormAt}
 use Rattle.ll_bank.specs.Form.{Form}
@@ -63,3 +64,22 @@ loop-form-preserved-in-Continue-branch-6 c =
     c.in_ok-push-in-Forall.ensures.items i.inside (λ h. All-cons P r [] (omega (arith, h, q)) (All-nil P))
     (let a = ap (λ (t : Form). length (ways t)) c.in-Forall.ensures.shown.tree ∙ ways_quantified (form_tree forms r.0) in omega (arith, a)) i.so_far in
     record { inside = s.inside; so_far = s.so_far }
+
+pub returns-in_err-count-in-Atom : goal.returns-in_err-count-in-Atom
+returns-in_err-count-in-Atom c = IfOk-from_err c.from_residual-in_err-count-in-Atom.result _ c.from_residual-in_err-count-in-Atom.ensures.0
+
+pub returns-in_err-extend_from_slice-in-With : goal.returns-in_err-extend_from_slice-in-With
+returns-in_err-extend_from_slice-in-With c =
+    IfOk-from_err c.from_residual-in_err-extend_from_slice-in-With.result _ c.from_residual-in_err-extend_from_slice-in-With.ensures.0
+
+pub returns-in_err-push : goal.returns-in_err-push
+returns-in_err-push c = IfOk-from_err c.from_residual.result _ c.from_residual.ensures.0
+
+pub returns-in_err-push-in-Forall : goal.returns-in_err-push-in-Forall
+returns-in_err-push-in-Forall c = IfOk-from_err c.from_residual-in_err-push-in-Forall.result _ c.from_residual-in_err-push-in-Forall.ensures.0
+
+pub returns-in_err-push-in-Imp : goal.returns-in_err-push-in-Imp
+returns-in_err-push-in-Imp c = IfOk-from_err c.from_residual-in_err-push-in-Imp.result _ c.from_residual-in_err-push-in-Imp.ensures.0
+
+pub returns-in_err-push-in-Lolli : goal.returns-in_err-push-in-Lolli
+returns-in_err-push-in-Lolli c = IfOk-from_err c.from_residual-in_err-push-in-Lolli.result _ c.from_residual-in_err-push-in-Lolli.ensures.0

@@ -1,4 +1,5 @@
 use Rattle.std.proofs.Common.{refl, ap, sym, subst, arith, length, inl, inr, ℕ}
+use Rattle.std.proofs.lemmas.Result.{IfOk-from_err}
 use Rattle.std.proofs.lemmas.Bool.{cases_lt}
 use Rattle.ll_bank.specs.declared.FormAt.{FormAt}
 use Rattle.ll_bank.specs.Nodes.{form_tree}
@@ -90,3 +91,22 @@ loop-parts-preserved c =
     way_in c.args.forms.now c.args.clause.0 c.args.leaf c.args.goals.now.items c.loop-parts.form.0 c.loop-parts.leaf c.loop-parts.quantifiers
     c.loop-parts.goals.items c.loop-parts.parts.items w c.in-Forall.body.0
     c.in_ok-quantifiers-in-Forall.quantifiers c.in-Forall.ensures.shown.tree (omega (arith, h, p)) c.in_ok-quantifiers-in-Forall.ensures
+
+pub returns-in_err-push-in-Imp : goal.returns-in_err-push-in-Imp
+returns-in_err-push-in-Imp c = IfOk-from_err c.from_residual-in_err-push-in-Imp.result _ c.from_residual-in_err-push-in-Imp.ensures.0
+
+pub returns-in_err-push-in-Imp-2 : goal.returns-in_err-push-in-Imp-2
+returns-in_err-push-in-Imp-2 c = IfOk-from_err c.from_residual-in_err-push-in-Imp-2.result _ c.from_residual-in_err-push-in-Imp-2.ensures.0
+
+pub returns-in_err-push-in-Lolli : goal.returns-in_err-push-in-Lolli
+returns-in_err-push-in-Lolli c = IfOk-from_err c.from_residual-in_err-push-in-Lolli.result _ c.from_residual-in_err-push-in-Lolli.ensures.0
+
+pub returns-in_err-push-in-Lolli-2 : goal.returns-in_err-push-in-Lolli-2
+returns-in_err-push-in-Lolli-2 c = IfOk-from_err c.from_residual-in_err-push-in-Lolli-2.result _ c.from_residual-in_err-push-in-Lolli-2.ensures.0
+
+pub returns-in_err-quantifiers-in-Forall : goal.returns-in_err-quantifiers-in-Forall
+returns-in_err-quantifiers-in-Forall c =
+    IfOk-from_err c.from_residual-in_err-quantifiers-in-Forall.result _ c.from_residual-in_err-quantifiers-in-Forall.ensures.0
+
+pub returns-in_err-side-in-With : goal.returns-in_err-side-in-With
+returns-in_err-side-in-With c = IfOk-from_err c.from_residual.result _ c.from_residual.ensures.0

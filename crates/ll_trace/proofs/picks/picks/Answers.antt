@@ -1,4 +1,5 @@
 use Rattle.std.proofs.Common.{◌≡◌, List, [], ◌∷◌, ◌++◌, ◌+◌, ap, subst, ◌∙◌, drop, map, arith}
+use Rattle.std.proofs.lemmas.Result.{IfOk-from_err}
 use Rattle.std.proofs.lemmas.List.{drop_all}
 use Rattle.ll_laws.specs.Line.{Line}
 use Rattle.ll_laws.specs.ShownLines.{line_of}
@@ -29,3 +30,12 @@ returns c = λ bank x h.
     ap (map (line_of bank)) (drop_all c.loop-rule.rule-index c.args.rules.now (omega arith)) in
     picks-end x c.loop-rule.picks.items c.loop-rule.pending.items
     (subst (λ (ls : List Line). PicksLeft ls x c.loop-rule.picks.items c.loop-rule.pending.items) d (c.loop-rule.invariant bank x h))
+
+pub returns-in_err-pick : goal.returns-in_err-pick
+returns-in_err-pick c = IfOk-from_err c.from_residual-in_err-pick.result _ c.from_residual-in_err-pick.ensures.0
+
+pub returns-in_err-push : goal.returns-in_err-push
+returns-in_err-push c = IfOk-from_err c.from_residual.result _ c.from_residual.ensures.0
+
+pub returns-in_err-push-2 : goal.returns-in_err-push-2
+returns-in_err-push-2 c = IfOk-from_err c.from_residual-in_err-push-2.result _ c.from_residual-in_err-push-2.ensures.0

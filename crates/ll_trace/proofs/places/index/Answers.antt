@@ -1,4 +1,5 @@
 use Rattle.std.proofs.Common.{ℕ, ap, sym, ◌∙◌, Vec, Global}
+use Rattle.std.proofs.lemmas.Result.{IfOk-from_err}
 use Rattle.std.specs.Prelude.{Some, None}
 use Rattle.std.specs.Ordering.{nat_cmp}
 use Rattle.std.specs.BTreeMap.{get}
@@ -24,3 +25,6 @@ loop-at-preserved c = λ n.
           (sym (none-of _ w.in_default.not-Some) ∙ at-default c.args.picks.now c.loop-at.at _ _ c.loop-at-test.true) (c.loop-at.invariant n)
           (ap (λ (m : BTreeMap ℕ (Vec Place Global)). row_of (get nat_cmp m n)) w.places-is ∙ sym (append-nil (row_of (get nat_cmp c.loop-at.places n))))
     ]
+
+pub returns-in_err-add_place : goal.returns-in_err-add_place
+returns-in_err-add_place c = IfOk-from_err c.from_residual.result _ c.from_residual.ensures.0

@@ -1,4 +1,5 @@
 use Rattle.std.proofs.Common.{◌≡◌, ◌+◌, ap, sym, subst, List, ℕ, take}
+use Rattle.std.proofs.lemmas.Result.{IfOk-from_err}
 use Rattle.ll_trace.specs.Start.{linear_labels}
 use Rattle.ll_trace.proofs.ExplainLemmas.{label_linear, label_other}
 use Rattle.ll_trace.proofs.root.root_labels.Goals as goal
@@ -14,3 +15,6 @@ loop-label-preserved c =
       | in-Unbounded w ↦ subst (λ (ns : List ℕ). ns ≡ linear_labels 0 (take (c.loop-label.label + 1) c.args.clauses.now)) (sym (ap (λ v. v.items) w.labels-is))
           (label_other c.args.clauses.now c.loop-label.label _ c.loop-label.labels.items c.loop-label-test.true c.loop-label.invariant w.in-Unbounded.is)
     ]
+
+pub returns-in_err-push-in-Linear : goal.returns-in_err-push-in-Linear
+returns-in_err-push-in-Linear c = IfOk-from_err c.from_residual.result _ c.from_residual.ensures.0

@@ -1,4 +1,5 @@
 use Rattle.std.proofs.Common.{◌≡◌, ◌<◌, List, ◌∷◌, ◌+◌, ◌-◌, ap, sym, subst, refl, ◌∙◌, length, length-set, drop, map, arith}
+use Rattle.std.proofs.lemmas.Result.{IfOk-from_err}
 use Rattle.std.proofs.lemmas.List.{length-map, drop-map}
 use Rattle.ll_laws.specs.Line.{Line}
 use Rattle.ll_laws.specs.ShownLines.{line_of}
@@ -36,3 +37,6 @@ loop-at-preserved c =
 
 pub returns : goal.returns
 returns c = λ bank at ts h. c.loop-at.invariant.fits bank at ts (omega arith) h
+
+pub returns-in_err-spans : goal.returns-in_err-spans
+returns-in_err-spans c = IfOk-from_err c.from_residual.result _ c.from_residual.ensures.0

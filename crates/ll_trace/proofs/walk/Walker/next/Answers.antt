@@ -1,4 +1,5 @@
 use Rattle.std.proofs.Common.{refl, ap, ◌∙◌, length, [], ◌∷◌, ◌++◌}
+use Rattle.std.proofs.lemmas.Result.{IfOk-from_err}
 use Rattle.std.proofs.lemmas.List.Elements.{All-nil, All-cons, All-pop}
 use Rattle.std.specs.Prelude.{Some}
 use Rattle.ll_bank.specs.Form.{Bang}
@@ -63,3 +64,6 @@ returns-in_ok-push-in-Free c =
     (takes_goals forms c.args.modules.now c.args.terms.now popped c.args.step (record { goals = a.0; clauses = c.requires.inside.clauses }) c.requires.used
     (Bang (bare (form_tree forms f.0))) BangRule BangLine (Plain f ∷ []) new
     c.in_ok-push-in-Free.ensures.items refl refl refl (All-cons P (Plain f) [] a.1 (All-nil P)) (λ bank. refl) (λ all. refl) (λ bank k. tt))
+
+pub returns-in_err-push-in-Free : goal.returns-in_err-push-in-Free
+returns-in_err-push-in-Free c = IfOk-from_err c.from_residual.result _ c.from_residual.ensures.0

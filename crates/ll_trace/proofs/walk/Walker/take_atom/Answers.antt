@@ -1,4 +1,5 @@
 use Rattle.std.proofs.Common.{◌≡◌, ◌+◌, refl, ap, subst, arith, length}
+use Rattle.std.proofs.lemmas.Result.{IfOk-from_err}
 use Rattle.ll_laws.specs.declared.Step.{Step}
 use Rattle.ll_laws.specs.declared.Rule.TheVariants.{Clause as ClauseRule}
 use Rattle.ll_trace.specs.declared.walk.Walker.{Walker}
@@ -16,3 +17,9 @@ returns c modules inside =
     new (ClauseRule c.in-Clause.label c.in-Clause.leaf taken o.parts) taken.items c.in-Clause.is
     (subst (λ (s : Step). MayTakeAtom c.args.forms.now old s) c.in-Clause.is c.requires.may) c.index-clause.ensures c.in_ok-opened.ensures refl refl
     (let l : c.len.result ≡ length taken.items = omega arith in ap (λ n. old.used + n) l) c.in_ok-taken.ensures (λ bank. refl) (λ bank. refl)
+
+pub returns-in_err-opened : goal.returns-in_err-opened
+returns-in_err-opened c = IfOk-from_err c.from_residual.result _ c.from_residual.ensures.0
+
+pub returns-in_err-taken : goal.returns-in_err-taken
+returns-in_err-taken c = IfOk-from_err c.from_residual-in_err-taken.result _ c.from_residual-in_err-taken.ensures.0

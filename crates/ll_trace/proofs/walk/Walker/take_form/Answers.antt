@@ -1,4 +1,5 @@
 use Rattle.std.proofs.Common.{refl, ap, sym, subst, ◌∙◌, arith, length, [], ◌∷◌, ◌++◌}
+use Rattle.std.proofs.lemmas.Result.{IfOk-from_err}
 use Rattle.std.proofs.lemmas.List.Elements.{All-nil, All-cons}
 use Rattle.ll_bank.specs.Form.{Form, Atom, With, Tensor, Plus, Bang, Lolli, Imp, Forall, Exists, Use}
 use Rattle.ll_bank.specs.Nodes.{form_tree, term_trees}
@@ -183,3 +184,27 @@ returns-in-Atom c =
     c.in-Atom.ensures.shown.tree
     (s c.args.modules.now c.requires.inside))
     c.take_atom.result c.take_atom.ensures
+
+pub returns-in_err-fill-in-Exists : goal.returns-in_err-fill-in-Exists
+returns-in_err-fill-in-Exists c = IfOk-from_err c.from_residual-in_err-fill-in-Exists.result _ c.from_residual-in_err-fill-in-Exists.ensures.0
+
+pub returns-in_err-load-in-Imp : goal.returns-in_err-load-in-Imp
+returns-in_err-load-in-Imp c = IfOk-from_err c.from_residual-in_err-load-in-Imp.result _ c.from_residual-in_err-load-in-Imp.ensures.0
+
+pub returns-in_err-load-in-Lolli : goal.returns-in_err-load-in-Lolli
+returns-in_err-load-in-Lolli c = IfOk-from_err c.from_residual-in_err-load-in-Lolli.result _ c.from_residual-in_err-load-in-Lolli.ensures.0
+
+pub returns-in_err-open-in-Forall : goal.returns-in_err-open-in-Forall
+returns-in_err-open-in-Forall c = IfOk-from_err c.from_residual-in_err-open-in-Forall.result _ c.from_residual-in_err-open-in-Forall.ensures.0
+
+pub returns-in_err-push-in-Bang : goal.returns-in_err-push-in-Bang
+returns-in_err-push-in-Bang c = IfOk-from_err c.from_residual-in_err-push-in-Bang.result _ c.from_residual-in_err-push-in-Bang.ensures.0
+
+pub returns-in_err-push-in-Use : goal.returns-in_err-push-in-Use
+returns-in_err-push-in-Use c = IfOk-from_err c.from_residual-in_err-push-in-Use.result _ c.from_residual-in_err-push-in-Use.ensures.0
+
+pub returns-in_err-push_two-in-Tensor : goal.returns-in_err-push_two-in-Tensor
+returns-in_err-push_two-in-Tensor c = IfOk-from_err c.from_residual.result _ c.from_residual.ensures.0
+
+pub returns-in_err-push_two-in-With : goal.returns-in_err-push_two-in-With
+returns-in_err-push_two-in-With c = IfOk-from_err c.from_residual-in_err-push_two-in-With.result _ c.from_residual-in_err-push_two-in-With.ensures.0

@@ -1,4 +1,5 @@
 use Rattle.std.proofs.Common.{◌+◌, ◌-◌, refl, ap, sym, subst, arith}
+use Rattle.std.proofs.lemmas.Result.{IfOk-from_err}
 use Rattle.ll_bank.specs.Form.{Form}
 use Rattle.ll_bank.specs.Nodes.{form_tree}
 use Rattle.ll_laws.specs.declared.Kind.{Kind}
@@ -68,3 +69,9 @@ returns-in-Unbounded c =
     (clause_tree forms x) x.form (ImpRule c.in_ok-label.label) c.in_ok-label.label
     c.load.new.self (omega (arith, f)) refl c.requires.goal c.requires.known refl next.has next.got c.in_ok-label.ensures.pushed c.in_ok-label.ensures.label
     (λ bank. ap (λ (y : Kind). load_line y c.in_ok-label.label) (sym c.in-Unbounded.is)) (λ bank h. tt)
+
+pub returns-in_err-eigen : goal.returns-in_err-eigen
+returns-in_err-eigen c = IfOk-from_err c.from_residual.result _ c.from_residual.ensures.0
+
+pub returns-in_err-label : goal.returns-in_err-label
+returns-in_err-label c = IfOk-from_err c.from_residual-in_err-label.result _ c.from_residual-in_err-label.ensures.0

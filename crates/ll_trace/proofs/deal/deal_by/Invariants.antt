@@ -5,7 +5,7 @@ use Rattle.ll_laws.specs.Line.{trees_of}
 use Rattle.ll_laws.specs.Shows.{Tree}
 use Rattle.ll_laws.specs.ShownLines.{line_of, HasLines}
 use Rattle.ll_trace.proofs.Sharing.{DealLeft}
-use Rattle.ll_trace.proofs.deal.deal.Given as goal
+use Rattle.ll_trace.proofs.deal.deal_by.Given as goal
 
 abbrev pub invariant-loop-node : goal.invariant-loop-node
 invariant-loop-node l = record {

@@ -7,7 +7,7 @@ use Rattle.ll_trace.specs.declared.picks.Pick.{Pick}
 use Rattle.ll_trace.specs.Picks.{picks_of_parts}
 use Rattle.ll_trace.specs.Spans.{Fits}
 use Rattle.ll_trace.proofs.Sharing.{PartsDealt}
-use Rattle.ll_trace.proofs.deal.deal_parts.Given as goal
+use Rattle.ll_trace.proofs.deal.deal_each.Given as goal
 
 abbrev pub invariant-loop-part : goal.invariant-loop-part
 invariant-loop-part l =

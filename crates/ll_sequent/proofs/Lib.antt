@@ -22,3 +22,4 @@ pub mod NodeLemmas
 pub mod NumberLemmas
 pub mod CopyLemmas
 pub mod SameLemmas
+pub mod KeepLemmas

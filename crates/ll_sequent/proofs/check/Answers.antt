@@ -1,4 +1,5 @@
 use Rattle.std.proofs.Common.{◌≡◌, List, length, map, All, subst, sym, ap, ◌∙◌, arith}
+use Rattle.std.proofs.lemmas.Result.{IfOk-from_err}
 use Rattle.std.specs.List.{list_all}
 use Rattle.std.proofs.lemmas.List.{length-map}
 use Rattle.ll_bank.specs.declared.At.{At}
@@ -99,3 +100,9 @@ judge-requires-clause-whole c =
     ∙ (c.in_ok-start.ensures.lines ∙ (ap (map (line_of c.derivation.inside.bank)) c.deref-3.ensures.value
     ∙ ap (λ (d : DerivationLines). d.nodes) c.derivation.view_is)) in
     ap (list_all is_line) nodes ∙ c.requires.whole.nodes
+
+pub returns-in_err-start : goal.returns-in_err-start
+returns-in_err-start c = IfOk-from_err c.from_residual.result _ c.from_residual.ensures.0
+
+pub returns-in_err-verdict : goal.returns-in_err-verdict
+returns-in_err-verdict c = IfOk-from_err c.from_residual-in_err-verdict.result _ c.from_residual-in_err-verdict.ensures.0

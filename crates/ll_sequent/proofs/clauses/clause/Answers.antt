@@ -1,4 +1,5 @@
 use Rattle.std.proofs.Common.{◌∙◌, refl, ap, sym, subst, true, List, [], map, Some}
+use Rattle.std.proofs.lemmas.Result.{IfOk-from_err}
 use Rattle.ll_lists.proofs.CallerLemmas.{IfOk-each}
 use Rattle.ll_bank.specs.declared.FormAt.{FormAt}
 use Rattle.ll_bank.specs.Nodes.{form_tree, term_tree, term_trees}
@@ -172,3 +173,15 @@ returns-then-not-branch-clause-keeps c = c.open_leaf.ensures.keeps
 
 pub returns-then-not-fit-clause-keeps : goal.returns-then-not-fit-clause-keeps
 returns-then-not-fit-clause-keeps c = c.open_leaf.ensures.keeps
+
+pub returns-in_err-leaves_left-clause-is : goal.returns-in_err-leaves_left-clause-is
+returns-in_err-leaves_left-clause-is c = IfOk-from_err c.from_residual.result _ c.from_residual.ensures.0
+
+pub returns-in_err-opened-clause-is : goal.returns-in_err-opened-clause-is
+returns-in_err-opened-clause-is c = IfOk-from_err c.from_residual-in_err-opened.result _ c.from_residual-in_err-opened.ensures.0
+
+pub returns-in_err-is_same-clause-is : goal.returns-in_err-is_same-clause-is
+returns-in_err-is_same-clause-is c = IfOk-from_err c.from_residual-in_err-is_same.result _ c.from_residual-in_err-is_same.ensures.0
+
+pub returns-in_err-goals-clause-is : goal.returns-in_err-goals-clause-is
+returns-in_err-goals-clause-is c = IfOk-from_err c.from_residual-in_err-goals.result _ c.from_residual-in_err-goals.ensures.0

@@ -1,4 +1,5 @@
 use Rattle.std.proofs.Common.{[], ◌∷◌, ◌++◌, ap, sym, ◌∙◌}
+use Rattle.std.proofs.lemmas.Result.{IfOk-from_err}
 use Rattle.std.specs.Ordering.{nat_cmp}
 use Rattle.std.specs.BTreeSet.{contains}
 use Rattle.ll_sequent.proofs.FormConstants.{gathering_begins, gathering_on, gathering_ends, form_sizes_less}
@@ -23,3 +24,9 @@ loop-next-preserved c =
 pub returns : goal.returns
 returns c = gathering_ends c.args.bank.now c.args.form.0 (contains nat_cmp c.args.terms.now) (contains nat_cmp c.loop-next.terms) c.loop-next.waiting.items
     (sym c.loop-next.waiting.ok.0 ∙ c.in_default.ensures.cases.0) c.loop-next.invariant
+
+pub returns-in_err-push : goal.returns-in_err-push
+returns-in_err-push c = IfOk-from_err c.from_residual.result _ c.from_residual.ensures.0
+
+pub returns-in_err-look_into : goal.returns-in_err-look_into
+returns-in_err-look_into c = IfOk-from_err c.from_residual-in_err-look_into.result _ c.from_residual-in_err-look_into.ensures.0

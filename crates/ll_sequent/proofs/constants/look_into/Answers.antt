@@ -1,4 +1,5 @@
 use Rattle.std.proofs.Common.{◌<◌, ap, ◌∙◌, false, [], ◌∷◌, length, arith}
+use Rattle.std.proofs.lemmas.Result.{IfOk-from_err}
 use Rattle.std.specs.Prelude.{◌||◌}
 use Rattle.std.specs.Ordering.{nat_cmp}
 use Rattle.std.specs.BTreeSet.{contains}
@@ -154,3 +155,18 @@ returns-in-Most c =
     (λ k. ap (form_has_eigen k) c.in-Most.ensures.shown.tree ∙ ap (λ b. has_eigen k (term_tree c.args.bank.now c.in-Most.left.0) || b) (or_false _)) (let s =
     ap form_size c.in-Most.ensures.shown.tree in omega (arith, s)))
     c.insert_all-in-Most.ensures
+
+pub returns-in_err-push-in-Bang : goal.returns-in_err-push-in-Bang
+returns-in_err-push-in-Bang c = IfOk-from_err c.from_residual.result _ c.from_residual.ensures.0
+
+pub returns-in_err-push-in-Forall : goal.returns-in_err-push-in-Forall
+returns-in_err-push-in-Forall c = IfOk-from_err c.from_residual-in_err-push-in-Forall.result _ c.from_residual-in_err-push-in-Forall.ensures.0
+
+pub returns-in_err-push-in-Exists : goal.returns-in_err-push-in-Exists
+returns-in_err-push-in-Exists c = IfOk-from_err c.from_residual-in_err-push-in-Exists.result _ c.from_residual-in_err-push-in-Exists.ensures.0
+
+pub returns-in_err-insert_all-in-Use : goal.returns-in_err-insert_all-in-Use
+returns-in_err-insert_all-in-Use c = IfOk-from_err c.from_residual-in_err-insert_all-in-Use.result _ c.from_residual-in_err-insert_all-in-Use.ensures.0
+
+pub returns-in_err-push-in-Use : goal.returns-in_err-push-in-Use
+returns-in_err-push-in-Use c = IfOk-from_err c.from_residual-in_err-push-in-Use.result _ c.from_residual-in_err-push-in-Use.ensures.0

@@ -1,5 +1,5 @@
 use Rattle.std.proofs.Common.{◌<◌, List, length, subst, sym, ap, ◌∙◌, arith}
-use Rattle.std.proofs.lemmas.Result.{IfOk-weaker}
+use Rattle.std.proofs.lemmas.Result.{IfOk-weaker, IfOk-from_err}
 use Rattle.std.proofs.lemmas.List.Elements.{All-weaker}
 use Rattle.ll_bank.specs.declared.At.{At}
 use Rattle.ll_bank.specs.Term.{app}
@@ -28,3 +28,6 @@ returns-in_ok-put_copies-in-App-clause-shows c =
     ∙ copied_trees c.args.terms.now c.args.bank.now c.args.copies.now c.requires.copies c.in-App.places.now below in
     let same = ap (λ ts. app c.in-App.head ts) trees ∙ sym c.in-App.ensures.shown.0 in
     IfOk-weaker c.app.result _ _ (λ a h. record { inside = h.inside; tree = h.tree ∙ same }) c.app.ensures.shows
+
+pub returns-in_err-put_copies-in-App-clause-shows : goal.returns-in_err-put_copies-in-App-clause-shows
+returns-in_err-put_copies-in-App-clause-shows c = IfOk-from_err c.from_residual.result _ c.from_residual.ensures.0

@@ -1,4 +1,5 @@
 use Rattle.std.proofs.Common.{List, length, take, subst, All, arith}
+use Rattle.std.proofs.lemmas.Result.{IfOk-from_err}
 use Rattle.std.proofs.lemmas.List.{take_all}
 use Rattle.std.proofs.lemmas.List.Elements.{All-more}
 use Rattle.ll_bank.proofs.CallerLemmas.{Extends-trans}
@@ -39,3 +40,21 @@ loop-i-preserved c =
 pub returns-clause-lines : goal.returns-clause-lines
 returns-clause-lines c = let P : List Rule → Type 0 = All (IsLineBelow (length c.loop-i.copies.items)) in
     subst P (take_all c.loop-i.i c.args.rules.now (omega arith)) c.loop-i.invariant.lines
+
+pub returns-in_err-copy_all-clause-copies : goal.returns-in_err-copy_all-clause-copies
+returns-in_err-copy_all-clause-copies c = IfOk-from_err c.from_residual.result _ c.from_residual.ensures.0
+
+pub returns-in_err-copy_all-clause-asked : goal.returns-in_err-copy_all-clause-asked
+returns-in_err-copy_all-clause-asked c = IfOk-from_err c.from_residual.result _ c.from_residual.ensures.0
+
+pub returns-in_err-copy_all-clause-lines : goal.returns-in_err-copy_all-clause-lines
+returns-in_err-copy_all-clause-lines c = IfOk-from_err c.from_residual.result _ c.from_residual.ensures.0
+
+pub returns-in_err-copy_line-clause-copies : goal.returns-in_err-copy_line-clause-copies
+returns-in_err-copy_line-clause-copies c = IfOk-from_err c.from_residual-in_err-copy_line.result _ c.from_residual-in_err-copy_line.ensures.0
+
+pub returns-in_err-copy_line-clause-asked : goal.returns-in_err-copy_line-clause-asked
+returns-in_err-copy_line-clause-asked c = IfOk-from_err c.from_residual-in_err-copy_line.result _ c.from_residual-in_err-copy_line.ensures.0
+
+pub returns-in_err-copy_line-clause-lines : goal.returns-in_err-copy_line-clause-lines
+returns-in_err-copy_line-clause-lines c = IfOk-from_err c.from_residual-in_err-copy_line.result _ c.from_residual-in_err-copy_line.ensures.0

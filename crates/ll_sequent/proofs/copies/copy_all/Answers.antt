@@ -1,4 +1,5 @@
 use Rattle.std.proofs.Common.{◌<◌, length, take, subst, arith}
+use Rattle.std.proofs.lemmas.Result.{IfOk-from_err}
 use Rattle.std.proofs.lemmas.List.{take_all}
 use Rattle.std.proofs.lemmas.List.Elements.{All-more}
 use Rattle.ll_bank.specs.declared.At.{At}
@@ -26,3 +27,12 @@ loop-i-preserved c = record {
 
 pub returns-clause-reach : goal.returns-clause-reach
 returns-clause-reach c = subst (AreBelow (length c.loop-i.copies.items)) (take_all c.loop-i.i c.args.places.now (omega arith)) c.loop-i.invariant.reach
+
+pub returns-in_err-copy_up_to-clause-copies : goal.returns-in_err-copy_up_to-clause-copies
+returns-in_err-copy_up_to-clause-copies c = IfOk-from_err c.from_residual.result _ c.from_residual.ensures.0
+
+pub returns-in_err-copy_up_to-clause-reach : goal.returns-in_err-copy_up_to-clause-reach
+returns-in_err-copy_up_to-clause-reach c = IfOk-from_err c.from_residual.result _ c.from_residual.ensures.0
+
+pub returns-in_err-copy_up_to-clause-more : goal.returns-in_err-copy_up_to-clause-more
+returns-in_err-copy_up_to-clause-more c = IfOk-from_err c.from_residual.result _ c.from_residual.ensures.0

@@ -1,4 +1,5 @@
 use Rattle.std.proofs.Common.{sym, subst, length, ap, arith}
+use Rattle.std.proofs.lemmas.Result.{IfOk-from_err}
 use Rattle.std.proofs.lemmas.List.{length_push}
 use Rattle.ll_bank.specs.Nodes.{term_tree, ShowsTerm}
 use Rattle.ll_bank.proofs.CallerLemmas.{Extends-refl, Extends-trans}
@@ -28,3 +29,21 @@ loop-last-preserved c = record {
       let so_far = c.loop-last.invariant.more in omega arith;
   keeps = Extends-trans c.loop-last.invariant.keeps c.in_ok-copy.ensures.keeps;
 }
+
+pub returns-in_err-copy-clause-copies : goal.returns-in_err-copy-clause-copies
+returns-in_err-copy-clause-copies c = IfOk-from_err c.from_residual.result _ c.from_residual.ensures.0
+
+pub returns-in_err-copy-clause-reach : goal.returns-in_err-copy-clause-reach
+returns-in_err-copy-clause-reach c = IfOk-from_err c.from_residual.result _ c.from_residual.ensures.0
+
+pub returns-in_err-copy-clause-more : goal.returns-in_err-copy-clause-more
+returns-in_err-copy-clause-more c = IfOk-from_err c.from_residual.result _ c.from_residual.ensures.0
+
+pub returns-in_err-push-clause-copies : goal.returns-in_err-push-clause-copies
+returns-in_err-push-clause-copies c = IfOk-from_err c.from_residual-in_err-push.result _ c.from_residual-in_err-push.ensures.0
+
+pub returns-in_err-push-clause-reach : goal.returns-in_err-push-clause-reach
+returns-in_err-push-clause-reach c = IfOk-from_err c.from_residual-in_err-push.result _ c.from_residual-in_err-push.ensures.0
+
+pub returns-in_err-push-clause-more : goal.returns-in_err-push-clause-more
+returns-in_err-push-clause-more c = IfOk-from_err c.from_residual-in_err-push.result _ c.from_residual-in_err-push.ensures.0

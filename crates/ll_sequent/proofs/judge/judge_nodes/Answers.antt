@@ -1,4 +1,5 @@
 use Rattle.std.proofs.Common.{◌≡◌, ℕ, suc, ◌+◌, ◌++◌, ◌∷◌, [], map, drop, List, subst, sym, refl, ap, ◌∙◌, arith}
+use Rattle.std.proofs.lemmas.Result.{IfOk-from_err}
 use Rattle.ll_bank.proofs.CallerLemmas.{Extends-refl, Extends-trans, AllInTerms-extends}
 use Rattle.ll_laws.specs.Module.{ModuleTree}
 use Rattle.ll_laws.specs.Number.{operators_of}
@@ -160,3 +161,13 @@ returns c = λ x e.
       none_left (subst P (lines_end (copied_line c.args.bank.now c.args.copies.now) c.args.rules.now c.loop-node.node c.loop-node-test.false)
           (c.loop-node.invariant.owes x e)),
     )
+
+pub returns-in_err-push : goal.returns-in_err-push
+returns-in_err-push c = IfOk-from_err c.from_residual.result _ c.from_residual.ensures.0
+
+pub returns-in_err-reason : goal.returns-in_err-reason
+returns-in_err-reason c = IfOk-from_err c.from_residual-in_err-reason.result _ c.from_residual-in_err-reason.ensures.0
+
+pub returns-in_err-put_in_front-in-Leaves : goal.returns-in_err-put_in_front-in-Leaves
+returns-in_err-put_in_front-in-Leaves c =
+    IfOk-from_err c.from_residual-in_err-put_in_front-in-Leaves.result _ c.from_residual-in_err-put_in_front-in-Leaves.ensures.0

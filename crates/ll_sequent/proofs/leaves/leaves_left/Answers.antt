@@ -1,4 +1,5 @@
 use Rattle.std.proofs.Common.{ap, ◌∙◌, length}
+use Rattle.std.proofs.lemmas.Result.{IfOk-from_err}
 use Rattle.ll_bank.specs.Form.{Form}
 use Rattle.ll_bank.specs.Nodes.{form_tree}
 use Rattle.ll_bank.specs.Opened.{form_size}
@@ -112,3 +113,21 @@ pub walk-smaller-in-Continue-branch-6 : goal.walk-smaller-in-Continue-branch-6
 walk-smaller-in-Continue-branch-6 c =
     smaller_body c.args.bank.now c.walk.waiting.items c.pop.new.self.items c.in-Some.form c.in-Some.ensures.items c.push-in-Forall.new.self.items
     c.in-Forall.rest c.in_ok-push-in-Forall.ensures.items (ap form_size c.in-Forall.ensures.shown.tree)
+
+pub returns-in_err-push : goal.returns-in_err-push
+returns-in_err-push c = IfOk-from_err c.from_residual.result _ c.from_residual.ensures.0
+
+pub returns-in_err-push-in-With : goal.returns-in_err-push-in-With
+returns-in_err-push-in-With c = IfOk-from_err c.from_residual-in_err-push-in-With.result _ c.from_residual-in_err-push-in-With.ensures.0
+
+pub returns-in_err-push-in-With-2 : goal.returns-in_err-push-in-With-2
+returns-in_err-push-in-With-2 c = IfOk-from_err c.from_residual-in_err-push-in-With-2.result _ c.from_residual-in_err-push-in-With-2.ensures.0
+
+pub returns-in_err-push-in-Lolli : goal.returns-in_err-push-in-Lolli
+returns-in_err-push-in-Lolli c = IfOk-from_err c.from_residual-in_err-push-in-Lolli.result _ c.from_residual-in_err-push-in-Lolli.ensures.0
+
+pub returns-in_err-push-in-Imp : goal.returns-in_err-push-in-Imp
+returns-in_err-push-in-Imp c = IfOk-from_err c.from_residual-in_err-push-in-Imp.result _ c.from_residual-in_err-push-in-Imp.ensures.0
+
+pub returns-in_err-push-in-Forall : goal.returns-in_err-push-in-Forall
+returns-in_err-push-in-Forall c = IfOk-from_err c.from_residual-in_err-push-in-Forall.result _ c.from_residual-in_err-push-in-Forall.ensures.0

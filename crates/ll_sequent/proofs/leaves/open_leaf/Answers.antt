@@ -1,4 +1,5 @@
 use Rattle.std.proofs.Common.{◌≡◌, ◌∙◌, ap, sym, subst, true, take, length}
+use Rattle.std.proofs.lemmas.Result.{IfOk-from_err}
 use Rattle.ll_bank.specs.Term.{Env, close, applies_heads}
 use Rattle.ll_bank.specs.Form.{close_form, form_applies_heads}
 use Rattle.ll_bank.specs.Nodes.{form_tree, term_tree, term_trees, ShowsTerm, ShowsForm}
@@ -180,3 +181,21 @@ returns-in_default c = record {
       c.in_default.not-Imp c.in_default.not-Forall;
   keeps = c.way.invariant.keeps;
 }
+
+pub returns-in_err-head-in-Atom-clause-opened : goal.returns-in_err-head-in-Atom-clause-opened
+returns-in_err-head-in-Atom-clause-opened c = IfOk-from_err c.from_residual.result _ c.from_residual.ensures.0
+
+pub returns-in_err-side-in-With-clause-opened : goal.returns-in_err-side-in-With-clause-opened
+returns-in_err-side-in-With-clause-opened c = IfOk-from_err c.from_residual-in_err-side-in-With.result _ c.from_residual-in_err-side-in-With.ensures.0
+
+pub returns-in_err-goal-in-Lolli-clause-opened : goal.returns-in_err-goal-in-Lolli-clause-opened
+returns-in_err-goal-in-Lolli-clause-opened c = IfOk-from_err c.from_residual-in_err-goal-in-Lolli.result _ c.from_residual-in_err-goal-in-Lolli.ensures.0
+
+pub returns-in_err-push-in-Lolli-clause-opened : goal.returns-in_err-push-in-Lolli-clause-opened
+returns-in_err-push-in-Lolli-clause-opened c = IfOk-from_err c.from_residual-in_err-push-in-Lolli.result _ c.from_residual-in_err-push-in-Lolli.ensures.0
+
+pub returns-in_err-goal-in-Imp-clause-opened : goal.returns-in_err-goal-in-Imp-clause-opened
+returns-in_err-goal-in-Imp-clause-opened c = IfOk-from_err c.from_residual-in_err-goal-in-Imp.result _ c.from_residual-in_err-goal-in-Imp.ensures.0
+
+pub returns-in_err-push-in-Imp-clause-opened : goal.returns-in_err-push-in-Imp-clause-opened
+returns-in_err-push-in-Imp-clause-opened c = IfOk-from_err c.from_residual-in_err-push-in-Imp.result _ c.from_residual-in_err-push-in-Imp.ensures.0

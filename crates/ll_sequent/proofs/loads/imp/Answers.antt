@@ -1,4 +1,5 @@
 use Rattle.std.proofs.Common.{◌≡◌, true, false, refl, arith, rules}
+use Rattle.std.proofs.lemmas.Result.{IfOk-from_err}
 use Rattle.std.specs.Prelude.{◌||◌, not}
 use Rattle.ll_sequent.specs.declared.sequents.Step.TheVariants.{Refused}
 use Rattle.ll_sequent.specs.Named.{has_resource}
@@ -22,3 +23,9 @@ returns-in_ok-step-in-Imp c =
     imp_steps c.args.bank.now c.args.free.now.items c.args.sequent c.in-Imp.clause c.in-Imp.goal c.args.label c.push.new.self.items
     (record { free = c.len.result; bounded = c.args.sequent.bounded; goal = c.in-Imp.goal }) c.in_ok-step-in-Imp.step c.in-Imp.ensures.shown fresh
     c.in_ok-push-in-Imp.ensures.items (let l = c.len.ensures in search rules) refl refl c.in_ok-step-in-Imp.ensures
+
+pub returns-in_err-push-in-Imp : goal.returns-in_err-push-in-Imp
+returns-in_err-push-in-Imp c = IfOk-from_err c.from_residual.result _ c.from_residual.ensures.0
+
+pub returns-in_err-step-in-Imp : goal.returns-in_err-step-in-Imp
+returns-in_err-step-in-Imp c = IfOk-from_err c.from_residual-in_err-step-in-Imp.result _ c.from_residual-in_err-step-in-Imp.ensures.0

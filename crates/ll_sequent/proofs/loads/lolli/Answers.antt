@@ -1,4 +1,5 @@
 use Rattle.std.proofs.Common.{◌≡◌, true, false, refl, arith}
+use Rattle.std.proofs.lemmas.Result.{IfOk-from_err}
 use Rattle.std.specs.Prelude.{◌||◌, not}
 use Rattle.ll_sequent.specs.declared.sequents.Step.TheVariants.{Refused}
 use Rattle.ll_sequent.specs.Named.{has_resource}
@@ -18,3 +19,9 @@ returns-in_ok-step-in-Lolli c =
     lolli_steps c.args.bank.now c.args.free.now c.args.sequent c.in-Lolli.clause c.in-Lolli.goal c.args.label _ c.in_ok-step-in-Lolli.step
     c.in-Lolli.ensures.shown fresh (record { same = refl; has_bounded = c.in_ok-push-in-Lolli.ensures.items; has_goal = refl })
     c.in_ok-step-in-Lolli.ensures
+
+pub returns-in_err-push-in-Lolli : goal.returns-in_err-push-in-Lolli
+returns-in_err-push-in-Lolli c = IfOk-from_err c.from_residual.result _ c.from_residual.ensures.0
+
+pub returns-in_err-step-in-Lolli : goal.returns-in_err-step-in-Lolli
+returns-in_err-step-in-Lolli c = IfOk-from_err c.from_residual-in_err-step-in-Lolli.result _ c.from_residual-in_err-step-in-Lolli.ensures.0

@@ -1,4 +1,5 @@
 use Rattle.std.proofs.Common.{refl}
+use Rattle.std.proofs.lemmas.Result.{IfOk-from_err}
 use Rattle.ll_bank.specs.Nodes.{term_tree}
 use Rattle.ll_bank.specs.Form.{Is, Less, Most}
 use Rattle.ll_bank.specs.declared.FormNode.TheVariants.{Is as IsView, Less as LessView, Most as MostView}
@@ -23,3 +24,12 @@ returns-in_ok-test-in-Most c =
     tested_makes (operators_of c.args.names.now) c.args.bank.now c.args.sequent (MostView c.in-Most.left c.in-Most.right) Most
     (term_tree c.args.bank.now c.in-Most.left.0) (term_tree c.args.bank.now c.in-Most.right.0) c.in_ok-test-in-Most.test c.tested-in-Most.result
     c.in-Most.ensures.shown refl c.in_ok-test-in-Most.ensures c.tested-in-Most.ensures
+
+pub returns-in_err-test-in-Is : goal.returns-in_err-test-in-Is
+returns-in_err-test-in-Is c = IfOk-from_err c.from_residual.result _ c.from_residual.ensures.0
+
+pub returns-in_err-test-in-Less : goal.returns-in_err-test-in-Less
+returns-in_err-test-in-Less c = IfOk-from_err c.from_residual-in_err-test-in-Less.result _ c.from_residual-in_err-test-in-Less.ensures.0
+
+pub returns-in_err-test-in-Most : goal.returns-in_err-test-in-Most
+returns-in_err-test-in-Most c = IfOk-from_err c.from_residual-in_err-test-in-Most.result _ c.from_residual-in_err-test-in-Most.ensures.0

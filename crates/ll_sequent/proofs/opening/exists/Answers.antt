@@ -1,4 +1,5 @@
 use Rattle.std.proofs.Common.{refl}
+use Rattle.std.proofs.lemmas.Result.{IfOk-from_err}
 use Rattle.ll_bank.specs.Nodes.{term_tree}
 use Rattle.ll_bank.proofs.CallerLemmas.{Extends-refl}
 use Rattle.ll_sequent.specs.declared.sequents.Step.TheVariants.{Refused}
@@ -23,3 +24,9 @@ returns-in_default c = record {
       c.in_default.not-Exists refl;
   keeps = Extends-refl c.args.bank.now;
 }
+
+pub returns-in_err-goal-in-Exists-clause-is : goal.returns-in_err-goal-in-Exists-clause-is
+returns-in_err-goal-in-Exists-clause-is c = IfOk-from_err c.from_residual.result _ c.from_residual.ensures.0
+
+pub returns-in_err-step-in-Exists-clause-is : goal.returns-in_err-step-in-Exists-clause-is
+returns-in_err-step-in-Exists-clause-is c = IfOk-from_err c.from_residual-in_err-step-in-Exists.result _ c.from_residual-in_err-step-in-Exists.ensures.0

@@ -1,4 +1,5 @@
 use Rattle.std.proofs.Common.{ℕ, ◌<◌, refl, ap, sym, subst, ◌∙◌, length, List, arith}
+use Rattle.std.proofs.lemmas.Result.{IfOk-from_err}
 use Rattle.ll_bank.specs.declared.Head.TheVariants.{Eigen}
 use Rattle.ll_bank.specs.Term.{Con}
 use Rattle.ll_bank.specs.Form.{instantiate, form_applies_heads}
@@ -90,3 +91,15 @@ returns-in_err-step-in-Forall-clause-keeps c = Extends-trans c.in_ok-value-in-Fo
 
 pub returns-in_ok-step-in-Forall-clause-keeps : goal.returns-in_ok-step-in-Forall-clause-keeps
 returns-in_ok-step-in-Forall-clause-keeps c = Extends-trans c.in_ok-value-in-Forall.ensures.keeps c.in_ok-goal-in-Forall.ensures.keeps
+
+pub returns-in_err-stands-in-Forall-clause-is : goal.returns-in_err-stands-in-Forall-clause-is
+returns-in_err-stands-in-Forall-clause-is c = IfOk-from_err c.from_residual.result _ c.from_residual.ensures.0
+
+pub returns-in_err-value-in-Forall-clause-is : goal.returns-in_err-value-in-Forall-clause-is
+returns-in_err-value-in-Forall-clause-is c = IfOk-from_err c.from_residual-in_err-value-in-Forall.result _ c.from_residual-in_err-value-in-Forall.ensures.0
+
+pub returns-in_err-goal-in-Forall-clause-is : goal.returns-in_err-goal-in-Forall-clause-is
+returns-in_err-goal-in-Forall-clause-is c = IfOk-from_err c.from_residual-in_err-goal-in-Forall.result _ c.from_residual-in_err-goal-in-Forall.ensures.0
+
+pub returns-in_err-step-in-Forall-clause-is : goal.returns-in_err-step-in-Forall-clause-is
+returns-in_err-step-in-Forall-clause-is c = IfOk-from_err c.from_residual-in_err-step-in-Forall.result _ c.from_residual-in_err-step-in-Forall.ensures.0

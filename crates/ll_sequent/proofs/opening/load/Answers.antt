@@ -1,7 +1,8 @@
-use Rattle.std.proofs.Common.{◌<◌, length, map, refl, ap, sym, ◌∙◌}
+use Rattle.std.proofs.Common.{ℕ, ◌<◌, length, map, refl, ap, sym, subst, ◌∙◌, arith}
 use Rattle.std.proofs.lemmas.Bool.{ltb-true}
+use Rattle.std.proofs.lemmas.Result.{IfOk-from_err}
 use Rattle.ll_bank.specs.Form.{Use}
-use Rattle.ll_bank.specs.Nodes.{form_tree, term_trees}
+use Rattle.ll_bank.specs.Nodes.{form_tree, term_trees, AllInTerms}
 use Rattle.ll_bank.proofs.CallerLemmas.{Extends-refl}
 use Rattle.ll_laws.specs.Shown.{module_tree}
 use Rattle.ll_sequent.proofs.UnfoldLemmas.{load_count, load_heads, load_steps, use_refused}
@@ -45,3 +46,37 @@ returns-in_default c = record {
       (map (module_tree c.args.bank.now) c.args.modules.now);
   keeps = Extends-refl c.args.bank.now;
 }
+
+below : (a b n : ℕ) → a < b → b < n → a < n
+below a b n h k = omega arith
+
+pub form_at-requires : goal.form_at-requires
+form_at-requires c = c.requires.sequent.goal.inside
+
+pub unfold-requires-clause-places : goal.unfold-requires-clause-places
+unfold-requires-clause-places c =
+    subst (AllInTerms c.args.bank.now) (sym (c.deref.ensures.value ∙ c.in_ok-args-in-Use.ensures.items)) c.in-Use.ensures.shown.parts.0
+
+pub unfold-requires-clause-goal : goal.unfold-requires-clause-goal
+unfold-requires-clause-goal c = below c.in-Use.body.0 c.args.sequent.goal.0 _ c.in-Use.ensures.shown.parts.1 c.requires.sequent.goal.inside
+
+pub returns-in_default-get-clause-keeps : goal.returns-in_default-get-clause-keeps
+returns-in_default-get-clause-keeps c = Extends-refl c.args.bank.now
+
+pub returns-in_err-args-in-Use-clause-is : goal.returns-in_err-args-in-Use-clause-is
+returns-in_err-args-in-Use-clause-is c = IfOk-from_err c.from_residual.result _ c.from_residual.ensures.0
+
+pub returns-in_err-goal-in-Use-clause-is : goal.returns-in_err-goal-in-Use-clause-is
+returns-in_err-goal-in-Use-clause-is c = IfOk-from_err c.from_residual-in_err-goal-in-Use.result _ c.from_residual-in_err-goal-in-Use.ensures.0
+
+pub returns-in_err-goal-in-Use-clause-keeps : goal.returns-in_err-goal-in-Use-clause-keeps
+returns-in_err-goal-in-Use-clause-keeps c = c.unfold.ensures.keeps
+
+pub returns-in_err-step-in-Use-clause-is : goal.returns-in_err-step-in-Use-clause-is
+returns-in_err-step-in-Use-clause-is c = IfOk-from_err c.from_residual-in_err-step-in-Use.result _ c.from_residual-in_err-step-in-Use.ensures.0
+
+pub returns-in_err-step-in-Use-clause-keeps : goal.returns-in_err-step-in-Use-clause-keeps
+returns-in_err-step-in-Use-clause-keeps c = c.in_ok-goal-in-Use.ensures.keeps
+
+pub returns-in_ok-step-in-Use-clause-keeps : goal.returns-in_ok-step-in-Use-clause-keeps
+returns-in_ok-step-in-Use-clause-keeps c = c.in_ok-goal-in-Use.ensures.keeps

@@ -1,4 +1,5 @@
 use Rattle.std.proofs.Common.{◌≡◌, true, false, refl, ap, ◌∙◌, arith}
+use Rattle.std.proofs.lemmas.Result.{IfOk-from_err}
 use Rattle.std.specs.Prelude.{filter}
 use Rattle.ll_laws.specs.Shows.{has}
 use Rattle.ll_sequent.specs.declared.sequents.Resource.{Resource}
@@ -28,3 +29,12 @@ returns-in-Tensor c =
       has_goal =
           refl;
     }) c.in_ok-step-in-Tensor.ensures
+
+pub returns-in_err-part_of-in-Tensor : goal.returns-in_err-part_of-in-Tensor
+returns-in_err-part_of-in-Tensor c = IfOk-from_err c.from_residual.result _ c.from_residual.ensures.0
+
+pub returns-in_err-part_of-in-Tensor-2 : goal.returns-in_err-part_of-in-Tensor-2
+returns-in_err-part_of-in-Tensor-2 c = IfOk-from_err c.from_residual-in_err-part_of-in-Tensor-2.result _ c.from_residual-in_err-part_of-in-Tensor-2.ensures.0
+
+pub returns-in_err-step-in-Tensor : goal.returns-in_err-step-in-Tensor
+returns-in_err-step-in-Tensor c = IfOk-from_err c.from_residual-in_err-step-in-Tensor.result _ c.from_residual-in_err-step-in-Tensor.ensures.0

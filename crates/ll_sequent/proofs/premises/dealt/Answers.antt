@@ -1,4 +1,5 @@
 use Rattle.std.proofs.Common.{◌∷◌, ◌+◌, ◌∙◌, ◌<◌, refl, ap, sym, subst, List, map, drop, length, get_or, vec_len, arith}
+use Rattle.std.proofs.lemmas.Result.{IfOk-from_err}
 use Rattle.std.proofs.lemmas.List.{length-map}
 use Rattle.std.proofs.lemmas.Bool.{eqb-true, eqb-false}
 use Rattle.std.specs.Prelude.{filter, not}
@@ -68,3 +69,12 @@ loop-i-preserved c =
           c.in_ok-push.ensures.items refl refl (part_line c.index-parts-i.result) now (ap part_line w.in-Unbounded.is)
           (ap (λ v. v.items) w.bounded-is ∙ w.new-bounded.ensures.items))
     ]
+
+pub returns-in_err-part-in-Bounded : goal.returns-in_err-part-in-Bounded
+returns-in_err-part-in-Bounded c = IfOk-from_err c.from_residual.result _ c.from_residual.ensures.0
+
+pub returns-in_err-left-in-Bounded : goal.returns-in_err-left-in-Bounded
+returns-in_err-left-in-Bounded c = IfOk-from_err c.from_residual-in_err-left-in-Bounded.result _ c.from_residual-in_err-left-in-Bounded.ensures.0
+
+pub returns-in_err-push : goal.returns-in_err-push
+returns-in_err-push c = IfOk-from_err c.from_residual-in_err-push.result _ c.from_residual-in_err-push.ensures.0

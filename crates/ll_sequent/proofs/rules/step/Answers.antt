@@ -1,4 +1,5 @@
 use Rattle.std.proofs.Common.{map, subst, List, sym, ap, ◌∙◌}
+use Rattle.std.proofs.lemmas.Result.{IfOk-from_err}
 use Rattle.std.specs.Prelude.{IfOk}
 use Rattle.ll_lists.proofs.CallerLemmas.{IfOk-each}
 use Rattle.ll_bank.specs.declared.At.{At}
@@ -210,3 +211,6 @@ pub clause-requires-clause-holds : goal.clause-requires-clause-holds
 clause-requires-clause-holds c =
     let P : List Resource → Type 0 = λ rs. Holds (map (module_tree c.args.bank.now) c.args.modules.now) c.args.bank.now rs c.args.sequent in
     subst P (sym c.deref-in-Clause-4.ensures.value) c.requires.holds
+
+pub returns-in_err-values-in-Clause-clause-is : goal.returns-in_err-values-in-Clause-clause-is
+returns-in_err-values-in-Clause-clause-is c = IfOk-from_err c.from_residual.result _ c.from_residual.ensures.0

@@ -1,4 +1,5 @@
 use Rattle.std.proofs.Common.{arith}
+use Rattle.std.proofs.lemmas.Result.{IfOk-from_err}
 use Rattle.ll_sequent.specs.declared.same.Pair.{Pair}
 use Rattle.ll_sequent.proofs.SameLemmas.{pairs_more, pairs_fewer, same_fewer, same_more}
 use Rattle.ll_sequent.proofs.same.is_same_by_pairs.Goals as goal
@@ -31,3 +32,9 @@ loop-preserved c = record {
       let s = c.in_ok-open.ensures.same c.if-not-branch.false h in
       c.loop.invariant.same (same_more c.args.bank.now c.pop.new.self.items c.loop.pairs.items c.in-Some.pair c.in-Some.ensures.items s.0 s.1);
 }
+
+pub returns-in_err-push : goal.returns-in_err-push
+returns-in_err-push c = IfOk-from_err c.from_residual.result _ c.from_residual.ensures.0
+
+pub returns-in_err-open : goal.returns-in_err-open
+returns-in_err-open c = IfOk-from_err c.from_residual-in_err-open.result _ c.from_residual-in_err-open.ensures.0

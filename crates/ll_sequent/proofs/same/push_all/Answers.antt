@@ -1,4 +1,5 @@
 use Rattle.std.proofs.Common.{get_or, arith}
+use Rattle.std.proofs.lemmas.Result.{IfOk-from_err}
 use Rattle.ll_sequent.specs.declared.same.Pair.{Pair}
 use Rattle.ll_sequent.proofs.SameLemmas.{pairs_more, same_fewer, one_more_same, same_trees}
 use Rattle.ll_sequent.proofs.same.push_all.Goals as goal
@@ -23,3 +24,9 @@ pub returns-clause-same : goal.returns-clause-same
 returns-clause-same c = λ bank h.
     let q = c.loop-i.invariant.same bank h in
     (q.0, same_trees bank c.args.args.now c.args.others.now c.requires (λ j d l. q.1 j d (omega arith)))
+
+pub returns-in_err-push-clause-inside : goal.returns-in_err-push-clause-inside
+returns-in_err-push-clause-inside c = IfOk-from_err c.from_residual.result _ c.from_residual.ensures.0
+
+pub returns-in_err-push-clause-same : goal.returns-in_err-push-clause-same
+returns-in_err-push-clause-same c = IfOk-from_err c.from_residual.result _ c.from_residual.ensures.0

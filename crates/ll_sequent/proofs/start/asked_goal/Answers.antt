@@ -1,4 +1,5 @@
 use Rattle.std.proofs.Common.{List, ◌∙◌, subst, sym}
+use Rattle.std.proofs.lemmas.Result.{IfOk-from_err}
 use Rattle.std.specs.Prelude.{IfOk}
 use Rattle.ll_bank.specs.declared.At.{At}
 use Rattle.ll_bank.specs.Form.{sub_form}
@@ -22,3 +23,6 @@ returns-clause-shows c =
 
 pub returns-in_err-values-clause-keeps : goal.returns-in_err-values-clause-keeps
 returns-in_err-values-clause-keeps c = Extends-refl c.args.bank.now
+
+pub returns-in_err-values-clause-shows : goal.returns-in_err-values-clause-shows
+returns-in_err-values-clause-shows c = IfOk-from_err c.from_residual.result _ c.from_residual.ensures.0

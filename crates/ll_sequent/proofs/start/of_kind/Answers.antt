@@ -1,4 +1,5 @@
 use Rattle.std.proofs.Common.{◌∙◌, ap, sym, arith}
+use Rattle.std.proofs.lemmas.Result.{IfOk-from_err}
 use Rattle.ll_sequent.proofs.StartLemmas.{kind_in, kind_out}
 use Rattle.ll_laws.specs.declared.Kind.TheVariants.{Linear}
 use Rattle.ll_sequent.proofs.start.of_kind.Goals.{then-is_same+in_ok-push, else-is_same}
@@ -16,3 +17,6 @@ loop-label-preserved c =
           _ c.loop-label.invariant c.if-is_same.found.items
           (sym c.is_same.ensures ∙ w.if-is_same.false) (ap (λ v. v.items) w.found-is)
     ]
+
+pub returns-in_err-push : goal.returns-in_err-push
+returns-in_err-push c = IfOk-from_err c.from_residual.result _ c.from_residual.ensures.0

@@ -1,4 +1,5 @@
 use Rattle.std.proofs.Common.{List, ap, ◌∙◌, length, subst, sym, rules}
+use Rattle.std.proofs.lemmas.Result.{IfOk-from_err}
 use Rattle.ll_bank.specs.declared.At.{At}
 use Rattle.ll_bank.specs.Form.{sub_form}
 use Rattle.ll_bank.specs.Nodes.{form_tree, term_trees, AllInTerms, ShowsForm, Extends}
@@ -63,3 +64,63 @@ returns-clause-lines c =
     copied_lines c.args.terms.now c.asked_goal.new.bank c.in_ok-copies.copies.items
     (copies_stay c.in_ok-goal.ensures.keeps c.args.terms.now c.in_ok-copies.copies.items c.in_ok-copies.ensures.copies) c.args.rules.now
     c.in_ok-copies.ensures.lines
+
+pub returns-in_err-own-clause-root : goal.returns-in_err-own-clause-root
+returns-in_err-own-clause-root c = IfOk-from_err c.from_residual.result _ c.from_residual.ensures.0
+
+pub returns-in_err-own-clause-keeps : goal.returns-in_err-own-clause-keeps
+returns-in_err-own-clause-keeps c = IfOk-from_err c.from_residual.result _ c.from_residual.ensures.0
+
+pub returns-in_err-own-clause-inside : goal.returns-in_err-own-clause-inside
+returns-in_err-own-clause-inside c = IfOk-from_err c.from_residual.result _ c.from_residual.ensures.0
+
+pub returns-in_err-own-clause-reach : goal.returns-in_err-own-clause-reach
+returns-in_err-own-clause-reach c = IfOk-from_err c.from_residual.result _ c.from_residual.ensures.0
+
+pub returns-in_err-own-clause-lines : goal.returns-in_err-own-clause-lines
+returns-in_err-own-clause-lines c = IfOk-from_err c.from_residual.result _ c.from_residual.ensures.0
+
+pub returns-in_err-copies-clause-root : goal.returns-in_err-copies-clause-root
+returns-in_err-copies-clause-root c = IfOk-from_err c.from_residual-in_err-copies.result _ c.from_residual-in_err-copies.ensures.0
+
+pub returns-in_err-copies-clause-keeps : goal.returns-in_err-copies-clause-keeps
+returns-in_err-copies-clause-keeps c = IfOk-from_err c.from_residual-in_err-copies.result _ c.from_residual-in_err-copies.ensures.0
+
+pub returns-in_err-copies-clause-inside : goal.returns-in_err-copies-clause-inside
+returns-in_err-copies-clause-inside c = IfOk-from_err c.from_residual-in_err-copies.result _ c.from_residual-in_err-copies.ensures.0
+
+pub returns-in_err-copies-clause-reach : goal.returns-in_err-copies-clause-reach
+returns-in_err-copies-clause-reach c = IfOk-from_err c.from_residual-in_err-copies.result _ c.from_residual-in_err-copies.ensures.0
+
+pub returns-in_err-copies-clause-lines : goal.returns-in_err-copies-clause-lines
+returns-in_err-copies-clause-lines c = IfOk-from_err c.from_residual-in_err-copies.result _ c.from_residual-in_err-copies.ensures.0
+
+pub returns-in_err-goal-clause-root : goal.returns-in_err-goal-clause-root
+returns-in_err-goal-clause-root c = IfOk-from_err c.from_residual-in_err-goal.result _ c.from_residual-in_err-goal.ensures.0
+
+pub returns-in_err-goal-clause-keeps : goal.returns-in_err-goal-clause-keeps
+returns-in_err-goal-clause-keeps c = IfOk-from_err c.from_residual-in_err-goal.result _ c.from_residual-in_err-goal.ensures.0
+
+pub returns-in_err-goal-clause-inside : goal.returns-in_err-goal-clause-inside
+returns-in_err-goal-clause-inside c = IfOk-from_err c.from_residual-in_err-goal.result _ c.from_residual-in_err-goal.ensures.0
+
+pub returns-in_err-goal-clause-reach : goal.returns-in_err-goal-clause-reach
+returns-in_err-goal-clause-reach c = IfOk-from_err c.from_residual-in_err-goal.result _ c.from_residual-in_err-goal.ensures.0
+
+pub returns-in_err-goal-clause-lines : goal.returns-in_err-goal-clause-lines
+returns-in_err-goal-clause-lines c = IfOk-from_err c.from_residual-in_err-goal.result _ c.from_residual-in_err-goal.ensures.0
+
+pub returns-in_err-free-clause-root : goal.returns-in_err-free-clause-root
+returns-in_err-free-clause-root c = IfOk-from_err c.from_residual-in_err-free.result _ c.from_residual-in_err-free.ensures.0
+
+pub returns-in_err-free-clause-keeps : goal.returns-in_err-free-clause-keeps
+returns-in_err-free-clause-keeps c = IfOk-from_err c.from_residual-in_err-free.result _ c.from_residual-in_err-free.ensures.0
+
+pub returns-in_err-free-clause-inside : goal.returns-in_err-free-clause-inside
+returns-in_err-free-clause-inside c = IfOk-from_err c.from_residual-in_err-free.result _ c.from_residual-in_err-free.ensures.0
+
+pub returns-in_err-free-clause-reach : goal.returns-in_err-free-clause-reach
+returns-in_err-free-clause-reach c = IfOk-from_err c.from_residual-in_err-free.result _ c.from_residual-in_err-free.ensures.0
+
+pub returns-in_err-free-clause-lines : goal.returns-in_err-free-clause-lines
+returns-in_err-free-clause-lines c = IfOk-from_err c.from_residual-in_err-free.result _ c.from_residual-in_err-free.ensures.0

@@ -1,4 +1,5 @@
 use Rattle.std.proofs.Common.{ℕ, ◌<◌, ◌≤◌, ap, sym, refl, ◌∙◌, length, arith}
+use Rattle.std.proofs.lemmas.Result.{IfOk-from_err}
 use Rattle.ll_bank.specs.Form.{Atom, With, Tensor, Plus, Bang, Lolli, Imp, Forall, Exists, Num, Is, Less, Most, sub_form}
 use Rattle.ll_bank.specs.Nodes.{term_trees}
 use Rattle.ll_bank.proofs.CallerLemmas.{Extends-refl, Extends-trans}
@@ -366,3 +367,33 @@ load_image-requires-clause-terms c = c.requires.terms
 pub load_image-requires-clause-body : goal.load_image-requires-clause-body
 load_image-requires-clause-body c = (part c.args.bank.now (term_trees c.args.bank.now c.args.values.now) c.args.forms.now c.requires.forms c.args.form
     c.requires.below c.in-Use.f c.in-Use.ensures.shown.parts.1).inside
+
+pub returns-in_err-image-in-Atom-clause-shows : goal.returns-in_err-image-in-Atom-clause-shows
+returns-in_err-image-in-Atom-clause-shows c = IfOk-from_err c.from_residual.result _ c.from_residual.ensures.0
+
+pub returns-in_err-image-in-Atom-clause-terms : goal.returns-in_err-image-in-Atom-clause-terms
+returns-in_err-image-in-Atom-clause-terms c = IfOk-from_err c.from_residual.result _ c.from_residual.ensures.0
+
+pub returns-in_err-args-in-Use-clause-shows : goal.returns-in_err-args-in-Use-clause-shows
+returns-in_err-args-in-Use-clause-shows c = IfOk-from_err c.from_residual-in_err-args-in-Use.result _ c.from_residual-in_err-args-in-Use.ensures.0
+
+pub returns-in_err-args-in-Use-clause-terms : goal.returns-in_err-args-in-Use-clause-terms
+returns-in_err-args-in-Use-clause-terms c = IfOk-from_err c.from_residual-in_err-args-in-Use.result _ c.from_residual-in_err-args-in-Use.ensures.0
+
+pub returns-in_err-left-in-Is-clause-shows : goal.returns-in_err-left-in-Is-clause-shows
+returns-in_err-left-in-Is-clause-shows c = IfOk-from_err c.from_residual-in_err-left-in-Is.result _ c.from_residual-in_err-left-in-Is.ensures.0
+
+pub returns-in_err-left-in-Is-clause-terms : goal.returns-in_err-left-in-Is-clause-terms
+returns-in_err-left-in-Is-clause-terms c = IfOk-from_err c.from_residual-in_err-left-in-Is.result _ c.from_residual-in_err-left-in-Is.ensures.0
+
+pub returns-in_err-left-in-Less-clause-shows : goal.returns-in_err-left-in-Less-clause-shows
+returns-in_err-left-in-Less-clause-shows c = IfOk-from_err c.from_residual-in_err-left-in-Less.result _ c.from_residual-in_err-left-in-Less.ensures.0
+
+pub returns-in_err-left-in-Less-clause-terms : goal.returns-in_err-left-in-Less-clause-terms
+returns-in_err-left-in-Less-clause-terms c = IfOk-from_err c.from_residual-in_err-left-in-Less.result _ c.from_residual-in_err-left-in-Less.ensures.0
+
+pub returns-in_err-left-in-Most-clause-shows : goal.returns-in_err-left-in-Most-clause-shows
+returns-in_err-left-in-Most-clause-shows c = IfOk-from_err c.from_residual-in_err-left-in-Most.result _ c.from_residual-in_err-left-in-Most.ensures.0
+
+pub returns-in_err-left-in-Most-clause-terms : goal.returns-in_err-left-in-Most-clause-terms
+returns-in_err-left-in-Most-clause-terms c = IfOk-from_err c.from_residual-in_err-left-in-Most.result _ c.from_residual-in_err-left-in-Most.ensures.0

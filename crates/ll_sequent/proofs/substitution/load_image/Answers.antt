@@ -1,4 +1,5 @@
 use Rattle.std.proofs.Common.{List, ap, ◌∙◌, subst, sym}
+use Rattle.std.proofs.lemmas.Result.{IfOk-from_err}
 use Rattle.ll_bank.specs.declared.At.{At}
 use Rattle.ll_bank.specs.Form.{Use}
 use Rattle.ll_bank.specs.Nodes.{term_trees, AllInTerms}
@@ -26,3 +27,9 @@ returns-clause-terms c = on_ok c.form.result
 
 pub returns-clause-keeps : goal.returns-clause-keeps
 returns-clause-keeps c = Extends-trans c.term_images.ensures.keeps c.form.ensures.keeps
+
+pub returns-in_err-images-clause-shows : goal.returns-in_err-images-clause-shows
+returns-in_err-images-clause-shows c = IfOk-from_err c.from_residual.result _ c.from_residual.ensures.0
+
+pub returns-in_err-images-clause-terms : goal.returns-in_err-images-clause-terms
+returns-in_err-images-clause-terms c = IfOk-from_err c.from_residual.result _ c.from_residual.ensures.0

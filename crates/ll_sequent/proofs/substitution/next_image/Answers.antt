@@ -1,4 +1,5 @@
 use Rattle.std.proofs.Common.{◌<◌, ◌∙◌, subst, length}
+use Rattle.std.proofs.lemmas.Result.{IfOk-from_err}
 use Rattle.std.specs.Prelude.{IfOk}
 use Rattle.ll_bank.specs.declared.At.{At}
 use Rattle.ll_bank.specs.Term.{Term}
@@ -29,3 +30,6 @@ returns-in_ok-images-in-App-clause-shows c =
     subst P (app_shows c.args.bank.now (term_trees c.args.bank.now c.args.values.now) c.args.terms.now c.requires.terms c.in-App.head c.in-App.args.now
     c.deref.result.now _ (c.deref.ensures.value ∙ c.in_ok-images-in-App.ensures) low c.in-App.ensures.shown.0)
     c.app.ensures.shows
+
+pub returns-in_err-images-in-App-clause-shows : goal.returns-in_err-images-in-App-clause-shows
+returns-in_err-images-in-App-clause-shows c = IfOk-from_err c.from_residual.result _ c.from_residual.ensures.0

@@ -1,7 +1,8 @@
 use Rattle.std.proofs.Common.{List, sym, subst, arith, rules}
+use Rattle.std.proofs.lemmas.Result.{IfOk-from_err}
 use Rattle.ll_bank.specs.declared.At.{At}
 use Rattle.ll_bank.specs.Nodes.{term_trees}
-use Rattle.ll_bank.proofs.CallerLemmas.{Extends-refl, Extends-trans, HasTerm-extends}
+use Rattle.ll_bank.proofs.CallerLemmas.{Extends-refl, Extends-trans, HasTerm-extends, AllInTerms-extends}
 use Rattle.ll_sequent.specs.Substituted.{AreTermImages}
 use Rattle.ll_sequent.proofs.Substitutions.{terms_now, next_more, term_image_at}
 use Rattle.ll_sequent.proofs.substitution.term_image.Goals as goal
@@ -36,3 +37,27 @@ pub returns-clause-shows : goal.returns-clause-shows
 returns-clause-shows c =
     term_image_at c.args.bank.now c.growth.bank c.growth.invariant.keeps (term_trees c.args.bank.now c.args.values.now) c.growth.terms.items c.args.term.0
     c.index.result.now c.growth.invariant.terms c.requires.term (omega arith) c.index.ensures
+
+pub next_image-requires-clause-values : goal.next_image-requires-clause-values
+next_image-requires-clause-values c = AllInTerms-extends c.growth.invariant.keeps c.args.values.now c.requires.values
+
+pub returns-in_err-push-clause-keeps : goal.returns-in_err-push-clause-keeps
+returns-in_err-push-clause-keeps c = Extends-trans c.growth.invariant.keeps c.next_image.ensures.keeps
+
+pub returns-clause-terms : goal.returns-clause-terms
+returns-clause-terms c = c.growth.invariant.terms
+
+pub returns-clause-keeps : goal.returns-clause-keeps
+returns-clause-keeps c = c.growth.invariant.keeps
+
+pub returns-in_err-image-clause-shows : goal.returns-in_err-image-clause-shows
+returns-in_err-image-clause-shows c = IfOk-from_err c.from_residual.result _ c.from_residual.ensures.0
+
+pub returns-in_err-image-clause-terms : goal.returns-in_err-image-clause-terms
+returns-in_err-image-clause-terms c = IfOk-from_err c.from_residual.result _ c.from_residual.ensures.0
+
+pub returns-in_err-push-clause-shows : goal.returns-in_err-push-clause-shows
+returns-in_err-push-clause-shows c = IfOk-from_err c.from_residual-in_err-push.result _ c.from_residual-in_err-push.ensures.0
+
+pub returns-in_err-push-clause-terms : goal.returns-in_err-push-clause-terms
+returns-in_err-push-clause-terms c = IfOk-from_err c.from_residual-in_err-push.result _ c.from_residual-in_err-push.ensures.0

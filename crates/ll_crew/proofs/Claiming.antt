@@ -17,11 +17,12 @@ use Rattle.ll_crew.specs.Leading.{Stands}
 use Rattle.ll_crew.specs.Leading as leading
 use Rattle.ll_crew.specs.Turns.{Stays, Leaves, Ended, Fails}
 use Rattle.ll_engine.specs.Seen.{Owing}
-use Rattle.ll_crew.specs.Runs.{RunsTo, EndsTo}
+use Rattle.ll_crew.specs.Runs.{RunsTo, EndsTo, WentTo}
 use Rattle.ll_crew.specs.declared.lead.Told.{Told}
 use Rattle.ll_crew.specs.declared.piece.Ending.{Ending}
 use Rattle.ll_crew.specs.declared.piece.Ending.TheVariants as ending
 use Rattle.ll_crew.specs.declared.piece.Ran.{Ran}
+use Rattle.ll_crew.specs.declared.worker.Went.{Went}
 use Rattle.ll_crew.specs.declared.piece.Ran.TheVariants.{Back}
 use Rattle.ll_crew.proofs.Calms.{same_on, turn_same, turn_seen, seen_sound, calm_claim}
 use Rattle.ll_crew.proofs.Goings.{stands_calm, prefix_stands}
@@ -126,3 +127,7 @@ pub none_on : {E : Type 0} (result : Result (Option ℕ) E) (P Q : Type 0) → I
 none_on (Ok None) P Q h f = f h
 none_on (Ok (Some n)) P Q h f = tt
 none_on (Err e) P Q h f = tt
+
+pub went_as : (standing end : Type 0) (leads : Bool) (problem : ProblemTree) (went went' : Went) (s a : Sat) → went ≡ went'
+    → WentTo standing end leads problem went s a → WentTo standing end leads problem went' s a
+went_as standing end leads problem went went' s a is r = subst (λ x. WentTo standing end leads problem x s a) is r

@@ -1,7 +1,8 @@
 -- Alternatives that a worker runs itself, one after the other.
 use Rattle.std.proofs.Common.{◌≡◌, ℕ, zero, suc, ◌+◌, ◌<◌, List, [], ◌∷◌, ◌++◌, take, length, refl, sym, ap, ◌∙◌, subst, arith, append_assoc, append-nil}
-use Rattle.std.proofs.Common.{Option, Some, None, IsSomeAnd, Result, Ok, Err, IfOk}
-use Rattle.std.specs.Prelude.{slice_get}
+use Rattle.std.proofs.Common.{Bool, true, false, Option, Some, None, IsSomeAnd, Result, Ok, Err, IfOk, OnOk, OnErr}
+use Rattle.std.specs.Prelude.{IsErr, slice_get}
+use Rattle.std.proofs.lemmas.Result.{IfOk-from_err}
 use Rattle.std.proofs.lemmas.List.{take_more}
 use Rattle.std.proofs.lemmas.List.Concat.{flat_map-append}
 use Rattle.std.proofs.lemmas.List.Sums.{sum_by-append}
@@ -130,3 +131,26 @@ lacks_none (Some x) piece' found after rest n m e h whole counted =
     let events = whole ∙ sym h.events in let cost = counted ∙ sym h.cost in
     subst (λ p. IsSomeAnd p (λ (x : OpenPiece). record { events = after; cost = m } ≡ report_of x.owes)) (sym e)
     (λ i. record { events = events i; cost = cost i })
+
+-- ---- of two values one is chosen
+
+pub chosen_holds : {X E : Type 0} (P : X → Type 0) (done : Result Bool E) (r : Result X E) (x z : X) → (done ≡ Ok true → r ≡ Ok x)
+    → (done ≡ Ok false → r ≡ Ok z) → (IsErr done → IsErr r) → (done ≡ Ok true → P x) → (done ≡ Ok false → P z) → IfOk r P
+chosen_holds {X} {E} P (Ok true) r x z a b f y n = subst (λ (u : Result X E). IfOk u P) (sym (a refl)) (y refl)
+chosen_holds {X} {E} P (Ok false) r x z a b f y n = subst (λ (u : Result X E). IfOk u P) (sym (b refl)) (n refl)
+chosen_holds P (Err e) r x z a b f y n = IfOk-from_err r P (f refl)
+
+pub chosen_on : {X E : Type 0} (Q : Type 0) (done : Result Bool E) (r : Result X E) → (IsErr done → IsErr r) → OnOk done Q → OnOk r Q
+chosen_on Q (Ok d) (Ok x) f q = q
+chosen_on Q (Ok d) (Err x) f q = tt
+chosen_on Q (Err e) r f q = IfOk-from_err r (λ x. Q) (f refl)
+
+pub chosen_fails : {X E : Type 0} (Q : Type 0) (done : Result Bool E) (r : Result X E) (x z : X) → (done ≡ Ok true → r ≡ Ok x)
+    → (done ≡ Ok false → r ≡ Ok z) → OnErr done Q → OnErr r Q
+chosen_fails {X} {E} Q (Ok true) r x z a b q = subst (λ (u : Result X E). OnErr u Q) (sym (a refl)) tt
+chosen_fails {X} {E} Q (Ok false) r x z a b q = subst (λ (u : Result X E). OnErr u Q) (sym (b refl)) tt
+chosen_fails Q (Err e) (Ok u) x z a b q = tt
+chosen_fails Q (Err e) (Err u) x z a b q = q
+
+pub done_of : {E : Type 0} (P : Bool → Type 0) (done : Result Bool E) (x : Bool) → done ≡ Ok x → IfOk done P → P x
+done_of {E} P done x e h = subst (λ (r : Result Bool E). IfOk r P) e h

@@ -63,7 +63,9 @@ pub(crate) fn search_alone<'p, O: Outlet>(
     let Ok(mut engine) = Engine::start_with(alloc, problem, index) else {
         return Err(CrewFault::OutOfMemory);
     };
-    give_each(alloc, problem, &mut engine, out)
+    let given = give_each(alloc, problem, &mut engine, out);
+    drop(engine);
+    given
 }
 
 // Gives the outlet all events of a new engine, those of one stretch of its steps at a time.

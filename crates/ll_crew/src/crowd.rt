@@ -25,9 +25,9 @@ use std::sync::Wait;
 use std::sync::atomic::AtomicU64;
 use std::thread::{Threads, join};
 
-// A worker that tells nothing: its seat, and all that it works with.
+// What workers that tell nothing work with.
 #[derive(Drop)]
-struct Hand<'a, 'p, R, G, E: Notice> {
+struct Tools<'a, 'p, R, G, E: Notice> {
     rt: &'a R,
     alloc: Global,
     problem: &'p Problem,
@@ -36,84 +36,54 @@ struct Hand<'a, 'p, R, G, E: Notice> {
     gate: &'a G,
     sharing: Sharing,
     came_back: &'a AtomicU64,
-    seat: Seat<Offer<'p, E>>,
 }
 
 // Some workers that tell nothing.
 #[derive(Drop)]
-struct Crowd<'a, 'p, R, G, E: Notice> {
-    rt: &'a R,
-    alloc: Global,
-    problem: &'p Problem,
-    pool: &'a SharedPool<Offer<'p, E>>,
-    bell: &'a Bell,
-    gate: &'a G,
-    sharing: Sharing,
-    came_back: &'a AtomicU64,
+struct Crowd<'t, 'a, 'p, R, G, E: Notice> {
+    tools: &'t Tools<'a, 'p, R, G, E>,
     seats: Vec<Seat<Offer<'p, E>>>,
 }
 
-impl<'a, 'p, R, G, E: Notice> Crowd<'a, 'p, R, G, E> {
-    // One of them, with this seat.
-    fn hand(&self, seat: Seat<Offer<'p, E>>) -> Hand<'a, 'p, R, G, E>
-        ensures pool { result.pool.now ≡ self.now.pool.now }
-        ensures problem { result.problem.now ≡ self.now.problem.now }
-        ensures seat { result.seat ≡ seat.entry }
-    {
-        Hand {
-            rt: self.rt,
-            alloc: self.alloc,
-            problem: self.problem,
-            pool: self.pool,
-            bell: self.bell,
-            gate: self.gate,
-            sharing: self.sharing,
-            came_back: self.came_back,
-            seat,
-        }
-    }
+// One of them.
+#[derive(Drop)]
+struct Hand<'t, 'a, 'p, R, G, E: Notice> {
+    tools: &'t Tools<'a, 'p, R, G, E>,
+    seat: Seat<Offer<'p, E>>,
 }
 
 // The work of a worker that tells nothing.
-fn help<'a, 'p, R: Wait, G: Gate, E: Notice>(hand: Hand<'a, 'p, R, G, E>) -> Seat<Offer<'p, E>>
-    requires can { CanWork hand.pool.now hand.problem.now hand.seat }
-    requires suits { E.suits hand.problem.now }
+fn help<'t, 'a, 'p, R: Wait, G: Gate, E: Notice>(
+    hand: Hand<'t, 'a, 'p, R, G, E>,
+) -> Seat<Offer<'p, E>>
+    requires can { CanWork hand.tools.now.pool.now hand.tools.now.problem.now hand.seat }
+    requires suits { E.suits hand.tools.now.problem.now }
     ensures { Worked hand.entry.seat result }
 {
-    let Hand {
-        rt,
-        alloc,
-        problem,
-        pool,
-        bell,
-        gate,
-        sharing,
-        came_back,
-        mut seat,
-    } = hand;
+    let Hand { tools, mut seat } = hand;
     let mut mute: Mute<E> = Mute { found: PhantomData };
     let start = Snapshot::of(&mute);
     let mut told = Told::new(false);
     let job = Job {
-        rt,
-        alloc,
-        problem,
-        pool,
-        bell,
-        sharing,
-        came_back,
+        rt: tools.rt,
+        alloc: tools.alloc,
+        problem: tools.problem,
+        pool: tools.pool,
+        bell: tools.bell,
+        sharing: tools.sharing,
+        came_back: tools.came_back,
         start: &start,
     };
-    let _done = work_as(&job, gate, &mut seat, &mut told, &mut mute);
+    let _done = work_as(&job, tools.gate, &mut seat, &mut told, &mut mute);
     seat
 }
 
 // The work of some workers, each in a thread of its own where one can be made.
-fn work_all<'a, 'p, R: Threads + Wait + Sync, G: Gate, E: Notice>(
-    mut crowd: Crowd<'a, 'p, R, G, E>,
+fn work_all<'t, 'a, 'p, R: Threads + Wait + Sync, G: Gate, E: Notice>(
+    mut crowd: Crowd<'t, 'a, 'p, R, G, E>,
 ) -> Vec<Seat<Offer<'p, E>>>
-    requires can { Every (CanWork crowd.pool.now crowd.problem.now) crowd.seats.items }
-    requires suits { E.suits crowd.problem.now }
+    requires can { Every (CanWork crowd.tools.now.pool.now crowd.tools.now.problem.now) crowd.seats.items }
+    requires suits { E.suits crowd.tools.now.problem.now }
     ensures each { EachWorked crowd.entry.seats.items result.items }
     ensures len { vec_len result ≡ vec_len crowd.entry.seats }
     ensures room { vec_capacity crowd.entry.seats ≤ vec_capacity result }
@@ -121,22 +91,25 @@ fn work_all<'a, 'p, R: Threads + Wait + Sync, G: Gate, E: Notice>(
     let Some(seat) = crowd.seats.pop() else {
         return crowd.seats;
     };
-    let rt = crowd.rt;
-    let hand = crowd.hand(seat);
+    let hand = Hand {
+        tools: crowd.tools,
+        seat,
+    };
     if crowd.seats.is_empty() {
         let mut last = crowd.seats;
         last.push_reserved(help(hand));
         return last;
     }
     let (mut back, seat) = join(
-        rt,
+        crowd.tools.rt,
         move ||
-            requires { IsSync R.row × IsSync G.row × Every (CanWork crowd.pool.now crowd.problem.now) crowd.seats.items × E.suits crowd.problem.now }
+            requires { IsSync R.row × IsSync G.row × Every (CanWork crowd.tools.now.pool.now crowd.tools.now.problem.now) crowd.seats.items
+                × E.suits crowd.tools.now.problem.now }
             ensures { EachWorked crowd.entry.seats.items result.items × (vec_len result ≡ vec_len crowd.entry.seats)
                 × (vec_capacity crowd.entry.seats ≤ vec_capacity result) }
         { work_all(crowd) },
         move ||
-            requires { IsSync G.row × CanWork hand.pool.now hand.problem.now hand.seat × E.suits hand.problem.now }
+            requires { IsSync G.row × CanWork hand.tools.now.pool.now hand.tools.now.problem.now hand.seat × E.suits hand.tools.now.problem.now }
             ensures { Worked hand.entry.seat result }
         { help(hand) },
     );
@@ -145,9 +118,9 @@ fn work_all<'a, 'p, R: Threads + Wait + Sync, G: Gate, E: Notice>(
 }
 
 /// All workers at work: the caller is the first. The other seats come back.
-pub(crate) fn work_together<'p, R: Threads + Wait + Sync, G: Gate, O: Outlet>(
-    job: &Job<'_, 'p, R, O>,
-    gate: &G,
+pub(crate) fn work_together<'a, 'p, R: Threads + Wait + Sync, G: Gate, O: Outlet>(
+    job: &Job<'a, 'p, R, O>,
+    gate: &'a G,
     first: &mut Seat<Offer<'p, O::Found>>,
     told: &mut Told,
     out: &mut O,
@@ -171,7 +144,7 @@ pub(crate) fn work_together<'p, R: Threads + Wait + Sync, G: Gate, O: Outlet>(
         let done = work_as(job, gate, first, told, out);
         return (seats, done);
     }
-    let crowd = Crowd {
+    let tools = Tools {
         rt: job.rt,
         alloc: job.alloc,
         problem: job.problem,
@@ -180,13 +153,16 @@ pub(crate) fn work_together<'p, R: Threads + Wait + Sync, G: Gate, O: Outlet>(
         gate,
         sharing: job.sharing,
         came_back: job.came_back,
+    };
+    let crowd = Crowd {
+        tools: &tools,
         seats,
     };
     join_beside(
         job.rt,
         move ||
-            requires { IsSync R.row × IsSync G.row × Every (CanWork crowd.pool.now crowd.problem.now) crowd.seats.items
-                × O.Found.suits crowd.problem.now }
+            requires { IsSync R.row × IsSync G.row × Every (CanWork crowd.tools.now.pool.now crowd.tools.now.problem.now) crowd.seats.items
+                × O.Found.suits crowd.tools.now.problem.now }
             ensures { EachWorked crowd.entry.seats.items result.items }
         { work_all(crowd) },
         &mut ||

@@ -28,7 +28,17 @@ impl<'p, E: Notice> Model for Offer<'p, E> {
 }
 
 impl<'p, E: Notice> Offer<'p, E> {
-    /// An offer of a choice point.
+    // An offer of a choice point that nobody else has.
+    pub(crate) fn of(choice: Arc<Frozen<'p>>) -> Offer<'p, E>
+        ensures { result ≡ arc_value choice.entry }
+    {
+        Offer {
+            choice,
+            found: PhantomData,
+        }
+    }
+
+    /// An offer of a choice point. Memory is wanting where no more references to the choice point can be counted.
     pub fn new(choice: &Arc<Frozen<'p>>) -> Result<Offer<'p, E>, OutOfMemory>
         ensures { IfOk result (λ offer. offer ≡ arc_value choice.now) }
     {
@@ -39,7 +49,7 @@ impl<'p, E: Notice> Offer<'p, E> {
         })
     }
 
-    /// The choice point.
+    /// The choice point. Memory is wanting where no more references to it can be counted.
     pub fn choice(&self) -> Result<Arc<Frozen<'p>>, OutOfMemory>
         ensures { IfOk result (λ choice. arc_value choice ≡ self.now) }
     {

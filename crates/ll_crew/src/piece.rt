@@ -1,9 +1,11 @@
 //! The work of one piece.
-ghost use Rattle.std.specs.Prelude.{◌≡◌, ◌<◌, length, IfOk, IfSome, IfNone, IsSomeAnd, OnOk, OnErr, Some, None, slice_get, ◌+◌, ◌++◌, [], map, true, false};
+ghost use Rattle.std.specs.Prelude.{◌≡◌, ◌<◌, length, IfOk, IfSome, IfNone, IsErr, IsSomeAnd, OnOk, OnErr, Ok, Some, None, slice_get};
+ghost use Rattle.std.specs.Prelude.{◌+◌, [], map, true, false};
 ghost use Rattle.std.specs.Arc.{arc_value};
 ghost use Rattle.ll_laws.specs.Pool.{Owed};
 ghost use Rattle.ll_laws.specs.declared.Event.{Event as TheEvent};
 ghost use Rattle.ll_freeze.specs.Frozen.{alternatives_in};
+ghost use Rattle.ll_laws.specs.Sound.{report_of};
 ghost use Rattle.ll_engine.specs.Resumes.{Resumes};
 ghost use Rattle.ll_crew.specs.Leading.{Stands, Stopped};
 ghost use Rattle.ll_crew.specs.Turns.{Stays, Leaves};
@@ -72,6 +74,20 @@ enum Shared<'p> {
     Published,
     /// The pool has no place for this batch, which the piece owes still.
     Back(Arc<Frozen<'p>>),
+}
+
+// The first value where it was done, and the other one where it was not. The value that is not chosen is dropped.
+fn choose<T>(done: Result<bool, OutOfMemory>, yes: T, no: T) -> Result<T, OutOfMemory>
+where
+    T: Drop,
+    ensures yes { done ≡ Ok true → result ≡ Ok yes }
+    ensures no { done ≡ Ok false → result ≡ Ok no }
+    ensures failed { IsErr done → IsErr result }
+{
+    if done? {
+        return Ok(yes);
+    }
+    Ok(no)
 }
 
 // Publishes the oldest choice point of the engine, if it has one that is untried. A batch for which the pool has no place comes back, and
@@ -370,10 +386,8 @@ fn run_to_end<'p, R: Wait, O: Outlet>(
         Ran::Done => Ok(Ending::Whole(engine.cost())),
         Ran::Left => Ok(Ending::Left),
         Ran::Back(batch) => {
-            if run_alone(job, seat, engine, events, told, out)? {
-                return Ok(Ending::Partly(engine.cost(), batch));
-            }
-            Ok(Ending::Left)
+            let done = run_alone(job, seat, engine, events, told, out);
+            choose(done, Ending::Partly(engine.cost(), batch), Ending::Left)
         }
     }
 }
@@ -443,9 +457,35 @@ fn run_piece<'p, R: Wait, O: Outlet>(
         Ending::Whole(inferences) => Ok(Some(inferences)),
         Ending::Left => Ok(None),
         Ending::Partly(inferences, back) => {
-            run_batch(job, kept, seat, &back, events, inferences, told, out)
+            let ran = run_batch(job, kept, seat, &back, events, inferences, told, out);
+            drop(back);
+            ran
         }
     }
+}
+
+// Reports what was found for a piece that owes nothing more. False where the worker is to leave.
+fn report<'p, R: Wait, O: Outlet>(
+    job: &Job<'_, 'p, R, O>,
+    seat: &mut Seat<Offer<'p, O::Found>>,
+    events: Vec<O::Found>,
+    inferences: u64,
+    told: &mut Told,
+    out: &mut O,
+) -> bool
+    requires seat { IsSeat job.now.pool.now job.now.problem.now seat.old }
+    requires stands { Stands O.takes O.breaks O.welcome O.faults job.now.start.now.value job.now.problem.now seat.old out.old told.old }
+    requires owes { IsSomeAnd seat.old.mine.piece (λ piece. record { events = map O.Found.stands_for events.items; cost = inferences }
+        ≡ report_of piece.owes) }
+    ensures leads { told.new.leads ≡ told.old.leads }
+    ensures done { result ≡ true → Stays (Stands O.takes O.breaks O.welcome O.faults job.now.start.now.value job.now.problem.now seat.new out.new told.new)
+        seat.old seat.new × (seat.new.mine.piece ≡ None) }
+    ensures left { result ≡ false → Leaves (Stopped O.takes O.breaks O.welcome O.faults job.now.start.now.value job.now.problem.now out.new told.new)
+        told.old.leads seat.old seat.new }
+{
+    job.pool.report(job.rt, seat, Report { events, inferences });
+    job.bell.ring(job.rt, 0);
+    tell(job, seat, told, out)
 }
 
 /// Works an alternative that was claimed, and reports. False where the pool is starved or stopped.
@@ -474,12 +514,19 @@ pub(crate) fn work_piece<'p, R: Wait, O: Outlet>(
     ensures failed { OnErr result (Stays (Stands O.takes O.breaks O.welcome O.faults job.now.start.now.value job.now.problem.now seat.new out.new told.new)
         seat.old seat.new) }
 {
-    let batch = offer.choice()?;
+    let choice = offer.choice();
+    drop(offer);
+    let batch = choice?;
     let mut events = Vec::new(job.alloc);
-    let Some(inferences) = run_piece(job, kept, seat, batch, k, &mut events, told, out)? else {
-        return Ok(false);
-    };
-    job.pool.report(job.rt, seat, Report { events, inferences });
-    job.bell.ring(job.rt, 0);
-    Ok(tell(job, seat, told, out))
+    match run_piece(job, kept, seat, batch, k, &mut events, told, out) {
+        Ok(Some(inferences)) => Ok(report(job, seat, events, inferences, told, out)),
+        Ok(None) => {
+            drop(events);
+            Ok(false)
+        }
+        Err(refused) => {
+            drop(events);
+            Err(refused)
+        }
+    }
 }

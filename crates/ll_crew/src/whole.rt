@@ -1,18 +1,23 @@
 //! The crew of a problem.
-ghost use Rattle.std.specs.Prelude.{◌≡◌, ◌<◌, ◌≤◌, ◌↔◌, ◌+◌, [], None, Err, IfOk, OnOk, OnErr, map};
+ghost use Rattle.std.specs.Prelude.{◌≡◌, ◌<◌, ◌≤◌, ◌↔◌, ◌+◌, [], None, Ok, Err, IfOk, OnOk, OnErr, map, true, false};
 ghost use Rattle.std.specs.Arc.{arc_value};
 ghost use Rattle.ll_laws.specs.declared.Event.{Event};
+ghost use Rattle.ll_laws.specs.CoreEvents.{opening as opens};
 ghost use Rattle.ll_laws.specs.Problem.{problem_events, problem_cost};
 ghost use Rattle.ll_laws.specs.Search.{cut_count};
 ghost use Rattle.ll_laws.specs.Sound.{Every};
 ghost use Rattle.ll_laws.specs.Valid.{IsValid};
+ghost use Rattle.ll_freeze.specs.Frozen.{alternatives_in, opening};
 ghost use Rattle.ll_freeze.specs.Indexed.{IsIndexOf};
+ghost use Rattle.ll_freeze.specs.Parts.{Base};
+ghost use Rattle.ll_pool.specs.Fits.{Fits};
+ghost use Rattle.ll_pool.specs.Turns.{IsFirstSeat};
 ghost use Rattle.ll_order.specs.Outlets.{Rose, Gives, Refuses, CountsOf};
 ghost use Rattle.ll_order.specs.declared.outlet.OutFault.{OutFault};
 ghost use Rattle.ll_crew.specs.declared.whole.CrewFault.{CrewFault};
-ghost use Rattle.ll_crew.specs.Seats.{IsSeat};
+ghost use Rattle.ll_crew.specs.Seats.{IsSeat, of_batch};
 ghost use Rattle.ll_crew.specs.Crews.{worker_of, without_all, IsBack, GivesPrefix};
-ghost use Rattle.ll_crew.specs.Leading.{Kept, Leads};
+ghost use Rattle.ll_crew.specs.Leading.{Kept, Leads, Stopped};
 ghost use Rattle.ll_crew.specs.Turns.{CanWork};
 
 use crate::alone::search_alone;
@@ -57,21 +62,22 @@ fn seats<'p, E: Notice>(
     Ok(all)
 }
 
-// Takes all seats back.
-fn gather<'p, E: Notice>(
+// Takes all seats back, and then the pool.
+fn close<'p, E: Notice>(
     problem: &'p Problem,
-    pool: &SharedPool<Offer<'p, E>>,
-    first: &mut Seat<Offer<'p, E>>,
+    pool: SharedPool<Offer<'p, E>>,
+    mut first: Seat<Offer<'p, E>>,
     others: Vec<Seat<Offer<'p, E>>>,
-)
-    requires own { first.old.table ≡ pool.now.table }
-    requires others { Every (IsBack pool.now) others.items × (without_all (map worker_of others.items) first.old.given ≡ []) }
-    ensures { (first.new.table ≡ first.old.table) × (first.new.problem ≡ first.old.problem) × (first.new.mine ≡ first.old.mine) × (first.new.given ≡ []) }
+) -> Pool<Offer<'p, E>>
+    requires own { (first.table ≡ pool.table) × (first.mine.worker ≡ 0) }
+    requires others { Every (IsBack pool) others.items × (without_all (map worker_of others.items) first.given ≡ []) }
+    ensures { Fits of_batch alternatives_in result first.entry.problem first.entry.mine }
 {
     let _problem = problem;
     for other in others {
-        pool.join(first, other);
+        pool.join(&mut first, other);
     }
+    pool.close(first)
 }
 
 /// Why a crew gave up.
@@ -130,6 +136,36 @@ fn give_rest<'p, O: Outlet>(
     }
 }
 
+// Gives the outlet what is left, where the workers came to the end, and says else why they stopped.
+fn finish<'p, O: Outlet>(
+    problem: &'p Problem,
+    pool: Pool<Offer<'p, O::Found>>,
+    start: &Snapshot<O>,
+    told: &Told,
+    done: Result<bool, OutOfMemory>,
+    out: &mut O,
+) -> Result<Counts, CrewFault>
+    requires leads { told.now.leads ≡ true }
+    requires done { done ≡ Ok true → (pool.untried ≡ 0) × (pool.busy ≡ 0)
+        × Leads O.takes O.breaks O.welcome O.faults start.now.value problem.now pool out.old told.now.counts }
+    requires left { IfOk done (λ done. done ≡ false → Stopped O.takes O.breaks O.welcome O.faults start.now.value problem.now out.old told.now) }
+    requires failed { OnErr done (Stopped O.takes O.breaks O.welcome O.faults start.now.value problem.now out.old told.now) }
+    ensures given { OnOk result (Gives O.takes start.now.value (problem_events problem.entry.now) out.new) }
+    ensures counts { IfOk result (λ counts. CountsOf counts (problem_events problem.entry.now) (problem_cost problem.entry.now)) }
+    ensures refused { OnErr result (GivesPrefix O.takes O.breaks start.now.value (problem_events problem.entry.now) out.new) }
+    ensures write { result ≡ Err CrewFault.Write → Rose (O.faults start.now.value) (O.faults out.new) }
+    ensures kept { Kept O.takes O.breaks O.welcome O.faults start.now.value out.new }
+{
+    if let Ok(true) = done {
+        return give_rest(problem, pool, start, told.counts, out);
+    }
+    drop(pool);
+    match told.fault {
+        Some(fault) => Err(fault_of(fault)),
+        None => Err(CrewFault::OutOfMemory),
+    }
+}
+
 // Searches with these seats, and gives the outlet what was found.
 fn search<'p, R: Threads + Wait + Sync, G: Gate, O: Outlet>(
     rt: &R,
@@ -172,17 +208,8 @@ fn search<'p, R: Threads + Wait + Sync, G: Gate, O: Outlet>(
         start: &start,
     };
     let (others, done) = work_together(&job, gate, &mut first, &mut told, out, others);
-    gather(problem, &pool, &mut first, others);
-    let closed = pool.close(first);
-    if let Ok(finished) = done {
-        if finished {
-            return give_rest(problem, closed, &start, told.counts, out);
-        }
-    }
-    match told.fault {
-        Some(fault) => Err(fault_of(fault)),
-        None => Err(CrewFault::OutOfMemory),
-    }
+    let closed = close(problem, pool, first, others);
+    finish(problem, closed, &start, &told, done, out)
 }
 
 /// Searches a valid problem with 1 to 64 workers, of which the caller is the first, and gives the outlet the events of the search in
@@ -274,12 +301,57 @@ pub(crate) fn index_of(alloc: Global, problem: &Problem) -> Result<Arc<Index>, O
     Ok(Arc::new(alloc, index)?)
 }
 
-// The root of a pool.
-fn root_of<'p, E: Notice>(alloc: Global, root: Frozen<'p>) -> Result<Arc<Offer<'p, E>>, OutOfMemory>
-    ensures { IfOk result (λ offer. arc_value offer ≡ root.entry) }
+// A pool whose root is the whole search, and the seat of its first worker.
+fn pool_of<'p, E: Notice>(
+    alloc: Global,
+    problem: &'p Problem,
+    index: Arc<Index>,
+    workers: u32,
+) -> Result<(SharedPool<Offer<'p, E>>, Seat<Offer<'p, E>>), OutOfMemory>
+    requires workers { (0 < workers) × (workers ≤ 64) }
+    requires valid { IsValid problem.now }
+    requires index { IsIndexOf problem.now (arc_value index) }
+    ensures workers { IfOk result (λ made. made.0.workers ≡ workers) }
+    ensures seat { IfOk result (λ made. (base : Base)
+        × IsFirstSeat of_batch alternatives_in (opening problem.entry.now base) workers made.0.table made.1) }
 {
+    let root = Frozen::start_with(alloc, problem, index)?;
     let choice = Arc::new(alloc, root)?;
-    Ok(Arc::new(alloc, Offer::new(&choice)?)?)
+    let offer = Arc::new(alloc, Offer::of(choice))?;
+    SharedPool::new(alloc, offer, workers)
+}
+
+// The same with the seats of all workers.
+fn crew_of<'p, E: Notice>(
+    alloc: Global,
+    problem: &'p Problem,
+    index: Arc<Index>,
+    workers: u32,
+) -> Result<
+    (
+        SharedPool<Offer<'p, E>>,
+        Seat<Offer<'p, E>>,
+        Vec<Seat<Offer<'p, E>>>,
+    ),
+    OutOfMemory,
+>
+    requires workers { (0 < workers) × (workers ≤ 64) }
+    requires valid { IsValid problem.now }
+    requires index { IsIndexOf problem.now (arc_value index) }
+    ensures first { IfOk result (λ made. CanWork made.0 problem.entry.now made.1 × (made.1.mine.worker ≡ 0)
+        × (without_all (map worker_of made.2.items) made.1.given ≡ [])) }
+    ensures others { IfOk result (λ made. Every (CanWork made.0 problem.entry.now) made.2.items) }
+    ensures seen { IfOk result (λ made. (base : Base) × (made.1.mine.seen ≡ opens (opening problem.entry.now base) workers)) }
+{
+    let (pool, mut first) = pool_of(alloc, problem, index, workers)?;
+    match seats(alloc, problem, &pool, &mut first) {
+        Ok(others) => Ok((pool, first, others)),
+        Err(refused) => {
+            drop(first);
+            drop(pool);
+            Err(refused)
+        }
+    }
 }
 
 // The same, with an index of the problem's clauses, where workers share their choice points in some way.
@@ -310,19 +382,10 @@ pub(crate) fn crew_by<'p, R: Threads + Wait + Sync, G: Gate, O: Outlet>(
         gate.pause(0, 0);
         return search_alone(alloc, problem, index, out);
     }
-    let Ok(root) = Frozen::start_with(alloc, problem, index) else {
-        return Err(CrewFault::OutOfMemory);
-    };
-    let Ok(root) = root_of(alloc, root) else {
-        return Err(CrewFault::OutOfMemory);
-    };
-    let Ok((pool, mut first)) = SharedPool::new(alloc, root, workers) else {
-        return Err(CrewFault::OutOfMemory);
-    };
-    let Ok(others) = seats(alloc, problem, &pool, &mut first) else {
-        return Err(CrewFault::OutOfMemory);
-    };
-    search(
-        rt, alloc, problem, pool, gate, sharing, came_back, first, others, out,
-    )
+    match crew_of(alloc, problem, index, workers) {
+        Ok((pool, first, others)) => search(
+            rt, alloc, problem, pool, gate, sharing, came_back, first, others, out,
+        ),
+        Err(_) => Err(CrewFault::OutOfMemory),
+    }
 }

@@ -148,7 +148,9 @@ fn work_on<'p, R: Wait, G: Gate, O: Outlet>(
         seat.old seat.new) }
 {
     let mut kept = None;
-    work_with(job, gate, &mut kept, seat, told, out)
+    let done = work_with(job, gate, &mut kept, seat, told, out);
+    drop(kept);
+    done
 }
 
 /// Claims and works until nothing is untried or open, which is answered by true, or until the pool is starved or stopped. A worker that

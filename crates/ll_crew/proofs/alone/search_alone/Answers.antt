@@ -6,5 +6,5 @@ use Rattle.ll_crew.proofs.alone.search_alone.Goals as goal
 
 pub returns-clause-refused : goal.returns-clause-refused
 returns-clause-refused g c =
-    subst (λ p. OnErr c.give_each.result (GivesPrefix g.O.Outlet.takes g.O.Outlet.breaks c.args.out.now (problem_events p) c.give_each.new.out))
-    (ap (λ (e : Owing). e.problem) c.in-Ok.ensures) c.give_each.ensures.refused
+    subst (λ p. OnErr c.give_each-given.result (GivesPrefix g.O.Outlet.takes g.O.Outlet.breaks c.args.out.now (problem_events p) c.give_each-given.new.out))
+    (ap (λ (e : Owing). e.problem) c.in-Ok.ensures) c.give_each-given.ensures.refused

@@ -22,17 +22,12 @@ pub join-back-requires-after_bounds : goal.join-back-requires-after_bounds
 join-back-requires-after_bounds g t c κs within =
     let before : c.args.crowd.seats.items ≡ c.pop.new.self.items ++ c.in-Some.seat ∷ [] =
     c.pop.ensures.items ∙ ap (λ o. c.pop.new.self.items ++ option_to_list o) c.in-Some.is in
-    let all : Every (CanWork c.args.crowd.pool.now c.args.crowd.problem.now) (c.pop.new.self.items ++ c.in-Some.seat ∷ []) =
-    subst (Every (CanWork c.args.crowd.pool.now c.args.crowd.problem.now)) before c.requires.can in
-    let front : Every (CanWork c.args.crowd.pool.now c.args.crowd.problem.now) c.pop.new.self.items =
-    every_front (CanWork c.args.crowd.pool.now c.args.crowd.problem.now) c.pop.new.self.items (c.in-Some.seat ∷ []) all in
-    let last : Every (CanWork c.args.crowd.pool.now c.args.crowd.problem.now) (c.in-Some.seat ∷ []) =
-    every_back (CanWork c.args.crowd.pool.now c.args.crowd.problem.now) c.pop.new.self.items (c.in-Some.seat ∷ []) all in
-    let hand = c.hand-hand.result in let is = c.hand-hand.ensures in
-    let held : CanWork hand.pool.now hand.problem.now hand.seat =
-    subst (CanWork hand.pool.now hand.problem.now) (sym is.seat)
-    (subst (λ p. CanWork hand.pool.now p c.in-Some.seat) (sym is.problem)
-    (subst (λ p. CanWork p c.args.crowd.problem.now c.in-Some.seat) (sym is.pool) last.0)) in (
+    let all : Every (CanWork c.args.crowd.tools.now.pool.now c.args.crowd.tools.now.problem.now) (c.pop.new.self.items ++ c.in-Some.seat ∷ []) =
+    subst (Every (CanWork c.args.crowd.tools.now.pool.now c.args.crowd.tools.now.problem.now)) before c.requires.can in
+    let front : Every (CanWork c.args.crowd.tools.now.pool.now c.args.crowd.tools.now.problem.now) c.pop.new.self.items =
+    every_front (CanWork c.args.crowd.tools.now.pool.now c.args.crowd.tools.now.problem.now) c.pop.new.self.items (c.in-Some.seat ∷ []) all in
+    let last : Every (CanWork c.args.crowd.tools.now.pool.now c.args.crowd.tools.now.problem.now) (c.in-Some.seat ∷ []) =
+    every_back (CanWork c.args.crowd.tools.now.pool.now c.args.crowd.tools.now.problem.now) c.pop.new.self.items (c.in-Some.seat ∷ []) all in (
       (
         search rules,
         (
@@ -46,5 +41,5 @@ join-back-requires-after_bounds g t c κs within =
           ),
         ),
       ),
-      ((search rules, held, subst g.E.Notice.suits (sym is.problem) c.requires.suits), (search rules, search rules, search rules, search rules)),
+      ((search rules, last.0, c.requires.suits), (search rules, search rules, search rules, search rules)),
     )

@@ -1,34 +1,65 @@
 use Rattle.std.specs.Prelude.{map}
-use Rattle.std.proofs.Common.{ap, ◌∙◌}
+use Rattle.std.proofs.Common.{ap, ◌∙◌, refl, true, false}
 use Rattle.std.specs.Arc.{arc_value}
+use Rattle.ll_lists.proofs.CallerLemmas.{OnOk-weaker, OnErr-weaker}
 use Rattle.ll_laws.specs.Search.{cut_count}
 use Rattle.ll_freeze.specs.Frozen.{alternatives_in}
 use Rattle.ll_crew.specs.Leading.{Stands, Stopped}
+use Rattle.ll_crew.specs.Runs.{RunsTo, EndsTo}
+use Rattle.ll_crew.specs.declared.piece.Ran.TheVariants.{Back}
+use Rattle.ll_crew.specs.declared.piece.Ending.{Ending}
+use Rattle.ll_crew.specs.declared.piece.Ending.TheVariants as ending
 use Rattle.ll_crew.proofs.Goings.{stays_goes}
-use Rattle.ll_crew.proofs.Claiming.{ran_back}
-use Rattle.ll_crew.proofs.Finishing.{all_lacks}
+use Rattle.ll_crew.proofs.Claiming.{ran_back, stays_on, stays_out}
+use Rattle.ll_crew.proofs.Finishing.{all_lacks, chosen_holds, chosen_on, chosen_fails, done_of}
 use Rattle.ll_crew.proofs.piece.run_to_end.Goals as goal
+use Rattle.ll_crew.proofs.piece.run_to_end.Goals.{In-Back}
 
-pub returns-then-branch-clause-ends : goal.returns-then-branch-clause-ends
-returns-then-branch-clause-ends g c =
-    let first = ran_back (Stands g.O.Outlet.takes g.O.Outlet.breaks g.O.Outlet.welcome g.O.Outlet.faults c.args.job.now.start.now.value
+came_back : (g : _) (c : In-Back g)
+    → RunsTo (Stands g.O.Outlet.takes g.O.Outlet.breaks g.O.Outlet.welcome g.O.Outlet.faults c.args.job.now.start.now.value
     c.args.job.now.problem.now c.run.new.seat c.run.new.out c.run.new.told)
     (Stopped g.O.Outlet.takes g.O.Outlet.breaks g.O.Outlet.welcome g.O.Outlet.faults c.args.job.now.start.now.value c.args.job.now.problem.now c.run.new.out
     c.run.new.told)
-    c.args.told.now.leads c.args.job.now.problem.now c.in_ok-run.field-0 c.in-Back.batch c.args.seat.now c.run.new.seat
+    c.args.told.now.leads c.args.job.now.problem.now (Back c.in-Back.batch) c.args.seat.now c.run.new.seat
     (map g.O.Found.Notice.stands_for c.run.new.events.items) c.run.new.engine
-    c.in-Back.is
-    c.in_ok-run.ensures.ran in
-    let alone = c.in_ok-run_alone-in-Back.ensures.done c.if-branch.true in let go = alone.goes in (
+came_back g c = ran_back _ _ _ _ c.in_ok-run.field-0 c.in-Back.batch _ _ _ _ c.in-Back.is c.in_ok-run.ensures.ran
+
+pub returns-in-Back-clause-ends : goal.returns-in-Back-clause-ends
+returns-in-Back-clause-ends g c =
+    let first = came_back g (goal.at.returns-in-Back-clause-ends g c).In-Back in
+    let e = c.run_alone-done.ensures in let o = c.choose.ensures in
+    chosen_holds (λ (x : Ending). EndsTo (Stands g.O.Outlet.takes g.O.Outlet.breaks g.O.Outlet.welcome g.O.Outlet.faults c.args.job.now.start.now.value
+    c.args.job.now.problem.now c.run_alone-done.new.seat c.run_alone-done.new.out c.run_alone-done.new.told)
+    (Stopped g.O.Outlet.takes g.O.Outlet.breaks g.O.Outlet.welcome g.O.Outlet.faults c.args.job.now.start.now.value c.args.job.now.problem.now
+    c.run_alone-done.new.out c.run_alone-done.new.told) c.args.told.now.leads c.args.job.now.problem.now x c.args.seat.now c.run_alone-done.new.seat
+    (map g.O.Found.Notice.stands_for c.run_alone-done.new.events.items))
+    c.run_alone-done.result c.choose.result (ending.Partly c.cost-in-Back.result c.in-Back.batch) ending.Left o.yes o.no o.failed
+    (λ is.
+    let alone = done_of _ c.run_alone-done.result true is e.done refl in let go = alone.goes in (
       stays_goes g.O.Outlet.takes g.O.Outlet.breaks g.O.Outlet.welcome g.O.Outlet.faults c.args.job.now.start.now.value c.args.job.now.problem.now
-          c.args.seat.now c.run.new.seat c.run_alone.new.seat
+          c.args.seat.now c.run.new.seat c.run_alone-done.new.seat
           (Stands g.O.Outlet.takes g.O.Outlet.breaks g.O.Outlet.welcome g.O.Outlet.faults c.args.job.now.start.now.value c.args.job.now.problem.now
           c.run.new.seat c.run.new.out c.run.new.told)
           (Stands g.O.Outlet.takes g.O.Outlet.breaks g.O.Outlet.welcome g.O.Outlet.faults c.args.job.now.start.now.value c.args.job.now.problem.now
-          c.run_alone.new.seat c.run_alone.new.out c.run_alone.new.told) first.0 go,
-      all_lacks c.run.new.seat.mine.piece c.run_alone.new.seat.mine.piece (map g.O.Found.Notice.stands_for c.run.new.events.items)
-          (map g.O.Found.Notice.stands_for c.run_alone.new.events.items) c.run.new.engine
-          (alternatives_in (arc_value c.in-Back.batch)) c.cost-then-branch.result go.piece first.1 alone.whole
-          (ap cut_count c.cost-then-branch.ensures ∙ alone.made),
+          c.run_alone-done.new.seat c.run_alone-done.new.out c.run_alone-done.new.told) first.0 go,
+      all_lacks c.run.new.seat.mine.piece c.run_alone-done.new.seat.mine.piece (map g.O.Found.Notice.stands_for c.run.new.events.items)
+          (map g.O.Found.Notice.stands_for c.run_alone-done.new.events.items) c.run.new.engine
+          (alternatives_in (arc_value c.in-Back.batch)) c.cost-in-Back.result go.piece first.1 alone.whole
+          (ap cut_count c.cost-in-Back.ensures ∙ alone.made),
       first.2,
-    )
+    ))
+    (λ is. stays_out _ _ c.run.new.told.leads c.args.told.now.leads c.args.seat.now c.run.new.seat c.run_alone-done.new.seat
+    c.run.ensures.leads first.0 (done_of _ c.run_alone-done.result false is e.left refl))
+
+pub returns-in-Back-clause-problem : goal.returns-in-Back-clause-problem
+returns-in-Back-clause-problem g c =
+    let e = c.run_alone-done.ensures in let o = c.choose.ensures in
+    chosen_on _ c.run_alone-done.result c.choose.result o.failed
+    (OnOk-weaker c.run_alone-done.result (λ is. is ∙ c.in_ok-run.ensures.problem) e.problem)
+
+pub returns-in-Back-clause-failed : goal.returns-in-Back-clause-failed
+returns-in-Back-clause-failed g c =
+    let first = came_back g (goal.at.returns-in-Back-clause-failed g c).In-Back in
+    let e = c.run_alone-done.ensures in let o = c.choose.ensures in
+    chosen_fails _ c.run_alone-done.result c.choose.result (ending.Partly c.cost-in-Back.result c.in-Back.batch) ending.Left o.yes o.no
+    (OnErr-weaker c.run_alone-done.result (λ f. stays_on _ _ c.args.seat.now c.run.new.seat c.run_alone-done.new.seat first.0 f) e.failed)

@@ -1,11 +1,12 @@
--- Numbers of texts: what callers know of them, and how a set of texts has them.
-use Rattle.std.proofs.Common.{◌≡◌, ℕ, ◌+◌, ◌<◌, ◌≤◌, Bool, true, false, not, cond, eqb, ltb, ◌||◌, List, [], ◌∷◌, ◌++◌, length, map, slice_get, position}
+-- Numbers of texts: what callers know of them, and how a table of texts has them.
+use Rattle.std.proofs.Common.{◌≡◌, ℕ, ◌+◌, ◌<◌, ◌≤◌, Bool, true, false, not, cond, eqb, ltb, List, [], ◌∷◌, ◌++◌, length, map, slice_get, position}
 use Rattle.std.proofs.Common.{Option, Some, None, get_or, refl, ap, sym, subst, ◌∙◌, arith, true≢false, if◌then◌else◌, length-append, append_assoc}
 use Rattle.std.specs.List.{list_any, position_or_len, IsDistinct, AllByRecursion, AllZip}
+use Rattle.std.specs.Map.{lookup, update}
 use Rattle.std.specs.Str.{bytes_eq}
 use Rattle.std.proofs.lemmas.Bool.{false_from_ne_true, ltb-false, le-ltb, or_parts}
 use Rattle.std.proofs.lemmas.Bool.Decides.{Decides-ltb, Decides-eqb}
-use Rattle.std.proofs.lemmas.List.{append-nil, length-map, map-append, get_or-append-add}
+use Rattle.std.proofs.lemmas.List.{append-nil, get_or-append-add}
 use Rattle.std.proofs.lemmas.List.Quantifiers.{position-Some}
 use Rattle.std.proofs.lemmas.List.Folds.{list_any_at, position_or_len_push}
 use Rattle.std.proofs.lemmas.List.Sums.{prefix_len-le-length, position_or_len_is}
@@ -14,8 +15,7 @@ use Rattle.std.proofs.lemmas.Option.{slice_get-get_or, get_or_from_slice_get, sl
 use Rattle.std.proofs.lemmas.Slice.Eq.{bytes_eq-Decides}
 use Rattle.std.proofs.Math.ListN.{get_or-append}
 use Rattle.ll_lists.proofs.CallerLemmas.{position_within}
-use Rattle.indexmap.specs.IndexSet.{insert_key}
-use Rattle.ll_bank.specs.Names.{number_of, with_name, with_names}
+use Rattle.ll_bank.specs.Names.{number_of, ArePlaced, with_name, with_names}
 
 -- ---- the first place at which a test passes
 
@@ -111,6 +111,10 @@ number_of-pushed texts text none =
     ap (λ ts. number_of ts text) (sym (with_name-absent texts text none))
     ∙ (number_of-with_name texts text ∙ ap (λ n. let o : Option ℕ = Some n in o) (position_none (bytes_eq text) texts none))
 
+-- texts that differ do so either way round
+flipped : (s t : List ℕ) → bytes_eq s t ≡ false → bytes_eq t s ≡ false
+flipped s t e = false_from_ne_true (bytes_eq t s) (λ same. true≢false (sym ((bytes_eq-Decides s t).1 (sym ((bytes_eq-Decides t s).0 same))) ∙ e))
+
 -- so texts that differ still do
 pub IsDistinct-pushed : (texts : List (List ℕ)) (text : List ℕ) → IsDistinct bytes_eq texts → number_of texts text ≡ None
     → IsDistinct bytes_eq (texts ++ text ∷ [])
@@ -122,14 +126,10 @@ IsDistinct-pushed texts text distinct none = behind_all texts distinct (absent t
     behind_others t [] e h = (e, tt)
     behind_others t (x ∷ ts) e h = (h.0, behind_others t ts e h.1)
 
-    flipped : (t : List ℕ) → bytes_eq text t ≡ false → bytes_eq t text ≡ false
-    flipped t e =
-        false_from_ne_true (bytes_eq t text) (λ same. true≢false (sym ((bytes_eq-Decides text t).1 (sym ((bytes_eq-Decides t text).0 same))) ∙ e))
-
     behind_all : (ts : List (List ℕ)) → IsDistinct bytes_eq ts → list_any (bytes_eq text) ts ≡ false → IsDistinct bytes_eq (ts ++ text ∷ [])
     behind_all [] d e = (tt, tt)
     behind_all (t ∷ ts) d e =
-        let n = or_parts (bytes_eq text t) (list_any (bytes_eq text) ts) e in (behind_others t ts (flipped t n.0) d.0, behind_all ts d.1 n.1)
+        let n = or_parts (bytes_eq text t) (list_any (bytes_eq text) ts) e in (behind_others t ts (flipped text t n.0) d.0, behind_all ts d.1 n.1)
 
 -- a text put behind the second part goes behind both
 pub pushed_behind : (front rest new texts : List (List ℕ)) (text : List ℕ) → front ++ rest ≡ texts → new ≡ rest ++ text ∷ [] → front ++ new ≡ texts ++ text ∷ []
@@ -215,49 +215,51 @@ pub number_of-with_names : (texts more : List (List ℕ)) (old : List ℕ) (n : 
 number_of-with_names texts [] old n e = e
 number_of-with_names texts (t ∷ more) old n e = number_of-with_names (with_name texts t) more old n (number_of-with_name_old texts t old n e)
 
--- ---- texts that are the bytes of keys
+-- ---- texts that are the bytes of keys, in a table of their places
 
-module _ {K : Type 0} (bytes : K → List ℕ) where
-  -- a test of texts is a test of keys
-  list_any-map : (p : List ℕ → Bool) (keys : List K) → list_any p (map bytes keys) ≡ list_any (λ k. p (bytes k)) keys
-  list_any-map p [] = refl
-  list_any-map p (k ∷ keys) = ap (λ b. p (bytes k) || b) (list_any-map p keys)
+-- keys that are copies have the same texts
+pub same_texts : {K : Type 0} (bytes : K → List ℕ) (keys copies : List K) → AllZip (λ k c. bytes c ≡ bytes k) keys copies → map bytes copies ≡ map bytes keys
+same_texts bytes [] [] h = refl
+same_texts bytes [] (c ∷ copies) h = elim h [ ]
+same_texts bytes (k ∷ keys) [] h = elim h [ ]
+same_texts bytes (k ∷ keys) (c ∷ copies) h = λ i. h.0 i ∷ same_texts bytes keys copies h.1 i
 
-  pub position_or_len-map : (p : List ℕ → Bool) (keys : List K) → position_or_len p (map bytes keys) ≡ position_or_len (λ k. p (bytes k)) keys
-  position_or_len-map p [] = refl
-  position_or_len-map p (k ∷ keys) = ap (λ n. cond (not (p (bytes k))) (1 + n) 0) (position_or_len-map p keys)
+-- and in a table the same places
+pub same_places : {K : Type 0} (bytes : K → List ℕ) (rows copies : List (K × ℕ)) (text : List ℕ)
+    → AllZip (λ r c. (bytes c.0 ≡ bytes r.0) × (c.1 ≡ r.1)) rows copies
+    → lookup (λ k. bytes_eq text (bytes k)) copies ≡ lookup (λ k. bytes_eq text (bytes k)) rows
+same_places bytes [] [] text h = refl
+same_places bytes [] (c ∷ copies) text h = elim h [ ]
+same_places bytes (r ∷ rows) [] text h = elim h [ ]
+same_places bytes (r ∷ rows) (c ∷ copies) text h =
+    λ i. cond (bytes_eq text (h.0.0 i)) (Some (h.0.1 i)) (same_places bytes rows copies text h.1 i)
 
-  pub position-map : (p : List ℕ → Bool) (keys : List K) → position p (map bytes keys) ≡ position (λ k. p (bytes k)) keys
-  position-map p keys =
-      λ i. cond (ltb (position_or_len-map p keys i) (length-map keys bytes i)) (Some (position_or_len-map p keys i)) None
+-- no texts
+pub placed_none : ArePlaced [] (λ _. None)
+unfolding IsDistinct
+placed_none = record { distinct = tt; number = λ text. refl }
 
-  -- a key that is inserted adds its text
-  module _ (keys new : List K) (key : K) (texts : List (List ℕ)) (text : List ℕ) (view : map bytes keys ≡ texts) (is : bytes key ≡ text)
-      (inserted : new ≡ insert_key (λ x y. bytes_eq (bytes x) (bytes y)) keys key) where
-    pub added : map bytes new ≡ with_name texts text
-    added = rw (inserted, ← view, ← is) (by (list_any (λ k. bytes_eq (bytes key) (bytes k)) keys) (list_any-map (bytes_eq (bytes key)) keys))
-      where
-        by : (b : Bool) → list_any (bytes_eq (bytes key)) (map bytes keys) ≡ b
-            → map bytes (if b then keys else keys ++ key ∷ []) ≡ with_name (map bytes keys) (bytes key)
-        by true e = rw e refl
-        by false e = rw e (map-append bytes keys (key ∷ []))
+-- a text that is put behind the others, with the next place
+pub placed_push : (texts : List (List ℕ)) (old new : List ℕ → Option ℕ) (text : List ℕ) → ArePlaced texts old → number_of texts text ≡ None
+    → ((other : List ℕ) → new other ≡ update bytes_eq old text (Some (length texts)) other) → ArePlaced (texts ++ text ∷ []) new
+placed_push texts old new text placed none updates =
+    record {
+      distinct = IsDistinct-pushed texts text placed.distinct none;
+      number = λ other. updates other ∙ by other (bytes_eq text other) refl;
+    }
+  where
+    behind : (other : List ℕ) → bytes_eq other text ≡ false → number_of (text ∷ []) other ≡ None
+    behind other e = ap (λ b. let n = cond (not b) 1 0 in let o : Option ℕ = cond (ltb n 1) (Some n) None in o) e
 
-  -- keys that are copies have the same texts
-  pub same_texts : (keys copies : List K) → AllZip (λ k c. bytes c ≡ bytes k) keys copies → map bytes copies ≡ map bytes keys
-  same_texts [] [] h = refl
-  same_texts [] (c ∷ copies) h = elim h [ ]
-  same_texts (k ∷ keys) [] h = elim h [ ]
-  same_texts (k ∷ keys) (c ∷ copies) h = λ i. h.0 i ∷ same_texts keys copies h.1 i
+    apart : (other : List ℕ) → bytes_eq text other ≡ false → (found : Option ℕ) → number_of texts other ≡ found
+        → found ≡ number_of (texts ++ text ∷ []) other
+    apart other e (Some n) f = sym (number_of-front texts (text ∷ []) other n f)
+    apart other e None f = sym (number_of-neither texts (text ∷ []) other f (behind other (flipped text other e)))
 
-  -- keys with different bytes have different texts
-  pub IsDistinct-map : (keys : List K) → IsDistinct (λ x y. bytes_eq (bytes x) (bytes y)) keys → IsDistinct bytes_eq (map bytes keys)
-  unfolding IsDistinct
-  IsDistinct-map [] h = tt
-  IsDistinct-map (k ∷ keys) h = (others keys h.0, IsDistinct-map keys h.1)
-    where
-      others : (ks : List K) → AllByRecursion (λ y. bytes_eq (bytes k) (bytes y) ≡ false) ks → AllByRecursion (λ t. bytes_eq (bytes k) t ≡ false) (map bytes ks)
-      others [] g = tt
-      others (x ∷ ks) g = (g.0, others ks g.1)
+    by : (other : List ℕ) (b : Bool) → bytes_eq text other ≡ b → cond b (Some (length texts)) (old other) ≡ number_of (texts ++ text ∷ []) other
+    by other true e =
+        subst (λ t. Some (length texts) ≡ number_of (texts ++ text ∷ []) t) ((bytes_eq-Decides text other).0 e) (sym (number_of-pushed texts text none))
+    by other false e = placed.number other ∙ apart other e (number_of texts other) refl
 
 -- for callers that add texts
 pub ruleset name_laws = (length-with_name, slice_get-number_of, slice_get-with_name, number_of-with_name_old)

@@ -5,27 +5,28 @@ ghost use Rattle.std.specs.Str.{bytes_eq};
 ghost use Rattle.ll_bank.specs.Names.{number_of};
 
 use crate::OutOfMemory;
-use indexmap::IndexSet;
 use std::alloc::Global;
+use std::collections::HashMap;
 use std::marker::Model;
 
-/// Texts that differ. Contracts see the list of the texts' bytes.
+/// Texts that differ, with a table of their places. Contracts see the list of the texts' bytes.
 #[derive(Drop)]
 pub(crate) struct Texts {
-    texts: IndexSet<String>,
+    texts: Vec<String>,
+    places: HashMap<String, usize>,
 }
 
 impl Model for Texts {
     ghost use Rattle.std.specs.Prelude.{ℕ, List, map};
-    ghost use Rattle.std.specs.List.{IsDistinct};
-    ghost use Rattle.std.specs.Str.{bytes_eq};
+    ghost use Rattle.std.specs.HashMap.{get_by_text};
     ghost use Rattle.std.specs.String.{string_bytes};
+    ghost use Rattle.ll_bank.specs.Names.{ArePlaced};
 
     ghost Value = { List (List ℕ) };
 
-    ghost view = { λ texts. map string_bytes texts.texts.keys };
+    ghost view = { λ texts. map string_bytes texts.texts.items };
 
-    ghost invariant = { λ texts. IsDistinct bytes_eq (map string_bytes texts.texts.keys) };
+    ghost invariant = { λ texts. ArePlaced (map string_bytes texts.texts.items) (get_by_text texts.places) };
 }
 
 impl Texts {
@@ -34,7 +35,8 @@ impl Texts {
         ensures { result ≡ [] }
     {
         Texts {
-            texts: IndexSet::new(alloc),
+            texts: Vec::new(alloc),
+            places: HashMap::new(alloc),
         }
     }
 
@@ -56,7 +58,7 @@ impl Texts {
     pub(crate) fn find(&self, text: &str) -> Option<usize>
         ensures { result ≡ number_of self.now text.now }
     {
-        self.texts.get_index_of(text)
+        self.places.get(text).copied()
     }
 
     /// Puts a text that is not there behind the others. After a refusal the texts are as before.
@@ -66,7 +68,11 @@ impl Texts {
         ensures refused { OnErr result (self.new ≡ self.old) }
     {
         let owned = String::from_str(self.allocator(), text)?;
-        self.texts.insert(owned)?;
+        let key = owned.clone()?;
+        // Room first, so that the text is in both or in neither.
+        self.texts.reserve(1)?;
+        self.places.insert(key, self.texts.len())?;
+        self.texts.push(owned)?;
         Ok(())
     }
 
@@ -82,7 +88,9 @@ impl Texts {
     pub(crate) fn copy(&self) -> Result<Texts, OutOfMemory>
         ensures { IfOk result (λ copy. copy ≡ self.now) }
     {
-        let texts = self.texts.clone()?;
-        Ok(Texts { texts })
+        Ok(Texts {
+            texts: self.texts.clone()?,
+            places: self.places.clone()?,
+        })
     }
 }

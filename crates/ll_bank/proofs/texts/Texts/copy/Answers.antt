@@ -1,13 +1,15 @@
-use Rattle.std.proofs.Common.{◌∙◌, sym, subst}
-use Rattle.std.specs.List.{IsDistinct}
-use Rattle.std.specs.Str.{bytes_eq}
+use Rattle.std.proofs.Common.{◌∙◌}
 use Rattle.std.specs.String.{string_bytes}
-use Rattle.ll_bank.proofs.NameLaws.{same_texts}
+use Rattle.ll_bank.proofs.NameLaws.{same_texts, same_places}
 use Rattle.ll_bank.proofs.texts.Texts.copy.Goals as goal
 
 pub invariant_of-result : goal.invariant_of-result
 invariant_of-result c =
-    subst (IsDistinct bytes_eq) (sym (same_texts string_bytes c.self.inside.texts.keys c.in_ok-texts.texts.keys c.in_ok-texts.ensures.cases)) c.self.invariant
+    rw (same_texts string_bytes c.self.inside.texts.items c.in_ok-clone.field-0.items c.in_ok-clone.ensures.cases.0) record {
+      distinct = c.self.invariant.distinct;
+      number = λ text. same_places string_bytes c.self.inside.places.entries c.in_ok-clone-2.field-0.entries text c.in_ok-clone-2.ensures.cases
+          ∙ c.self.invariant.number text;
+    }
 
 pub returns : goal.returns
-returns c = same_texts string_bytes c.self.inside.texts.keys c.in_ok-texts.texts.keys c.in_ok-texts.ensures.cases ∙ c.self.view_is
+returns c = same_texts string_bytes c.self.inside.texts.items c.in_ok-clone.field-0.items c.in_ok-clone.ensures.cases.0 ∙ c.self.view_is

@@ -1,13 +1,26 @@
-use Rattle.std.proofs.Common.{◌∙◌}
+use Rattle.std.proofs.Common.{◌≡◌, ◌++◌, ◌∷◌, Some, None, [], map, length, ap, sym, subst, ◌∙◌}
+use Rattle.std.proofs.lemmas.List.{map-append, length-map}
+use Rattle.std.proofs.lemmas.Map.Text.{hash_map_updates_text}
+use Rattle.std.specs.HashMap.{get_by_text}
+use Rattle.std.specs.Map.{update}
+use Rattle.std.specs.Str.{bytes_eq}
 use Rattle.std.specs.String.{string_bytes}
-use Rattle.ll_bank.proofs.NameLaws.{added, with_name-absent, IsDistinct-map}
+use Rattle.ll_bank.specs.Names.{number_of}
+use Rattle.ll_bank.proofs.NameLaws.{placed_push}
 use Rattle.ll_bank.proofs.texts.Texts.push.Goals as goal
 
 pub invariant_of-self-2 : goal.invariant_of-self-2
-invariant_of-self-2 c = IsDistinct-map string_bytes c.insert.new.self.keys c.in_ok-insert.ensures.unique
-
-pub returns-clause-pushed : goal.returns-clause-pushed
-returns-clause-pushed c =
-    added string_bytes c.self.inside.texts.keys c.insert.new.self.keys c.in_ok-owned.owned c.args.self.now c.args.text.now c.self.view_is
-    c.in_ok-owned.ensures.ok c.in_ok-insert.ensures.keys
-    ∙ with_name-absent c.args.self.now c.args.text.now c.requires
+invariant_of-self-2 c =
+    let old = c.self.inside.texts.items in
+    let texts = map string_bytes old in
+    let text = c.args.text.now in
+    let items : map string_bytes c.push.new.self.items ≡ texts ++ text ∷ [] =
+    ap (map string_bytes) (c.in_ok-push.ensures.items ∙ ap (λ ts. ts ++ c.in_ok-owned.owned ∷ []) c.in_ok-reserve.ensures.items)
+    ∙ (map-append string_bytes old (c.in_ok-owned.owned ∷ []) ∙ ap (λ t. texts ++ t ∷ []) c.in_ok-owned.ensures.ok) in
+    let none = subst (λ ts. number_of ts text ≡ None) (sym c.self.view_is) c.requires in
+    let key : string_bytes c.in_ok-key.key ≡ text = c.in_ok-key.ensures.cases ∙ c.in_ok-owned.ensures.ok in
+    let last : c.len.result ≡ length texts =
+    c.len.ensures ∙ (c.in_ok-reserve.ensures.len ∙ (c.self.inside.texts.ok.0 ∙ sym (length-map old string_bytes))) in
+    rw items (placed_push texts (get_by_text c.self.inside.places) (get_by_text c.insert.new.self) text c.self.invariant none
+    (λ other. hash_map_updates_text (string_bytes c.in_ok-key.key) c.self.inside.places c.insert.new.self _ c.in_ok-insert.ensures.updates other
+    ∙ (λ i. update bytes_eq (get_by_text c.self.inside.places) (key i) (Some (last i)) other)))

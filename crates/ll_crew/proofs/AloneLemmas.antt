@@ -37,6 +37,20 @@ module _ {O : Type 0} (takes breaks : O → Event → O → Type 0) (welcome : O
     cost = ap (λ (x : Owing). cut_count (x.made + x.cost)) h ∙ ap cut_count (let z : 0 + problem_cost p ≡ problem_cost p = omega arith in z);
   }
 
+  module _ (engine : Owing) (out : O) (counts : Counts) (a : IsAlone takes welcome faults start p engine out counts) where
+    pub alone_keeps : Kept takes breaks welcome faults start out
+    alone_keeps = record { no_fewer = a.giving.faults_kept; same_welcome = a.giving.welcome_kept }
+
+    pub alone_keeps_on : (out' : O) → Kept takes breaks welcome faults out out' → Kept takes breaks welcome faults start out'
+    alone_keeps_on out' k = record {
+      no_fewer = le_trans a.giving.faults_kept k.no_fewer;
+      same_welcome = λ x. (λ h. (k.same_welcome x).0 ((a.giving.welcome_kept x).0 h), λ h. (a.giving.welcome_kept x).1 ((k.same_welcome x).1 h));
+    }
+
+    -- what was given is a prefix
+    pub alone_prefix : GivesPrefix takes breaks start (problem_events p) out
+    alone_prefix = inl (a.done, engine.events, a.giving.order, a.giving.given)
+
   module _ (old new : Owing) (out : O) (counts : Counts) (a : IsAlone takes welcome faults start p old out counts) where
     module _ (ended : Bool) (before es : List Event) (none : before ≡ []) (s : Stretched ended before old es new) where
       events_now : old.events ≡ es ++ new.events

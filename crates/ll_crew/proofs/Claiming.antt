@@ -1,5 +1,5 @@
 -- How a claim goes, and a piece.
-use Rattle.std.proofs.Common.{◌≡◌, ℕ, List, Bool, ap, ◌∙◌, subst, inl, inr, Option, Some, None, Result, Ok, Err, IfOk}
+use Rattle.std.proofs.Common.{◌≡◌, ℕ, List, Bool, refl, ap, ◌∙◌, subst, inl, inr, Option, Some, None, Result, Ok, Err, IfOk}
 use Rattle.std.specs.Prelude.{IfSome, IfNone}
 use Rattle.std.specs.declared.sync.Arc.{Arc}
 use Rattle.std.specs.declared.alloc.Global.{Global}
@@ -15,7 +15,7 @@ use Rattle.ll_freeze.specs.Frozen.{FrozenSight, alternatives_in}
 use Rattle.ll_crew.specs.Seats.{Sat, asked, of_batch, HasLeft}
 use Rattle.ll_crew.specs.Leading.{Stands}
 use Rattle.ll_crew.specs.Leading as leading
-use Rattle.ll_crew.specs.Turns.{Stays, Leaves, Ended, Fails}
+use Rattle.ll_crew.specs.Turns.{Stays, Goes, Leaves, Ended, Fails}
 use Rattle.ll_engine.specs.Seen.{Owing}
 use Rattle.ll_crew.specs.Runs.{RunsTo, EndsTo, WentTo}
 use Rattle.ll_crew.specs.declared.lead.Told.{Told}
@@ -24,11 +24,14 @@ use Rattle.ll_crew.specs.declared.piece.Ending.TheVariants as ending
 use Rattle.ll_crew.specs.declared.piece.Ran.{Ran}
 use Rattle.ll_crew.specs.declared.worker.Went.{Went}
 use Rattle.ll_crew.specs.declared.piece.Ran.TheVariants.{Back}
-use Rattle.ll_crew.proofs.Calms.{same_on, turn_same, turn_seen, seen_sound, calm_claim}
+use Rattle.ll_crew.proofs.Calms.{same_itself, same_on, turn_same, turn_seen, seen_sound, calm_claim}
 use Rattle.ll_crew.proofs.Goings.{stands_calm, prefix_stands}
 
 pub some_of : {X : Type 0} (P : X → Type 0) (o : Option X) (x : X) → o ≡ Some x → IfSome o P → P x
 some_of P o x e h = subst (λ p. IfSome p P) e h
+
+pub none_of : {X : Type 0} {P : Type 0} (o : Option X) → o ≡ None → IfNone o P → P
+none_of {X} {P} o e h = subst (λ (p : Option X). IfNone p P) e h
 
 module _ {O : Type 0} (takes breaks : O → Event → O → Type 0) (welcome : O → Event → Type 0) (faults : O → ℕ) (start : O) (problem : ProblemTree) where
   abbrev Standing : Sat → O → Told → Type 0
@@ -94,6 +97,23 @@ stays_out x e leads leads' s a b is f g = record {
 pub stays_on : (x y : Type 0) (s a b : Sat) → Stays x s a → Stays y a b → Stays y s b
 stays_on x y s a b f g = record { same = same_on s a b f.same g.same; quit = g.quit ∙ f.quit; stands = g.stands }
 
+-- it stays where it is
+pub stays_here : (x : Type 0) (s : Sat) → x → Stays x s s
+stays_here x s stands = record { same = same_itself s; quit = refl; stands = stands }
+
+pub goes_stays : (x : Type 0) (s a : Sat) → Goes x s a → Stays x s a
+goes_stays x s a go = record { same = go.same; quit = go.quit; stands = go.stands }
+
+-- it goes on, and then has come to the end
+pub ended_on : (x y : Type 0) (problem : ProblemTree) (s a b : Sat) → Stays x s a → Ended y problem a b → Ended y problem s b
+ended_on x y problem s a b f g = record {
+  stays = stays_on x y s a b f g.stays;
+  piece = g.piece;
+  sound = g.sound;
+  untried = g.untried;
+  busy = g.busy;
+}
+
 -- want of memory: the pool is starved
 pub starve_fails : {O : Type 0} (takes breaks : O → Event → O → Type 0) (welcome : O → Event → Type 0) (faults : O
     → ℕ) (start : O) (problem : ProblemTree) (s a b : Sat) (out : O) (told : Told) → Stays (Stands takes breaks welcome faults start problem a out told) s a
@@ -131,3 +151,7 @@ none_on (Err e) P Q h f = tt
 pub went_as : (standing end : Type 0) (leads : Bool) (problem : ProblemTree) (went went' : Went) (s a : Sat) → went ≡ went'
     → WentTo standing end leads problem went s a → WentTo standing end leads problem went' s a
 went_as standing end leads problem went went' s a is r = subst (λ x. WentTo standing end leads problem x s a) is r
+
+pub ended_as : (standing end : Type 0) (leads : Bool) (problem : ProblemTree) (ended ended' : Ending) (s a : Sat) (events : List Event) → ended ≡ ended'
+    → EndsTo standing end leads problem ended s a events → EndsTo standing end leads problem ended' s a events
+ended_as standing end leads problem ended ended' s a events is r = subst (λ x. EndsTo standing end leads problem x s a events) is r

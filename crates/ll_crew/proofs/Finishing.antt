@@ -1,7 +1,10 @@
 -- Alternatives that a worker runs itself, one after the other.
 use Rattle.std.proofs.Common.{◌≡◌, ℕ, zero, suc, ◌+◌, ◌<◌, List, [], ◌∷◌, ◌++◌, take, length, refl, sym, ap, ◌∙◌, subst, arith, append_assoc, append-nil}
 use Rattle.std.proofs.Common.{Bool, true, false, Option, Some, None, IsSomeAnd, Result, Ok, Err, IfOk, OnOk, OnErr}
-use Rattle.std.specs.Prelude.{IsErr, slice_get}
+use Rattle.std.specs.Prelude.{IsErr, IfSome, slice_get}
+use Rattle.std.specs.Arc.{arc_value}
+use Rattle.std.specs.declared.sync.Arc.{Arc}
+use Rattle.std.specs.declared.alloc.Global.{Global}
 use Rattle.std.proofs.lemmas.Result.{IfOk-from_err}
 use Rattle.std.proofs.lemmas.List.{take_more}
 use Rattle.std.proofs.lemmas.List.Concat.{flat_map-append}
@@ -14,11 +17,16 @@ use Rattle.ll_laws.specs.Sound.{report_of}
 use Rattle.ll_core.proofs.CallerLemmas.{cut_sum, cut_twice}
 use Rattle.ll_pool.specs.declared.data.OpenPiece.{OpenPiece}
 use Rattle.ll_laws.specs.Problem.{ProblemTree}
+use Rattle.ll_freeze.specs.Frozen.{FrozenSight, alternatives_in}
 use Rattle.ll_engine.specs.Seen.{Owing}
 use Rattle.ll_engine.specs.Resumes.{Resumes}
 use Rattle.ll_crew.specs.Seats.{Sat}
 use Rattle.ll_crew.specs.Pieces.{IsKeptOf, Owes, OwesAll, Lacks, events_in, cost_in}
-use Rattle.ll_crew.specs.Runs.{RunsAlone, RunsOne, RunsFirst}
+use Rattle.ll_crew.specs.Runs.{RunsAlone, RunsOne, RunsAll, RunsFirst, EndsTo, Reports}
+use Rattle.ll_crew.specs.declared.piece.Ending.{Ending}
+use Rattle.ll_crew.specs.declared.piece.Ending.TheVariants as ending
+use Rattle.ll_crew.proofs.Calms.{same_on}
+use Rattle.ll_crew.proofs.Claiming.{ended_partly, some_on}
 
 one_more : (os : List (Owed Event)) (k : ℕ) (o : Owed Event) → slice_get os k ≡ Some o → take (k + 1) os ≡ take k os ++ o ∷ []
 one_more os k o e = take_more os k o (slice_get_within os k o e) ∙ ap (λ x. take k os ++ x ∷ []) (get_or_from_slice_get os k o o e)
@@ -131,6 +139,23 @@ lacks_none (Some x) piece' found after rest n m e h whole counted =
     let events = whole ∙ sym h.events in let cost = counted ∙ sym h.cost in
     subst (λ p. IsSomeAnd p (λ (x : OpenPiece). record { events = after; cost = m } ≡ report_of x.owes)) (sym e)
     (λ i. record { events = events i; cost = cost i })
+
+-- a piece that is to be closed once the batch that came back was run, too
+pub partly_reports : {E : Type 0} (x y end : Type 0) (leads : Bool) (problem : ProblemTree) (ended : Ending) (n : ℕ) (batch : Arc FrozenSight Global)
+    (s a b : Sat) (found events : List Event) (r : Result (Option ℕ) E) → ended ≡ ending.Partly n batch → EndsTo x end leads problem ended s a found
+    → IfOk r (λ o. IfSome o (λ m. RunsAll y a b found (events_in (alternatives_in (arc_value batch)))
+    (n + cost_in (alternatives_in (arc_value batch))) events m))
+    → IfOk r (λ o. IfSome o (λ m. Reports y s b events m))
+partly_reports x y end leads problem ended n batch s a b found events r is ends runs =
+    let first = ended_partly x end leads problem ended n batch s a found is ends in
+    some_on r (λ m. RunsAll y a b found (events_in (alternatives_in (arc_value batch))) (n + cost_in (alternatives_in (arc_value batch))) events m)
+    (λ m. Reports y s b events m) runs
+    (λ m all.
+    let stays = first.0 in let goes = all.goes in
+    record {
+      stays = record { same = same_on s a b stays.same goes.same; quit = goes.quit ∙ stays.quit; stands = goes.stands };
+      whole = lacks_none a.mine.piece b.mine.piece found events (alternatives_in (arc_value batch)) n m goes.piece first.1 all.whole all.counted;
+    })
 
 -- ---- of two values one is chosen
 

@@ -42,6 +42,17 @@ stretch_end before mid after old now new f g =
     let s : old.made + (old.cost - new.cost) ≡ old.made + old.cost = omega arith in
     (sym (append-nil after) ∙ (ap (λ l. after ++ l) (sym e.0) ∙ (g.events ∙ f.events)), all ∙ ap cut_count s)
 
+pub stretch_last : (done : Bool) (before mid after : List Event) (old now new : Owing) → Stretching before old mid now 0 → done ≡ true
+    → Stretched done mid now after new → (after ≡ before ++ old.events) × (cut_count new.made ≡ cut_count (old.made + old.cost))
+stretch_last done before mid after old now new f is g =
+    stretch_end before mid after old now new f (subst (λ d. Stretched d mid now after new) is g)
+
+-- before the first step
+pub stretching_starts : (before : List Event) (old : Owing) → Stretching before old before old 0
+stretching_starts before old =
+    let same : old.made ≡ old.made + (old.cost - old.cost) = omega arith in
+    record { problem = refl; events = refl; cost = omega arith; made = ap cut_count same; work = omega arith }
+
 -- what a piece owes goes along with its engine
 owes_stretch : (done : Bool) (x : OpenPiece) (found after : List Event) (old new : Owing) → Owes x found old [] → Stretched done found old after new
     → Owes x after new []

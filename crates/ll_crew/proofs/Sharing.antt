@@ -1,6 +1,6 @@
 -- What a piece owes once a batch was split off its engine.
 use Rattle.std.proofs.Common.{◌≡◌, ℕ, ◌<◌, List, [], ◌∷◌, ◌++◌, length, refl, sym, ap, ◌∙◌, subst, arith, append_assoc, append-nil, Option, Some, None}
-use Rattle.std.proofs.Common.{IsSomeAnd, Err}
+use Rattle.std.proofs.Common.{◌≤◌, le_trans, IsSomeAnd, Err}
 use Rattle.std.specs.Arc.{arc_value}
 use Rattle.std.specs.declared.sync.Arc.{Arc}
 use Rattle.std.specs.declared.alloc.Global.{Global}
@@ -95,3 +95,17 @@ module _ (events : List Event) (old new : Owing) (b : FrozenSight) (s : SplitsTo
 pub published : (piece : Option OpenPiece) (events : List Event) (old new : Owing) (shared : Shared) → shared ≡ Published → SharesTo piece events old new shared
     → OwesAfter piece events old new None × (new.points < old.points)
 published piece events old new shared e h = subst (SharesTo piece events old new) e h
+
+pub shares_as : (piece : Option OpenPiece) (events : List Event) (old new : Owing) (shared shared' : Shared) → shared ≡ shared'
+    → SharesTo piece events old new shared → SharesTo piece events old new shared'
+shares_as piece events old new shared shared' e h = subst (SharesTo piece events old new) e h
+
+-- after some sharings, and one more
+pub after_on : (piece : Option OpenPiece) (events : List Event) (old now new : Owing) (back : Option (Arc FrozenSight Global))
+    → now.problem ≡ old.problem → now.work ≤ old.work → OwesAfter piece events now new back → OwesAfter piece events old new back
+after_on piece events old now new back same less o = record {
+  owes = o.owes;
+  problem = o.problem ∙ same;
+  work = le_trans o.work less;
+  of = λ batch e. o.of batch e ∙ same;
+}

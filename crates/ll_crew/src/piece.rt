@@ -305,10 +305,7 @@ fn run_one<'p, R: Wait, O: Outlet>(
     let done = run_alone(job, seat, &mut engine, events, told, out);
     let inferences = engine.cost();
     keep(kept, engine);
-    if done? {
-        return Ok(Some(inferences));
-    }
-    Ok(None)
+    choose(done, Some(inferences), None)
 }
 
 // Runs each alternative of a batch to its end. Adds its events, and its inferences to those that there are, cut at the greatest `u64`.

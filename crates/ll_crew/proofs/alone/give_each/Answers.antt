@@ -1,6 +1,7 @@
 use Rattle.std.proofs.Common.{ap}
 use Rattle.std.specs.Prelude.{map}
 use Rattle.ll_crew.proofs.AloneLemmas.{alone_starts, alone_wants, alone_goes_on, alone_ends, alone_breaks}
+use Rattle.ll_crew.proofs.AloneLemmas.{alone_keeps, alone_keeps_on, alone_prefix}
 use Rattle.ll_crew.proofs.alone.give_each.Goals as goal
 
 pub stretches-init : goal.stretches-init
@@ -38,3 +39,26 @@ returns-in-Err-clause-refused g c =
     c.stretch.new.engine c.stretches.out c.stretches.counts c.stretches.invariant c.in-Ok.done (map g.O.Found.Notice.stands_for c.new-events.result.items)
     (map g.O.Found.Notice.stands_for c.stretch.new.events.items)
     (ap (map g.O.Found.Notice.stands_for) c.new-events.ensures.items) c.in-Ok.ensures c.give_some.new.out c.in-Err.ensures.refused
+
+pub returns-in_default-clause-refused : goal.returns-in_default-clause-refused
+returns-in_default-clause-refused g c =
+    alone_prefix g.O.Outlet.takes g.O.Outlet.breaks g.O.Outlet.welcome g.O.Outlet.faults c.args.out.now c.args.engine.now.problem c.stretches.engine
+    c.stretches.out c.stretches.counts c.stretches.invariant
+
+pub returns-in_default-clause-write : goal.returns-in_default-clause-write
+returns-in_default-clause-write g c = λ e. absurd (cc)
+
+pub returns-in_default-clause-kept : goal.returns-in_default-clause-kept
+returns-in_default-clause-kept g c =
+    alone_keeps g.O.Outlet.takes g.O.Outlet.breaks g.O.Outlet.welcome g.O.Outlet.faults c.args.out.now c.args.engine.now.problem c.stretches.engine
+    c.stretches.out c.stretches.counts c.stretches.invariant
+
+pub returns-in-Err-clause-kept : goal.returns-in-Err-clause-kept
+returns-in-Err-clause-kept g c =
+    alone_keeps_on g.O.Outlet.takes g.O.Outlet.breaks g.O.Outlet.welcome g.O.Outlet.faults c.args.out.now c.args.engine.now.problem c.stretches.engine
+    c.stretches.out c.stretches.counts c.stretches.invariant c.give_some.new.out c.give_some.ensures.kept
+
+pub returns-then-done-clause-kept : goal.returns-then-done-clause-kept
+returns-then-done-clause-kept g c =
+    alone_keeps_on g.O.Outlet.takes g.O.Outlet.breaks g.O.Outlet.welcome g.O.Outlet.faults c.args.out.now c.args.engine.now.problem c.stretches.engine
+    c.stretches.out c.stretches.counts c.stretches.invariant c.give_some.new.out c.give_some.ensures.kept

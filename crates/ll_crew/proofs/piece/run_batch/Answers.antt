@@ -1,8 +1,12 @@
 use Rattle.std.proofs.Common.{◌≡◌, ◌<◌, length, ap, ◌∙◌, arith, rules}
 use Rattle.std.specs.Prelude.{slice_get, map}
 use Rattle.std.specs.Arc.{arc_value}
+use Rattle.std.proofs.lemmas.Result.{IfOk-from_err}
+use Rattle.ll_lists.proofs.CallerLemmas.{OnErr-always}
 use Rattle.ll_freeze.specs.Frozen.{FrozenSight, alternatives_in}
 use Rattle.ll_crew.specs.Leading.{Stands}
+use Rattle.ll_crew.proofs.Calms.{seat_on}
+use Rattle.ll_crew.proofs.Claiming.{stays_on, goes_stays}
 use Rattle.ll_crew.proofs.Finishing.{at_place, runs_more}
 use Rattle.ll_crew.proofs.piece.run_batch.Goals as goal
 
@@ -26,3 +30,64 @@ loop-k-preserved g c =
           c.in-Some.more c.saturating_add-inferences.result at.1 i.2 one
           c.saturating_add-inferences.ensures,
     )
+
+pub returns-in_err-shared-clause-leads : goal.returns-in_err-shared-clause-leads
+returns-in_err-shared-clause-leads g c = let i = c.loop-k.invariant in i.0
+
+pub returns-in_err-shared-clause-kept : goal.returns-in_err-shared-clause-kept
+returns-in_err-shared-clause-kept g c = IfOk-from_err c.from_residual.result _ c.from_residual.ensures.0
+
+pub returns-in_err-shared-clause-some : goal.returns-in_err-shared-clause-some
+returns-in_err-shared-clause-some g c = IfOk-from_err c.from_residual.result _ c.from_residual.ensures.0
+
+pub returns-in_err-shared-clause-none : goal.returns-in_err-shared-clause-none
+returns-in_err-shared-clause-none g c = IfOk-from_err c.from_residual.result _ c.from_residual.ensures.0
+
+pub returns-in_err-shared-clause-failed : goal.returns-in_err-shared-clause-failed
+returns-in_err-shared-clause-failed g c =
+    let i = c.loop-k.invariant in let runs = i.2 in let goes = runs.goes in
+    OnErr-always c.from_residual.result (goes_stays _ c.args.seat.now c.loop-k.seat goes)
+
+pub run_one-requires-clause-suits : goal.run_one-requires-clause-suits
+run_one-requires-clause-suits g c κs within = c.requires.suits
+
+pub run_one-requires-clause-seat : goal.run_one-requires-clause-seat
+run_one-requires-clause-seat g c κs within =
+    let i = c.loop-k.invariant in let runs = i.2 in let goes = runs.goes in
+    seat_on c.args.job.now.pool.now c.args.job.now.problem.now c.args.seat.now c.loop-k.seat goes.same c.requires.seat
+
+pub run_one-requires-clause-stands : goal.run_one-requires-clause-stands
+run_one-requires-clause-stands g c κs within = let i = c.loop-k.invariant in let runs = i.2 in let goes = runs.goes in goes.stands
+
+pub run_one-requires-clause-kept : goal.run_one-requires-clause-kept
+run_one-requires-clause-kept g c κs within = let i = c.loop-k.invariant in i.1
+
+pub returns-in_err-more-clause-leads : goal.returns-in_err-more-clause-leads
+returns-in_err-more-clause-leads g c = let i = c.loop-k.invariant in c.run_one.ensures.leads ∙ i.0
+
+pub returns-in_err-more-clause-kept : goal.returns-in_err-more-clause-kept
+returns-in_err-more-clause-kept g c = IfOk-from_err c.from_residual-in_err-more.result _ c.from_residual-in_err-more.ensures.0
+
+pub returns-in_err-more-clause-some : goal.returns-in_err-more-clause-some
+returns-in_err-more-clause-some g c = IfOk-from_err c.from_residual-in_err-more.result _ c.from_residual-in_err-more.ensures.0
+
+pub returns-in_err-more-clause-none : goal.returns-in_err-more-clause-none
+returns-in_err-more-clause-none g c = IfOk-from_err c.from_residual-in_err-more.result _ c.from_residual-in_err-more.ensures.0
+
+pub returns-in_err-more-clause-failed : goal.returns-in_err-more-clause-failed
+returns-in_err-more-clause-failed g c =
+    let i = c.loop-k.invariant in let runs = i.2 in let goes = runs.goes in
+    OnErr-always c.from_residual-in_err-more.result
+    (stays_on _ _ c.args.seat.now c.loop-k.seat c.run_one.new.seat (goes_stays _ c.args.seat.now c.loop-k.seat goes) c.in_err-more.ensures.failed)
+
+pub returns-in_default-clause-leads : goal.returns-in_default-clause-leads
+returns-in_default-clause-leads g c = let i = c.loop-k.invariant in c.run_one.ensures.leads ∙ i.0
+
+pub returns-in_default-clause-kept : goal.returns-in_default-clause-kept
+returns-in_default-clause-kept g c = c.in_ok-more.ensures.kept
+
+pub returns-clause-leads : goal.returns-clause-leads
+returns-clause-leads g c = let i = c.loop-k.invariant in i.0
+
+pub returns-clause-kept : goal.returns-clause-kept
+returns-clause-kept g c = let i = c.loop-k.invariant in i.1

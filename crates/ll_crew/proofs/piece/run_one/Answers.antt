@@ -1,19 +1,70 @@
-use Rattle.std.proofs.Common.{subst, sym, ◌∙◌}
+use Rattle.std.specs.Prelude.{map, slice_get, IfSome, IfNone}
+use Rattle.std.proofs.Common.{◌≡◌, ℕ, ◌∙◌, subst, sym, refl, true, false, Option, Some, None}
+use Rattle.std.proofs.lemmas.Result.{IfOk-from_err}
+use Rattle.std.specs.Arc.{arc_value}
+use Rattle.ll_lists.proofs.CallerLemmas.{OnOk-weaker, OnErr-always}
+use Rattle.ll_laws.specs.declared.Event.{Event}
+use Rattle.ll_laws.specs.Pool.{Owed}
+use Rattle.ll_freeze.specs.Frozen.{alternatives_in}
+use Rattle.ll_crew.specs.Leading.{Stands, Stopped}
+use Rattle.ll_crew.specs.Turns.{Leaves}
 use Rattle.ll_crew.specs.Pieces.{IsKeptOf}
-use Rattle.ll_crew.proofs.Finishing.{one_run}
+use Rattle.ll_crew.specs.Runs.{RunsOne}
+use Rattle.ll_crew.proofs.Claiming.{stays_here}
+use Rattle.ll_crew.proofs.Finishing.{one_run, chosen_holds, chosen_on, chosen_fails, done_of}
 use Rattle.ll_crew.proofs.piece.run_one.Goals as goal
 
-pub returns-then-branch-clause-kept : goal.returns-then-branch-clause-kept
-returns-then-branch-clause-kept g c =
-    subst (IsKeptOf c.args.job.now.problem.now) (sym c.keep.ensures) (c.in_ok-done.ensures.problem ∙ c.in_ok-engine.ensures.problem)
+pub returns-in_err-engine-clause-leads : goal.returns-in_err-engine-clause-leads
+returns-in_err-engine-clause-leads g c = refl
 
-pub returns-then-branch-clause-some : goal.returns-then-branch-clause-some
-returns-then-branch-clause-some g c = λ owes at.
-    one_run _ _ _ owes _ _ _ _ _ _ (c.in_ok-engine.ensures.owes owes at) (c.in_ok-done.ensures.done c.if-branch.true) c.cost-inferences.ensures
+pub returns-in_err-engine-clause-kept : goal.returns-in_err-engine-clause-kept
+returns-in_err-engine-clause-kept g c = IfOk-from_err c.from_residual.result _ c.from_residual.ensures.0
+
+pub returns-in_err-engine-clause-some : goal.returns-in_err-engine-clause-some
+returns-in_err-engine-clause-some g c = IfOk-from_err c.from_residual.result _ c.from_residual.ensures.0
+
+pub returns-in_err-engine-clause-none : goal.returns-in_err-engine-clause-none
+returns-in_err-engine-clause-none g c = IfOk-from_err c.from_residual.result _ c.from_residual.ensures.0
+
+pub returns-in_err-engine-clause-failed : goal.returns-in_err-engine-clause-failed
+returns-in_err-engine-clause-failed g c = OnErr-always c.from_residual.result (stays_here _ c.args.seat.now c.requires.stands)
+
+pub returns-clause-leads : goal.returns-clause-leads
+returns-clause-leads g c = c.run_alone-done.ensures.leads
 
 pub returns-clause-kept : goal.returns-clause-kept
 returns-clause-kept g c =
-    subst (IsKeptOf c.args.job.now.problem.now) (sym c.keep.ensures) (c.in_ok-done.ensures.problem ∙ c.in_ok-engine.ensures.problem)
+    let alone = c.run_alone-done.ensures in let chosen = c.choose.ensures in
+    chosen_on _ c.run_alone-done.result c.choose.result chosen.failed
+    (OnOk-weaker c.run_alone-done.result
+    (λ is. subst (IsKeptOf c.args.job.now.problem.now) (sym c.keep.ensures) (is ∙ c.in_ok-engine.ensures.problem)) alone.problem)
+
+pub returns-clause-some : goal.returns-clause-some
+returns-clause-some g c =
+    let alone = c.run_alone-done.ensures in let chosen = c.choose.ensures in
+    chosen_holds
+    (λ (x : Option ℕ). IfSome x (λ n. (owes : Owed Event) → slice_get (alternatives_in (arc_value c.args.batch)) c.args.k ≡ Some owes → RunsOne
+    (Stands g.O.Outlet.takes g.O.Outlet.breaks g.O.Outlet.welcome g.O.Outlet.faults c.args.job.now.start.now.value
+    c.args.job.now.problem.now c.run_alone-done.new.seat c.run_alone-done.new.out c.run_alone-done.new.told)
+    c.args.seat.now c.run_alone-done.new.seat (map g.O.Found.Notice.stands_for c.args.events.now.items) owes
+    (map g.O.Found.Notice.stands_for c.run_alone-done.new.events.items) n))
+    c.run_alone-done.result c.choose.result (Some c.cost-inferences.result) None chosen.yes chosen.no chosen.failed
+    (λ is owes at. one_run _ _ _ owes _ _ _ _ _ _ (c.in_ok-engine.ensures.owes owes at) (done_of _ c.run_alone-done.result true is alone.done refl)
+    c.cost-inferences.ensures)
+    (λ is. tt)
 
 pub returns-clause-none : goal.returns-clause-none
-returns-clause-none g c = c.in_ok-done.ensures.left c.if-branch.false
+returns-clause-none g c =
+    let alone = c.run_alone-done.ensures in let chosen = c.choose.ensures in
+    chosen_holds
+    (λ (x : Option ℕ). IfNone x (Leaves
+    (Stopped g.O.Outlet.takes g.O.Outlet.breaks g.O.Outlet.welcome g.O.Outlet.faults c.args.job.now.start.now.value
+    c.args.job.now.problem.now c.run_alone-done.new.out c.run_alone-done.new.told) c.args.told.now.leads c.args.seat.now
+    c.run_alone-done.new.seat))
+    c.run_alone-done.result c.choose.result (Some c.cost-inferences.result) None chosen.yes chosen.no chosen.failed
+    (λ is. tt) (λ is. done_of _ c.run_alone-done.result false is alone.left refl)
+
+pub returns-clause-failed : goal.returns-clause-failed
+returns-clause-failed g c =
+    let chosen = c.choose.ensures in
+    chosen_fails _ c.run_alone-done.result c.choose.result (Some c.cost-inferences.result) None chosen.yes chosen.no c.run_alone-done.ensures.failed

@@ -1,7 +1,10 @@
 use Rattle.std.specs.Prelude.{map}
-use Rattle.std.proofs.Common.{◌∙◌, refl, le_refl, le_trans}
-use Rattle.ll_crew.proofs.Calms.{calm_itself, calm_on}
-use Rattle.ll_crew.proofs.Sharing.{published}
+use Rattle.std.proofs.Common.{◌∙◌, refl, sym, subst, le_refl, le_trans, Some, None}
+use Rattle.std.proofs.lemmas.Result.{IfOk-from_err}
+use Rattle.ll_crew.specs.Seats.{IsSeat}
+use Rattle.ll_crew.specs.declared.piece.Shared.TheVariants as shared
+use Rattle.ll_crew.proofs.Calms.{calm_itself, calm_on, seat_on}
+use Rattle.ll_crew.proofs.Sharing.{published, shares_as, after_on}
 use Rattle.ll_crew.proofs.piece.share.Goals as goal
 
 pub points-init : goal.points-init
@@ -29,3 +32,42 @@ points-preserved g c =
     c.in-Published.is c.in_ok-share_oldest.ensures.owes in
     let o = s.0 in
     (calm_on c.args.seat.now c.points.seat c.share_oldest.new.seat i.0 c.share_oldest.ensures.calm, o.problem ∙ i.1, le_trans o.work i.2, o.owes)
+
+pub returns-in_err-share_oldest-clause-owes : goal.returns-in_err-share_oldest-clause-owes
+returns-in_err-share_oldest-clause-owes g c = IfOk-from_err c.from_residual.result _ c.from_residual.ensures.0
+
+pub share_oldest-requires-clause-seat : goal.share_oldest-requires-clause-seat
+share_oldest-requires-clause-seat g c κs within =
+    let i = c.points.invariant in let calm = i.0 in
+    subst (λ problem. IsSeat c.args.job.now.pool.now problem c.points.seat) (sym i.1)
+    (seat_on c.args.job.now.pool.now c.args.engine.now.problem c.args.seat.now c.points.seat calm.same c.requires.seat)
+
+pub share_oldest-requires-clause-owes : goal.share_oldest-requires-clause-owes
+share_oldest-requires-clause-owes g c κs within = let i = c.points.invariant in i.3
+
+pub returns-in-Nothing-clause-owes : goal.returns-in-Nothing-clause-owes
+returns-in-Nothing-clause-owes g c =
+    let i = c.points.invariant in
+    let events = map g.O.Found.Notice.stands_for c.args.events.now.items in
+    let shares = shares_as c.share_oldest.new.seat.mine.piece events c.points.engine c.share_oldest.new.engine
+    c.in_ok-share_oldest.field-0 shared.Nothing c.in-Nothing.is c.in_ok-share_oldest.ensures.owes in
+    after_on c.share_oldest.new.seat.mine.piece events c.args.engine.now c.points.engine c.share_oldest.new.engine
+    None i.1 i.2 shares
+
+pub returns-then-not-all-clause-owes : goal.returns-then-not-all-clause-owes
+returns-then-not-all-clause-owes g c =
+    let i = c.points.invariant in
+    let events = map g.O.Found.Notice.stands_for c.args.events.now.items in
+    let shares = shares_as c.share_oldest.new.seat.mine.piece events c.points.engine c.share_oldest.new.engine
+    c.in_ok-share_oldest.field-0 shared.Published c.in-Published.is c.in_ok-share_oldest.ensures.owes in
+    after_on c.share_oldest.new.seat.mine.piece events c.args.engine.now c.points.engine c.share_oldest.new.engine
+    None i.1 i.2 shares.0
+
+pub returns-in-Back-clause-owes : goal.returns-in-Back-clause-owes
+returns-in-Back-clause-owes g c =
+    let i = c.points.invariant in
+    let events = map g.O.Found.Notice.stands_for c.args.events.now.items in
+    let shares = shares_as c.share_oldest.new.seat.mine.piece events c.points.engine c.share_oldest.new.engine
+    c.in_ok-share_oldest.field-0 (shared.Back c.in-Back.batch) c.in-Back.is c.in_ok-share_oldest.ensures.owes in
+    after_on c.share_oldest.new.seat.mine.piece events c.args.engine.now c.points.engine c.share_oldest.new.engine
+    (Some c.in-Back.batch) i.1 i.2 shares

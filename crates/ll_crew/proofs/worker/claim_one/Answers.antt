@@ -1,7 +1,9 @@
 use Rattle.std.proofs.Common.{◌∙◌, refl}
+use Rattle.std.proofs.lemmas.Result.{IfOk-from_err}
 use Rattle.ll_lists.proofs.CallerLemmas.{OnErr-always}
 use Rattle.ll_core.specs.declared.answers.Claimed.TheVariants as claims
 use Rattle.ll_crew.specs.Leading.{Stands, Stopped}
+use Rattle.ll_crew.proofs.Calms.{seat_on, calm_claim}
 use Rattle.ll_crew.proofs.Goings.{stays_goes}
 use Rattle.ll_crew.proofs.Claiming.{stays_on, stays_out, claim_stands, claim_stays, claim_ended, claim_starved, claim_stopped}
 use Rattle.ll_crew.proofs.worker.claim_one.Goals as goal
@@ -102,3 +104,78 @@ returns-else-tell-clause-went g c =
     (claim_stays g.O.Outlet.takes g.O.Outlet.breaks g.O.Outlet.welcome g.O.Outlet.faults c.args.job.now.start.now.value c.args.job.now.problem.now
     (claims.Idle c.in-Idle.busy) c.args.seat.now c.claim.new.seat c.args.out.now c.args.told.now
     c.in-Idle.ensures.turn seat.problem c.requires.stands) (c.tell.ensures.left c.if-tell.false)
+
+pub returns-in_err-work_piece-in-Work-clause-leads : goal.returns-in_err-work_piece-in-Work-clause-leads
+returns-in_err-work_piece-in-Work-clause-leads g c = c.work_piece.ensures.leads
+
+pub returns-in_err-work_piece-in-Work-clause-kept : goal.returns-in_err-work_piece-in-Work-clause-kept
+returns-in_err-work_piece-in-Work-clause-kept g c = IfOk-from_err c.from_residual.result _ c.from_residual.ensures.0
+
+pub returns-in_err-work_piece-in-Work-clause-went : goal.returns-in_err-work_piece-in-Work-clause-went
+returns-in_err-work_piece-in-Work-clause-went g c = IfOk-from_err c.from_residual.result _ c.from_residual.ensures.0
+
+pub returns-then-branch-clause-leads : goal.returns-then-branch-clause-leads
+returns-then-branch-clause-leads g c = c.work_piece.ensures.leads
+
+pub returns-then-branch-clause-kept : goal.returns-then-branch-clause-kept
+returns-then-branch-clause-kept g c = c.in_ok-work_piece-in-Work.ensures.kept
+
+pub returns-then-tell-clause-leads : goal.returns-then-tell-clause-leads
+returns-then-tell-clause-leads g c = c.tell.ensures.leads
+
+pub returns-then-tell-clause-kept : goal.returns-then-tell-clause-kept
+returns-then-tell-clause-kept g c = c.requires.kept
+
+pub returns-else-branch-clause-leads : goal.returns-else-branch-clause-leads
+returns-else-branch-clause-leads g c = c.work_piece.ensures.leads
+
+pub returns-else-branch-clause-kept : goal.returns-else-branch-clause-kept
+returns-else-branch-clause-kept g c = c.in_ok-work_piece-in-Work.ensures.kept
+
+pub returns-else-tell-clause-leads : goal.returns-else-tell-clause-leads
+returns-else-tell-clause-leads g c = c.tell.ensures.leads
+
+pub returns-else-tell-clause-kept : goal.returns-else-tell-clause-kept
+returns-else-tell-clause-kept g c = c.requires.kept
+
+pub returns-in-Finished-clause-leads : goal.returns-in-Finished-clause-leads
+returns-in-Finished-clause-leads g c = refl
+
+pub returns-in-Finished-clause-kept : goal.returns-in-Finished-clause-kept
+returns-in-Finished-clause-kept g c = c.requires.kept
+
+pub returns-in-Starved-clause-leads : goal.returns-in-Starved-clause-leads
+returns-in-Starved-clause-leads g c = refl
+
+pub returns-in-Starved-clause-kept : goal.returns-in-Starved-clause-kept
+returns-in-Starved-clause-kept g c = c.requires.kept
+
+pub returns-in-Stopped-clause-leads : goal.returns-in-Stopped-clause-leads
+returns-in-Stopped-clause-leads g c = refl
+
+pub returns-in-Stopped-clause-kept : goal.returns-in-Stopped-clause-kept
+returns-in-Stopped-clause-kept g c = c.requires.kept
+
+pub work_piece-requires-clause-suits : goal.work_piece-requires-clause-suits
+work_piece-requires-clause-suits g c κs within = c.requires.suits
+
+pub work_piece-requires-clause-kept : goal.work_piece-requires-clause-kept
+work_piece-requires-clause-kept g c κs within = c.requires.kept
+
+pub claim-requires-clause-own : goal.claim-requires-clause-own
+claim-requires-clause-own g c κs within = let can = c.requires.seat in let seat = can.seat in seat.table
+
+pub claim-requires-clause-rests : goal.claim-requires-clause-rests
+claim-requires-clause-rests g c κs within = let can = c.requires.seat in can.rests
+
+pub work_piece-requires-clause-seat : goal.work_piece-requires-clause-seat
+work_piece-requires-clause-seat g c κs within =
+    let can = c.requires.seat in
+    let calm = calm_claim (claims.Work c.in-Work.piece c.in-Work.batch c.in-Work.k) c.args.seat.now c.claim.new.seat c.in-Work.ensures.turn in
+    seat_on c.args.job.now.pool.now c.args.job.now.problem.now c.args.seat.now c.claim.new.seat calm.same can.seat
+
+pub tell-requires-clause-seat : goal.tell-requires-clause-seat
+tell-requires-clause-seat g c κs within =
+    let can = c.requires.seat in
+    let calm = calm_claim (claims.Idle c.in-Idle.busy) c.args.seat.now c.claim.new.seat c.in-Idle.ensures.turn in
+    seat_on c.args.job.now.pool.now c.args.job.now.problem.now c.args.seat.now c.claim.new.seat calm.same can.seat

@@ -1,8 +1,11 @@
-use Rattle.std.proofs.Common.{◌∙◌}
+use Rattle.std.proofs.Common.{◌∙◌, sym}
+use Rattle.std.proofs.lemmas.Bool.{true≢false}
+use Rattle.std.proofs.lemmas.Result.{IfOk-from_err}
 use Rattle.ll_lists.proofs.CallerLemmas.{OnErr-always}
 use Rattle.ll_crew.specs.Leading.{Stands, Stopped}
 use Rattle.ll_crew.specs.declared.worker.Went.TheVariants as went
-use Rattle.ll_crew.proofs.Claiming.{stays_on, stays_out, went_as}
+use Rattle.ll_crew.proofs.Calms.{seat_on}
+use Rattle.ll_crew.proofs.Claiming.{stays_on, stays_out, ended_on, went_as}
 use Rattle.ll_crew.proofs.worker.work_with.Goals as goal
 
 pub returns-in_err-claim_one-clause-failed : goal.returns-in_err-claim_one-clause-failed
@@ -60,3 +63,49 @@ returns-in-Left-clause-left g c = λ f.
     (Stopped g.O.Outlet.takes g.O.Outlet.breaks g.O.Outlet.welcome g.O.Outlet.faults c.args.job.now.start.now.value c.args.job.now.problem.now
     c.claim_one.new.out c.claim_one.new.told) c.claims.told.leads c.args.job.now.problem.now
     c.in_ok-claim_one.field-0 went.Left c.claims.seat c.claim_one.new.seat c.in-Left.is c.in_ok-claim_one.ensures.went)
+
+pub claim_one-requires-clause-suits : goal.claim_one-requires-clause-suits
+claim_one-requires-clause-suits g c κs within = c.requires.suits
+
+pub claim_one-requires-clause-seat : goal.claim_one-requires-clause-seat
+claim_one-requires-clause-seat g c κs within =
+    let i = c.claims.invariant in let stays = i.1 in let can = c.requires.seat in
+    record { seat = seat_on c.args.job.now.pool.now c.args.job.now.problem.now c.args.seat.now c.claims.seat stays.same can.seat; rests = i.2 }
+
+pub claim_one-requires-clause-stands : goal.claim_one-requires-clause-stands
+claim_one-requires-clause-stands g c κs within = let i = c.claims.invariant in let stays = i.1 in stays.stands
+
+pub claim_one-requires-clause-kept : goal.claim_one-requires-clause-kept
+claim_one-requires-clause-kept g c κs within = let i = c.claims.invariant in i.3
+
+pub returns-in_err-claim_one-clause-leads : goal.returns-in_err-claim_one-clause-leads
+returns-in_err-claim_one-clause-leads g c = let i = c.claims.invariant in c.claim_one.ensures.leads ∙ i.0
+
+pub returns-in_err-claim_one-clause-done : goal.returns-in_err-claim_one-clause-done
+returns-in_err-claim_one-clause-done g c = IfOk-from_err c.from_residual.result _ c.from_residual.ensures.0
+
+pub returns-in_err-claim_one-clause-left : goal.returns-in_err-claim_one-clause-left
+returns-in_err-claim_one-clause-left g c = IfOk-from_err c.from_residual.result _ c.from_residual.ensures.0
+
+pub returns-in-Ended-clause-leads : goal.returns-in-Ended-clause-leads
+returns-in-Ended-clause-leads g c = let i = c.claims.invariant in c.claim_one.ensures.leads ∙ i.0
+
+pub returns-in-Ended-clause-left : goal.returns-in-Ended-clause-left
+returns-in-Ended-clause-left g c = λ e. absurd (true≢false e)
+
+pub returns-in-Left-clause-leads : goal.returns-in-Left-clause-leads
+returns-in-Left-clause-leads g c = let i = c.claims.invariant in c.claim_one.ensures.leads ∙ i.0
+
+pub returns-in-Left-clause-done : goal.returns-in-Left-clause-done
+returns-in-Left-clause-done g c = λ e. absurd (true≢false (sym e))
+
+pub returns-in-Ended-clause-done : goal.returns-in-Ended-clause-done
+returns-in-Ended-clause-done g c = λ e.
+    let i = c.claims.invariant in
+    ended_on _ (Stands g.O.Outlet.takes g.O.Outlet.breaks g.O.Outlet.welcome g.O.Outlet.faults c.args.job.now.start.now.value c.args.job.now.problem.now
+    c.claim_one.new.seat c.claim_one.new.out c.claim_one.new.told) c.args.job.now.problem.now c.args.seat.now c.claims.seat c.claim_one.new.seat i.1
+    (went_as (Stands g.O.Outlet.takes g.O.Outlet.breaks g.O.Outlet.welcome g.O.Outlet.faults c.args.job.now.start.now.value c.args.job.now.problem.now
+    c.claim_one.new.seat c.claim_one.new.out c.claim_one.new.told)
+    (Stopped g.O.Outlet.takes g.O.Outlet.breaks g.O.Outlet.welcome g.O.Outlet.faults c.args.job.now.start.now.value c.args.job.now.problem.now
+    c.claim_one.new.out c.claim_one.new.told) c.claims.told.leads c.args.job.now.problem.now
+    c.in_ok-claim_one.field-0 went.Ended c.claims.seat c.claim_one.new.seat c.in-Ended.is c.in_ok-claim_one.ensures.went)

@@ -1,0 +1,53 @@
+use Rattle.std.proofs.Common.{◌∙◌}
+use Rattle.std.proofs.lemmas.Result.{IfOk-from_err}
+use Rattle.ll_lists.proofs.CallerLemmas.{OnErr-always}
+use Rattle.ll_crew.specs.declared.piece.Ending.TheVariants as ending
+use Rattle.ll_crew.proofs.Claiming.{ended_as}
+use Rattle.ll_crew.proofs.Finishing.{partly_reports}
+use Rattle.ll_crew.proofs.piece.run_piece.Goals as goal
+
+pub returns-in_err-inferences-clause-leads : goal.returns-in_err-inferences-clause-leads
+returns-in_err-inferences-clause-leads g c = c.run_claimed.ensures.leads
+
+pub returns-in_err-inferences-clause-kept : goal.returns-in_err-inferences-clause-kept
+returns-in_err-inferences-clause-kept g c = IfOk-from_err c.from_residual.result _ c.from_residual.ensures.0
+
+pub returns-in_err-inferences-clause-some : goal.returns-in_err-inferences-clause-some
+returns-in_err-inferences-clause-some g c = IfOk-from_err c.from_residual.result _ c.from_residual.ensures.0
+
+pub returns-in_err-inferences-clause-none : goal.returns-in_err-inferences-clause-none
+returns-in_err-inferences-clause-none g c = IfOk-from_err c.from_residual.result _ c.from_residual.ensures.0
+
+pub returns-in_err-inferences-clause-failed : goal.returns-in_err-inferences-clause-failed
+returns-in_err-inferences-clause-failed g c = OnErr-always c.from_residual.result c.in_err-inferences.ensures.failed
+
+pub returns-in-Partly-clause-leads : goal.returns-in-Partly-clause-leads
+returns-in-Partly-clause-leads g c = c.run_batch-ran.ensures.leads ∙ c.run_claimed.ensures.leads
+
+pub returns-in-Whole-clause-leads : goal.returns-in-Whole-clause-leads
+returns-in-Whole-clause-leads g c = c.run_claimed.ensures.leads
+
+pub returns-in-Whole-clause-kept : goal.returns-in-Whole-clause-kept
+returns-in-Whole-clause-kept g c = c.in_ok-inferences.ensures.kept
+
+pub returns-in-Left-clause-leads : goal.returns-in-Left-clause-leads
+returns-in-Left-clause-leads g c = c.run_claimed.ensures.leads
+
+pub returns-in-Left-clause-kept : goal.returns-in-Left-clause-kept
+returns-in-Left-clause-kept g c = c.in_ok-inferences.ensures.kept
+
+pub returns-in-Whole-clause-some : goal.returns-in-Whole-clause-some
+returns-in-Whole-clause-some g c =
+    ended_as _ _ _ _ c.in_ok-inferences.field-0 (ending.Whole c.in-Whole.inferences) _ _ _ c.in-Whole.is c.in_ok-inferences.ensures.ends
+
+pub returns-in-Left-clause-none : goal.returns-in-Left-clause-none
+returns-in-Left-clause-none g c =
+    ended_as _ _ _ _ c.in_ok-inferences.field-0 ending.Left _ _ _ c.in-Left.is c.in_ok-inferences.ensures.ends
+
+pub returns-in-Partly-clause-kept : goal.returns-in-Partly-clause-kept
+returns-in-Partly-clause-kept g c = c.run_batch-ran.ensures.kept
+
+pub returns-in-Partly-clause-some : goal.returns-in-Partly-clause-some
+returns-in-Partly-clause-some g c =
+    partly_reports _ _ _ _ _ c.in_ok-inferences.field-0 c.in-Partly.inferences c.in-Partly.back c.args.seat.now c.run_claimed.new.seat
+    c.run_batch-ran.new.seat _ _ c.run_batch-ran.result c.in-Partly.is c.in_ok-inferences.ensures.ends c.run_batch-ran.ensures.some

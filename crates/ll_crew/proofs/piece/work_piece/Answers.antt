@@ -1,0 +1,57 @@
+use Rattle.std.proofs.Common.{◌∙◌, refl, sym}
+use Rattle.std.proofs.lemmas.Bool.{true≢false}
+use Rattle.std.proofs.lemmas.Result.{IfOk-from_err}
+use Rattle.ll_lists.proofs.CallerLemmas.{OnErr-always}
+use Rattle.ll_crew.proofs.Claiming.{some_of, none_of, stays_here, stays_on, stays_out}
+use Rattle.ll_crew.proofs.piece.work_piece.Goals as goal
+
+pub returns-in_err-batch-clause-leads : goal.returns-in_err-batch-clause-leads
+returns-in_err-batch-clause-leads g c = refl
+
+pub returns-in_err-batch-clause-kept : goal.returns-in_err-batch-clause-kept
+returns-in_err-batch-clause-kept g c = IfOk-from_err c.from_residual.result _ c.from_residual.ensures.0
+
+pub returns-in_err-batch-clause-done : goal.returns-in_err-batch-clause-done
+returns-in_err-batch-clause-done g c = IfOk-from_err c.from_residual.result _ c.from_residual.ensures.0
+
+pub returns-in_err-batch-clause-left : goal.returns-in_err-batch-clause-left
+returns-in_err-batch-clause-left g c = IfOk-from_err c.from_residual.result _ c.from_residual.ensures.0
+
+pub returns-in_err-batch-clause-failed : goal.returns-in_err-batch-clause-failed
+returns-in_err-batch-clause-failed g c = OnErr-always c.from_residual.result (stays_here _ c.args.seat.now c.requires.stands)
+
+pub returns-in-Ok-Some-clause-leads : goal.returns-in-Ok-Some-clause-leads
+returns-in-Ok-Some-clause-leads g c = c.report.ensures.leads ∙ c.run_piece.ensures.leads
+
+pub returns-in-Ok-Some-clause-kept : goal.returns-in-Ok-Some-clause-kept
+returns-in-Ok-Some-clause-kept g c = c.in-Ok-Some.ensures.kept
+
+pub returns-in-Ok-Some-clause-done : goal.returns-in-Ok-Some-clause-done
+returns-in-Ok-Some-clause-done g c = λ e.
+    let reports = some_of _ c.in-Ok-Some.field-0 c.in-Ok-Some.inferences c.in-Ok-Some.field-0-is c.in-Ok-Some.ensures.some in
+    let done = c.report.ensures.done e in
+    (stays_on _ _ c.args.seat.now c.run_piece.new.seat c.report.new.seat reports.stays done.0, done.1)
+
+pub returns-in-Ok-Some-clause-left : goal.returns-in-Ok-Some-clause-left
+returns-in-Ok-Some-clause-left g c = λ e.
+    let reports = some_of _ c.in-Ok-Some.field-0 c.in-Ok-Some.inferences c.in-Ok-Some.field-0-is c.in-Ok-Some.ensures.some in
+    stays_out _ _ c.run_piece.new.told.leads c.args.told.now.leads c.args.seat.now c.run_piece.new.seat c.report.new.seat c.run_piece.ensures.leads
+    reports.stays (c.report.ensures.left e)
+
+pub returns-in-Ok-None-clause-leads : goal.returns-in-Ok-None-clause-leads
+returns-in-Ok-None-clause-leads g c = c.run_piece.ensures.leads
+
+pub returns-in-Ok-None-clause-kept : goal.returns-in-Ok-None-clause-kept
+returns-in-Ok-None-clause-kept g c = c.in-Ok-None.ensures.kept
+
+pub returns-in-Ok-None-clause-done : goal.returns-in-Ok-None-clause-done
+returns-in-Ok-None-clause-done g c = λ e. absurd (true≢false (sym e))
+
+pub returns-in-Ok-None-clause-left : goal.returns-in-Ok-None-clause-left
+returns-in-Ok-None-clause-left g c = λ e. none_of c.in-Ok-None.field-0 c.in-Ok-None.field-0-is c.in-Ok-None.ensures.none
+
+pub returns-in-Err-clause-leads : goal.returns-in-Err-clause-leads
+returns-in-Err-clause-leads g c = c.run_piece.ensures.leads
+
+pub returns-in-Err-clause-failed : goal.returns-in-Err-clause-failed
+returns-in-Err-clause-failed g c = c.in-Err.ensures.failed

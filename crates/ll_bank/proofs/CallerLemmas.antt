@@ -15,9 +15,9 @@ pub use Rattle.ll_bank.proofs.BankLemmas.{HasSize-front}
 -- a bank cut to its own size is itself
 pub use Rattle.ll_bank.proofs.BankLemmas.{cut_same}
 -- below a place of a term there are places of terms
-pub use Rattle.ll_bank.proofs.OpenLemmas.{HasTerm-below}
+pub use Rattle.ll_bank.proofs.PartLemmas.{HasTerm-below}
 -- below a place of a formula there are places of formulas
-pub use Rattle.ll_bank.proofs.OpenLemmas.{HasForm-below}
+pub use Rattle.ll_bank.proofs.PartLemmas.{HasForm-below}
 -- ---- what its places show as it grows
 
 -- a place of a term stays one
@@ -71,61 +71,57 @@ pub use Rattle.ll_bank.proofs.Trees.{applies_heads-term_tree}
 -- in a formula of a bank nothing but a head has arguments
 pub use Rattle.ll_bank.proofs.Trees.{form_applies_heads-form_tree}
 -- where nothing but heads has arguments in an application, the same is so of each of its arguments
-pub use Rattle.ll_bank.proofs.OpenLemmas.{heads_args}
+pub use Rattle.ll_bank.proofs.PartLemmas.{heads_args}
 -- a term that gets arguments begins with a head
-pub use Rattle.ll_bank.proofs.OpenLemmas.{spine_of_value}
+pub use Rattle.ll_bank.proofs.PartLemmas.{spine_of_value}
 -- arguments behind arguments are given one list after the other
-pub use Rattle.ll_bank.proofs.OpenLemmas.{apply-append}
+pub use Rattle.ll_bank.proofs.PartLemmas.{apply-append}
 -- an application that gets more arguments has them behind its own
-pub use Rattle.ll_bank.proofs.OpenLemmas.{more_args}
+pub use Rattle.ll_bank.proofs.PartLemmas.{more_args}
 -- closing an application closes what is applied and each argument
-pub use Rattle.ll_bank.proofs.OpenLemmas.{close-apply}
+pub use Rattle.ll_bank.proofs.PartLemmas.{close-apply}
 -- a closed application is its closed head at its closed arguments
-pub use Rattle.ll_bank.proofs.OpenLemmas.{opened_app}
+pub use Rattle.ll_bank.proofs.PartLemmas.{opened_app}
 -- where closed terms give arguments to heads alone, so does each of the closed terms
-pub use Rattle.ll_bank.proofs.OpenLemmas.{load_heads}
+pub use Rattle.ll_bank.proofs.PartLemmas.{load_heads}
 -- ---- nodes and views
 
 -- the term node that is read at a place is the one that stands there
-pub use Rattle.ll_bank.proofs.WalkLemmas.{node_seen}
+pub use Rattle.ll_bank.proofs.PartLemmas.{node_seen}
 -- the formula node that is read at a place is the one that stands there
-pub use Rattle.ll_bank.proofs.OpenLemmas.{form_node_seen}
+pub use Rattle.ll_bank.proofs.PartLemmas.{form_node_seen}
 -- formula nodes that compare as equal are the same node
-pub use Rattle.ll_bank.proofs.OpenLemmas.{same_node}
+pub use Rattle.ll_bank.proofs.PartLemmas.{same_node}
 -- equal formula nodes build one formula
-pub use Rattle.ll_bank.proofs.OpenLemmas.{same_form_of}
+pub use Rattle.ll_bank.proofs.PartLemmas.{same_form_of}
 -- views of terms that compare as equal are of the same node
-pub use Rattle.ll_bank.proofs.OpenLemmas.{same_view}
+pub use Rattle.ll_bank.proofs.PartLemmas.{same_view}
 -- heads that compare as equal are one
-pub use Rattle.ll_bank.proofs.OpenLemmas.{same_heads}
+pub use Rattle.ll_bank.proofs.PartLemmas.{same_heads}
 -- a view of an application shows its head at the terms of its arguments
-pub use Rattle.ll_bank.proofs.OpenLemmas.{same_term_of}
+pub use Rattle.ll_bank.proofs.PartLemmas.{same_term_of}
 -- a term has at least one node
-pub use Rattle.ll_bank.proofs.OpenLemmas.{term_size-some}
+pub use Rattle.ll_bank.proofs.PartLemmas.{term_size-some}
 -- a formula has at least one node
-pub use Rattle.ll_bank.proofs.OpenLemmas.{form_size-some}
+pub use Rattle.ll_bank.proofs.PartLemmas.{form_size-some}
 -- an application has the nodes of what is applied and of its arguments
-pub use Rattle.ll_bank.proofs.OpenLemmas.{term_size-apply}
+pub use Rattle.ll_bank.proofs.PartLemmas.{term_size-apply}
 -- the sizes of arguments as parts are those of their terms
-pub use Rattle.ll_bank.proofs.OpenLemmas.{sizes_of_args}
+pub use Rattle.ll_bank.proofs.PartLemmas.{sizes_of_args}
 -- what is done with arguments as parts is done with their places
-pub use Rattle.ll_bank.proofs.OpenLemmas.{spots_of_args}
+pub use Rattle.ll_bank.proofs.PartLemmas.{spots_of_args}
 -- no parts lie below a place
-pub use Rattle.ll_bank.proofs.OpenLemmas.{no_parts}
+pub use Rattle.ll_bank.proofs.PartLemmas.{no_parts}
 -- one part lies below a place where it does
-pub use Rattle.ll_bank.proofs.OpenLemmas.{one_part}
+pub use Rattle.ll_bank.proofs.PartLemmas.{one_part}
 -- two parts lie below a place where each does
-pub use Rattle.ll_bank.proofs.OpenLemmas.{two_parts}
+pub use Rattle.ll_bank.proofs.PartLemmas.{two_parts}
 -- parts of the same sizes have the same size together
-pub use Rattle.ll_bank.proofs.OpenLemmas.{sum_same}
+pub use Rattle.ll_bank.proofs.PartLemmas.{sum_same}
 -- as a bank grows, the parts of a term at an old place stay
-pub use Rattle.ll_bank.proofs.OpenLemmas.{term_parts_same}
+pub use Rattle.ll_bank.proofs.PartLemmas.{term_parts_same}
 -- as a bank grows, the parts of a formula at an old place stay
-pub use Rattle.ll_bank.proofs.OpenLemmas.{form_parts_same}
--- signs that compare as equal are the same
-pub use Rattle.ll_bank.proofs.SignLemmas.{same_sign}
--- a sign compares as equal to itself
-pub use Rattle.ll_bank.proofs.SignLemmas.{sign_refl}
+pub use Rattle.ll_bank.proofs.PartLemmas.{form_parts_same}
 -- ---- lists of trees that grow node by node
 
 -- nodes behind others grow over the trees of those
@@ -140,36 +136,6 @@ pub use Rattle.ll_bank.proofs.Growing.{grow_kept}
 pub use Rattle.ll_bank.proofs.Growing.{grow_last}
 -- the node at a place builds its tree over those of the nodes before it
 pub use Rattle.ll_bank.proofs.Growing.{get_or-grow_at}
--- ---- walks over the terms under some terms
-
--- one more than the greatest number of a list, or 0
-pub use Rattle.ll_bank.proofs.Ceiling.{ceiling}
--- the ceiling is at most a number that is above all
-pub use Rattle.ll_bank.proofs.Ceiling.{ceiling-le}
--- a number that stands last is below the ceiling
-pub use Rattle.ll_bank.proofs.Ceiling.{last_below}
--- a step that takes the last place, and puts in places below it, lowers the ceiling
-pub use Rattle.ll_bank.proofs.WalkLemmas.{ceiling_falls}
--- two numbers compare as equal where they are
-pub use Rattle.ll_bank.proofs.Ceiling.{is_at-nat}
--- a test of keys after a key was put in
-pub use Rattle.ll_bank.proofs.WalkLemmas.{inserted}
--- a key that was taken out changes nothing at other places
-pub use Rattle.ll_bank.proofs.WalkLemmas.{removed_other}
--- after a key was taken out, what is a key was one before
-pub use Rattle.ll_bank.proofs.WalkLemmas.{removed_less}
--- nothing is in a set without keys
-pub use Rattle.ll_bank.proofs.WalkLemmas.{none_in}
--- a place that was put in is one more of the places of a list
-pub use Rattle.ll_bank.proofs.WalkLemmas.{more_any}
--- one more place of a list
-pub use Rattle.ll_bank.proofs.WalkLemmas.{places_more}
--- a number that is not above 0 is 0
-pub use Rattle.ll_bank.proofs.WalkLemmas.{zero_unless}
--- a place that was entered into a map has its image
-pub use Rattle.ll_bank.proofs.ImageLemmas.{image_here}
--- an entry into a map leaves the images of other places
-pub use Rattle.ll_bank.proofs.ImageLemmas.{image_there}
 -- ---- lists that pass a test
 
 -- lists whose items pass a test that tells that they are the same

@@ -15,7 +15,7 @@ use Rattle.ll_bank.specs.declared.flat.StoredForm.TheVariants.{Top as StoredTop,
 use Rattle.ll_bank.specs.declared.flat.StoredForm.TheVariants.{Tensor as StoredTensor, Plus as StoredPlus, Bang as StoredBang, Lolli as StoredLolli}
 use Rattle.ll_bank.specs.declared.flat.StoredForm.TheVariants.{Imp as StoredImp, Forall as StoredForall, Exists as StoredExists, Use as StoredUse}
 use Rattle.ll_bank.specs.declared.flat.StoredForm.TheVariants.{Is as StoredIs, Less as StoredLess, Most as StoredMost}
-use Rattle.ll_bank.proofs.OpenLemmas.{same_heads}
+use Rattle.ll_bank.proofs.PartLemmas.{same_heads}
 use Rattle.ll_bank.specs.contracts.HeadPartialEq.TheImpl.{eq-value as head_eq_value}
 use Rattle.ll_bank.specs.contracts.BankSizePartialEq.TheImpl.{eq-value as size_eq_value}
 use Rattle.ll_bank.specs.contracts.flat.SpanPartialEq.TheImpl.{eq-value as span_eq_value}

@@ -1,33 +1,26 @@
--- A quantifier's body with a term in place of its bound place: the images of its parts, and the stack of those that get theirs.
-use Rattle.std.specs.Prelude.{◌≡◌, ◌⊎◌, ◌<◌, ◌≤◌, ℕ, zero, suc, ◌+◌, true, false, List, [], ◌∷◌, map, All, Option, Some, None, IsSome, sum_by, slice_index_or}
-use Rattle.std.specs.Prelude.{if◌then◌else◌}
-use Rattle.std.specs.Ordering.{nat_cmp, ordering_then}
-use Rattle.std.specs.declared.cmp.Ordering.{Ordering}
-use Rattle.ll_bank.specs.declared.At.{At}
-use Rattle.ll_bank.specs.declared.FormAt.{FormAt}
-use Rattle.ll_bank.specs.declared.open.Task.{Task}
-use Rattle.ll_bank.specs.Term.{Term, Ap, Env, close, applies_heads}
-use Rattle.ll_bank.specs.Form.{Form, With, Tensor, Plus, Bang, Lolli, Imp, Forall, Exists, Use, close_form, form_applies_heads}
+-- The parts of a term or a formula that is opened: their places, with the number of quantifiers on the way to each, and their sizes.
+use Rattle.std.specs.Prelude.{◌≡◌, ◌<◌, ℕ, ◌+◌, List, [], ◌∷◌, map, All, Option, Some, sum_by, slice_index_or}
+use Rattle.ll_bank.specs.Term.{Term, Ap}
+use Rattle.ll_bank.specs.Form.{Form, With, Tensor, Plus, Bang, Lolli, Imp, Forall, Exists, Use}
 use Rattle.ll_bank.specs.Nodes.{Nodes, TermNode, FormulaNode, TopNode, WithNode, TensorNode, PlusNode, BangNode, LolliNode, ImpNode, ForallNode, ExistsNode}
-use Rattle.ll_bank.specs.Nodes.{UseNode, term_tree, form_tree, HasTerm, HasForm, ShowsTerm, ShowsForm}
-use Rattle.ll_bank.specs.Walk.{arguments_of, term_node_at}
+use Rattle.ll_bank.specs.Nodes.{UseNode, VarNode, AppNode, term_tree, form_tree}
 
--- what stands for the bound places so many quantifiers inside a body that is opened with a term
-abbrev pub opened : Term → ℕ → Env
-opened t zero = Some t ∷ []
-opened t (suc n) = None ∷ opened t n
+-- the places of a term's arguments
+abbrev pub arguments_of : TermNode → List ℕ
+arguments_of (AppNode h args) = args
+arguments_of _ = []
 
--- a part of the body: its place, and the number of quantifiers that were passed on the way to it
-abbrev pub Spot : Type 0
-Spot = ℕ × ℕ
-
--- parts in the order of their places, and of their levels where these are one
-abbrev pub by_spot : Spot → Spot → Ordering
-by_spot x y = ordering_then (nat_cmp x.0 y.0) (nat_cmp x.1 y.1)
+-- the node at the place of a term
+abbrev pub term_node_at : Nodes → ℕ → TermNode
+term_node_at nodes at = slice_index_or nodes.terms at (VarNode 0)
 
 -- the node at the place of a formula
 abbrev pub form_node_at : Nodes → ℕ → FormulaNode
 form_node_at nodes at = slice_index_or nodes.forms at TopNode
+
+-- a part of the body: its place, and the number of quantifiers that were passed on the way to it
+abbrev pub Spot : Type 0
+Spot = ℕ × ℕ
 
 -- the arguments of a term, as parts at its level
 abbrev pub term_parts : TermNode → ℕ → List Spot
@@ -46,55 +39,9 @@ form_parts (ExistsNode f) n = (f, n + 1) ∷ []
 form_parts (UseNode m args f) n = (f, n) ∷ []
 form_parts _ n = []
 
--- the part is among these
-abbrev pub IsIn : Spot → List Spot → Type 0
-IsIn k [] = ⊥
-IsIn k (x ∷ xs) = (x ≡ k) ⊎ IsIn k xs
-
--- the image of a term shows what the term is with its bound places replaced
-abbrev pub ShowsImage : Nodes → Nodes → Term → Spot → At → Type 0
-ShowsImage old new t k image = ShowsTerm new image.0 (close (opened t k.1) (term_tree old k.0))
-
--- and that of a formula likewise
-abbrev pub ShowsFormImage : Nodes → Nodes → Term → Spot → FormAt → Type 0
-ShowsFormImage old new t k image = ShowsForm new image.0 (close_form (opened t k.1) (form_tree old k.0))
-
--- the image is that of a part in the bank
-abbrev pub IsTermImage : Nodes → Term → Spot → At → Type 0
-IsTermImage bank t k image = HasTerm bank k.0 × ShowsImage bank bank t k image
-
-abbrev pub IsFormImage : Nodes → Term → Spot → FormAt → Type 0
-IsFormImage bank t k image = HasForm bank k.0 × ShowsFormImage bank bank t k image
-
 -- each image that is known is one
 abbrev pub AreImages : {X : Type 0} → (Spot → X → Type 0) → (Spot → Option X) → Type 0
 AreImages {X} is_image lookup = (k : Spot) (image : X) → lookup k ≡ Some image → is_image k image
-
--- the part is in the bank, and nothing but a head gets arguments where it is opened
-abbrev pub IsTermGood : Nodes → Term → Spot → Type 0
-IsTermGood bank t k = HasTerm bank k.0 × (applies_heads (close (opened t k.1) (term_tree bank k.0)) ≡ true)
-
--- and likewise a formula, which lies as far below the root as it is quantifiers inside it
-pub record IsFormGood (bank : Nodes) (g : Term × ℕ) (k : Spot) : Type 0 where
-  pub inside : HasForm bank k.0
-  pub heads : form_applies_heads (close_form (opened g.0 k.1) (form_tree bank k.0)) ≡ true
-  pub level : k.0 + k.1 ≤ g.1
-
--- ---- the stack
-
--- the part of a task
-abbrev pub spot_of : Task → Spot
-spot_of task = (task.place, task.level)
-
--- the task of a part whose own parts are not on the stack
-abbrev pub visit : Spot → Task
-visit k = record { place = k.0; level = k.1; ready = false }
-
--- each part of a task that is ready is known, or stands above it; the top of the stack stands last
-abbrev pub AreWaiting : (Spot → Type 0) → (Spot → List Spot) → List Task → Type 0
-AreWaiting known parts [] = Unit {0}
-AreWaiting known parts (task ∷ tasks) =
-    (task.ready ≡ true → (k : Spot) → IsIn k (parts (spot_of task)) → known k ⊎ IsIn k (map spot_of tasks)) × AreWaiting known parts tasks
 
 -- the size of a term as a tree
 abbrev pub term_size : Term → ℕ
@@ -114,10 +61,6 @@ form_size (Exists f) = 2 + form_size f
 form_size (Use m ts f) = 2 + form_size f
 form_size _ = 2
 
--- the work that is left to do: the sizes of the parts on the stack, or 1 for one that is ready
-abbrev pub work_left : (Spot → ℕ) → List Task → ℕ
-work_left size tasks = sum_by (λ (task : Task). if task.ready then 1 else size (spot_of task)) tasks
-
 -- the parts of a part lie below it, are smaller together, and are good where it is good
 pub record ArePartsOf {G : Type 0} (size : Spot → ℕ) (good : G → Spot → Type 0) (k : Spot) (parts : List Spot) : Type 0 where
   pub lower : All (λ (p : Spot). p.0 < k.0) parts
@@ -132,12 +75,6 @@ term_size_at bank k = term_size (term_tree bank k.0)
 abbrev pub form_size_at : Nodes → Spot → ℕ
 form_size_at bank k = form_size (form_tree bank k.0)
 
--- what holds while the parts of a root get their images
-pub record IsOpening (known : Spot → Type 0) (parts : Spot → List Spot) (good : Spot → Type 0) (root : Spot) (tasks : List Task) : Type 0 where
-  pub waiting : AreWaiting known parts tasks
-  pub each : All (λ (task : Task). good (spot_of task)) tasks
-  pub root_known : known root ⊎ IsIn root (map spot_of tasks)
-
 -- the parts of a term in a bank
 abbrev pub term_parts_at : Nodes → Spot → List Spot
 term_parts_at bank k = term_parts (term_node_at bank k.0) k.1
@@ -145,7 +82,3 @@ term_parts_at bank k = term_parts (term_node_at bank k.0) k.1
 -- the parts of a formula in a bank
 abbrev pub form_parts_at : Nodes → Spot → List Spot
 form_parts_at bank k = form_parts (form_node_at bank k.0) k.1
-
--- the part has its image
-abbrev pub IsKnown : {X : Type 0} → (Spot → Option X) → Spot → Type 0
-IsKnown lookup k = IsSome (lookup k)

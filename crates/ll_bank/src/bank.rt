@@ -169,7 +169,7 @@ impl Bank {
     }
 
     /// What the bank takes memory from.
-    pub(crate) fn alloc(&self) -> Global {
+    pub fn alloc(&self) -> Global {
         self.flat.alloc()
     }
 }

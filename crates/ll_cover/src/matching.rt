@@ -9,6 +9,7 @@ ghost use Rattle.ll_cover.specs.Matching.{HasPlaces, AreBelow, AllClosed, Meets,
 
 use crate::closing::is_closed;
 use ll_bank::{At, Bank, Head, OutOfMemory, TermView};
+use ll_terms::equal;
 use std::alloc::Global;
 use std::collections::BTreeMap;
 
@@ -178,5 +179,5 @@ fn same(bank: &Bank, first: At, second: At) -> Result<bool, OutOfMemory>
     if first == second {
         return Ok(true);
     }
-    bank.equal(first, bank, second)
+    equal(bank, first, bank, second)
 }

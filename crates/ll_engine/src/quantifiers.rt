@@ -16,6 +16,7 @@ use ll_bank::{At, FormAt, Head, OutOfMemory};
 use ll_freeze::{Item, Machine};
 use ll_laws::{Module, Step};
 use ll_modules::unfold;
+use ll_terms::instantiate;
 
 /// Puts the body of a `forall` in front of the rest, with the next eigenconstant in place of its bound place.
 pub fn take_forall(machine: &mut Machine<'_>, body: FormAt, rest: Top) -> Result<(), OutOfMemory>
@@ -28,7 +29,7 @@ pub fn take_forall(machine: &mut Machine<'_>, body: FormAt, rest: Top) -> Result
     ensures later { OnOk result (Later machine.old machine.new) }
 {
     let value = machine.store.bank.app(Head::Eigen(machine.eigens), &[])?;
-    let goal = machine.store.bank.instantiate(body, value)?;
+    let goal = instantiate(&mut machine.store.bank, body, value)?;
     machine.eigens += 1;
     go_on(machine, &[Item::Goal(goal)], rest, Step::Plain)?;
     Ok(())
@@ -45,7 +46,7 @@ pub fn take_exists(machine: &mut Machine<'_>, body: FormAt, rest: Top) -> Result
 {
     let number = machine.store.fresh(machine.eigens)?;
     let value = machine.store.bank.var(number)?;
-    let goal = machine.store.bank.instantiate(body, value)?;
+    let goal = instantiate(&mut machine.store.bank, body, value)?;
     machine.terms.push(value)?;
     go_on(machine, &[Item::Goal(goal)], rest, Step::Plain)?;
     Ok(())

@@ -13,6 +13,7 @@ ghost use Rattle.ll_modules.specs.Loads.{arguments_env, AreClosed, MayLoad};
 pub use evaluate::value;
 use ll_bank::{At, Bank, FormAt, FormNode, OutOfMemory};
 use ll_laws::{Clause, Kind, Module};
+use ll_terms::instantiate;
 
 /// The goal that a load of the module with these arguments stands for, round a goal: a `forall` for each local, and under them each
 /// clause as a resource, the arguments in place of its parameters, the first clause of the text in front.
@@ -108,7 +109,7 @@ fn close_clause(bank: &mut Bank, form: FormAt, args: &[At]) -> Result<FormAt, Ou
 {
     let mut at = form;
     for i in (0..args.len()).rev() {
-        at = bank.instantiate(at, args[i])?;
+        at = instantiate(bank, at, args[i])?;
     }
     Ok(at)
 }

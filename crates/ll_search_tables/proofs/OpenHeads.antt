@@ -7,7 +7,7 @@ use Rattle.ll_bank.specs.declared.Head.TheVariants.{Name, Eigen, Bound}
 use Rattle.ll_bank.specs.Term.{Term, Var, Int, Con, Ap, place, close, is_spine, applies_heads}
 use Rattle.ll_bank.specs.Form.{Form, Top, One, Atom, With, Tensor, Plus, Bang, Lolli, Imp, Forall, Exists, Use, Num, close_form, instantiate}
 use Rattle.ll_bank.specs.Form.{form_applies_heads}
-use Rattle.ll_bank.specs.Opened.{opened}
+use Rattle.ll_terms.specs.Opened.{opened}
 
 module _ (t : Term) (spine : is_spine t ≡ true) (heads : applies_heads t ≡ true) where
   place_spine : (n k m : ℕ) → is_spine (place (opened t n) k m) ≡ true

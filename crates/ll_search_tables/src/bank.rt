@@ -3,6 +3,7 @@ ghost use Rattle.std.specs.Prelude.{◌≡◌, ◌≤◌, length, IfOk, IfSome};
 ghost use Rattle.ll_bank.specs.Nodes.{HasForm, HasTerm, HasParts, HasSize, Extends, size_of};
 
 use ll_bank::{At, Bank, BankSize, BankTail, FormAt, FormNode, Head, Names, OutOfMemory, TermView};
+use ll_terms::{copy_into, equal, instantiate};
 use std::process::Abort;
 use std::test::Fail;
 
@@ -115,7 +116,7 @@ fn copies_what_is_shared_once(rt: HostRuntime) -> Result<(), Fail> {
     let mut bank = Bank::new(rt.alloc());
     let mut other = Bank::new(rt.alloc());
     let deep = doubled(&mut bank, 60)?;
-    let copy = bank.copy_into(deep, &mut other)?;
+    let copy = copy_into(&bank, deep, &mut other)?;
     assert_eq!(rt; other.depth(copy), 60);
     Ok(())
 }
@@ -126,7 +127,7 @@ fn compares_what_is_shared_once(rt: HostRuntime) -> Result<(), Fail> {
     let mut other = Bank::new(rt.alloc());
     let deep = doubled(&mut bank, 60)?;
     let same = doubled(&mut other, 60)?;
-    assert!(rt; bank.equal(deep, &other, same)?);
+    assert!(rt; equal(&bank, deep, &other, same)?);
     Ok(())
 }
 
@@ -172,7 +173,7 @@ fn opens_what_is_shared_once(rt: HostRuntime) -> Result<(), Fail> {
     let mut bank = Bank::new(rt.alloc());
     let body = nested(&mut bank, 60)?;
     let value = bank.app(Head::Eigen(4), &[])?;
-    let opened = bank.instantiate(body, value)?;
+    let opened = instantiate(&mut bank, body, value)?;
     let atom = leftmost(&bank, opened, 120);
     assert_eq!(rt; bank.form_at(atom), FormNode::Atom(value));
     Ok(())

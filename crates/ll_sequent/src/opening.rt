@@ -17,6 +17,7 @@ use crate::sequents::{Resource, Sequent, Step};
 use ll_bank::{At, Bank, FormNode, Head, OutOfMemory};
 use ll_laws::Module;
 use ll_modules::unfold;
+use ll_terms::instantiate;
 use std::alloc::Global;
 
 /// The constant stands in the goal or in a clause.
@@ -43,7 +44,7 @@ pub(crate) fn forall(
                 return Ok(Step::Refused(CONSTANT_NOT_NEW));
             }
             let value = bank.app(Head::Eigen(constant), &[])?;
-            let goal = bank.instantiate(body, value)?;
+            let goal = instantiate(bank, body, value)?;
             let premise = Sequent {
                 free: sequent.free,
                 bounded: sequent.bounded,
@@ -72,7 +73,7 @@ pub(crate) fn exists(
 {
     match bank.form_at(sequent.goal) {
         FormNode::Exists(body) => {
-            let goal = bank.instantiate(body, value)?;
+            let goal = instantiate(bank, body, value)?;
             let premise = Sequent {
                 free: sequent.free,
                 bounded: sequent.bounded,

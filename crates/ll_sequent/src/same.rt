@@ -4,6 +4,7 @@ ghost use Rattle.ll_bank.specs.Nodes.{Nodes, term_tree, term_trees, HasTerm, All
 ghost use Rattle.ll_sequent.specs.Copied.{ArePairs, AreSame};
 
 use ll_bank::{At, Bank, Head, OutOfMemory, TermView};
+use ll_terms::equal;
 use std::alloc::Global;
 
 /// How many pairs are looked at one by one. A term that is shared is met again there each time, where it stands against another place.
@@ -25,7 +26,7 @@ pub(crate) fn is_same(alloc: Global, bank: &Bank, left: At, right: At) -> Result
     if is_same_by_pairs(alloc, bank, left, right)? {
         Ok(true)
     } else {
-        bank.equal(left, bank, right)
+        equal(bank, left, bank, right)
     }
 }
 

@@ -4,7 +4,8 @@ use Rattle.std.specs.Ordering.{nat_cmp}
 use Rattle.std.specs.BTreeMap.{is_at}
 use Rattle.std.specs.BTreeSet.{contains}
 use Rattle.ll_bank.specs.Nodes.{places}
-use Rattle.ll_bank.proofs.CallerLemmas.{below_places, inserted, ceiling_falls, removed_other, removed_less}
+use Rattle.ll_bank.proofs.CallerLemmas.{below_places}
+use Rattle.ll_terms.proofs.CallerLemmas.{inserted, ceiling_falls, removed_other, removed_less}
 use Rattle.ll_cover.proofs.Closes.{closing-begins, closing-on}
 use Rattle.ll_cover.proofs.closing.is_closed.Goals as goal
 

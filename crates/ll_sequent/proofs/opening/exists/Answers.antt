@@ -13,7 +13,7 @@ instantiate-requires-clause-heads c =
 
 pub returns-in_ok-step-in-Exists-clause-is : goal.returns-in_ok-step-in-Exists-clause-is
 returns-in_ok-step-in-Exists-clause-is c =
-    exists_steps c.args.bank.now c.instantiate.new.self c.args.sequent
+    exists_steps c.args.bank.now c.instantiate.new.bank c.args.sequent
     (record { free = c.args.sequent.free; bounded = c.args.sequent.bounded; goal = c.in_ok-goal-in-Exists.goal })
     c.in-Exists.body (term_tree c.args.bank.now c.args.value.0) c.in_ok-step-in-Exists.step c.in-Exists.ensures.shown c.requires.closed
     c.in_ok-goal-in-Exists.ensures.keeps c.in_ok-goal-in-Exists.ensures.shows refl refl c.in_ok-step-in-Exists.ensures

@@ -1,0 +1,44 @@
+use Rattle.std.proofs.Common.{sym, subst, arith}
+use Rattle.std.specs.Ordering.{nat_cmp}
+use Rattle.std.specs.BTreeMap.{get}
+use Rattle.std.specs.List.{Contains}
+use Rattle.ll_bank.specs.Nodes.{term_tree}
+use Rattle.ll_terms.specs.Walk.{IsInOrder, ShowsAt}
+use Rattle.ll_bank.proofs.CallerLemmas.{Extends-refl}
+use Rattle.ll_terms.proofs.ImageLemmas.{copying_begins, copying_more, argument_images, root_image, image_found, image_shows}
+use Rattle.ll_terms.proofs.copy.copy_into.Goals as goal
+
+pub returns-in_err-places-clause-keeps : goal.returns-in_err-places-clause-keeps
+returns-in_err-places-clause-keeps c = Extends-refl c.args.other.now
+
+pub loop-place-init : goal.loop-place-init
+loop-place-init c = copying_begins c.args.other.now (get nat_cmp c.new-images.result) (term_tree c.args.bank.now)
+
+pub copied-requires-clause-images : goal.copied-requires-clause-images
+copied-requires-clause-images c =
+    argument_images c.args.bank.now (ShowsAt c.loop-place.other) (get nat_cmp c.loop-place.images) (term_tree c.args.bank.now) c.deref-place-items.result.now
+    c.loop-place.place-index
+    (subst (IsInOrder c.args.bank.now) (sym c.deref-place-items.ensures.value) c.in_ok-places.ensures.order) (omega arith) c.loop-place.invariant.images
+
+pub loop-place-preserved : goal.loop-place-preserved
+loop-place-preserved c =
+    copying_more c.args.other.now c.loop-place.other c.copied.new.other (get nat_cmp c.loop-place.images) (get nat_cmp c.insert.new.self)
+    (term_tree c.args.bank.now) c.deref-place-items.result.now
+    c.loop-place.place-index (omega arith) c.loop-place.invariant c.in_ok-copy.ensures.keeps c.in_ok-copy.copy c.in_ok-copy.ensures.shows
+    c.in_ok-insert.ensures.updates.0
+
+pub image_of-requires : goal.image_of-requires
+image_of-requires c =
+    image_found (ShowsAt c.loop-place.other) (get nat_cmp c.loop-place.images) c.args.at.0 (term_tree c.args.bank.now c.args.at.0)
+    (root_image (get nat_cmp c.loop-place.images) (term_tree c.args.bank.now) c.deref-place-items.result.now c.loop-place.place-index
+    (ShowsAt c.loop-place.other) c.args.at.0 (omega arith)
+    c.loop-place.invariant.images (subst (λ xs. Contains xs c.args.at.0) (sym c.deref-place-items.ensures.value)
+    (c.in_ok-places.ensures.roots 0 c.args.at (omega arith))))
+
+pub returns-clause-shows : goal.returns-clause-shows
+returns-clause-shows c =
+    image_shows (ShowsAt c.loop-place.other) (get nat_cmp c.loop-place.images) c.args.at.0 (term_tree c.args.bank.now c.args.at.0) c.image_of.result
+    (root_image (get nat_cmp c.loop-place.images) (term_tree c.args.bank.now) c.deref-place-items.result.now c.loop-place.place-index
+    (ShowsAt c.loop-place.other) c.args.at.0 (omega arith)
+    c.loop-place.invariant.images (subst (λ xs. Contains xs c.args.at.0) (sym c.deref-place-items.ensures.value)
+    (c.in_ok-places.ensures.roots 0 c.args.at (omega arith)))) c.image_of.ensures

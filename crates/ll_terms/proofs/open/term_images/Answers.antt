@@ -1,0 +1,15 @@
+use Rattle.std.proofs.Common.{ap, ◌∙◌, sym, arith, [], ◌∷◌, ◌++◌, map, Some}
+use Rattle.std.specs.Prelude.{Option}
+use Rattle.std.specs.BTreeMap.{get}
+use Rattle.std.proofs.lemmas.List.{map-append, map_more}
+use Rattle.ll_bank.specs.declared.At.{At}
+use Rattle.ll_terms.specs.Opened.{by_spot}
+use Rattle.ll_terms.proofs.open.term_images.Goals as goal
+
+pub loop-term-preserved : goal.loop-term-preserved
+loop-term-preserved c =
+    ap (map (λ (v : At). let o : Option At = Some v in o)) c.in_ok-push.ensures.items
+    ∙ (map-append (λ (v : At). let o : Option At = Some v in o) c.loop-term.found.items (c.term_image.result ∷ [])
+    ∙ ((λ j. c.loop-term.invariant j ++ sym c.term_image.ensures j ∷ [])
+    ∙ sym (map_more (λ (a : At). get by_spot c.args.images.now (a.0, c.args.level)) c.args.terms.now c.loop-term.term-index (record { 0 = 0 })
+    (omega arith))))

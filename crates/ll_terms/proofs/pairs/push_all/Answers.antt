@@ -1,0 +1,18 @@
+use Rattle.std.proofs.Common.{◌-◌, length, refl, arith, get_or}
+use Rattle.ll_terms.specs.declared.pairs.Pair.{Pair}
+use Rattle.ll_terms.specs.Pairs.{lefts, rights}
+use Rattle.ll_terms.proofs.PairLemmas.{places-more}
+use Rattle.ll_terms.proofs.pairs.push_all.Goals as goal
+
+pub loop-done-preserved : goal.loop-done-preserved
+loop-done-preserved c =
+    let at = length c.args.args.now - c.loop-done.done - 1 in
+    let pair : Pair = record { left = get_or c.args.args.now at (record { 0 = 0 }); right = get_or c.args.others.now at (record { 0 = 0 }) } in
+    record {
+      left = places-more (λ p. p.left) c.loop-done.pairs.items c.push.new.self.items (lefts c.args.pairs.now.items) c.args.args.now c.loop-done.done at pair
+          (record { 0 = 0 })
+          (omega arith) refl refl c.loop-done.invariant.left c.in_ok-push.ensures.ok;
+      right = places-more (λ p. p.right) c.loop-done.pairs.items c.push.new.self.items (rights c.args.pairs.now.items) c.args.others.now c.loop-done.done at
+          pair (record { 0 = 0 })
+          (omega arith) (omega arith) refl c.loop-done.invariant.right c.in_ok-push.ensures.ok;
+    }

@@ -1,0 +1,4 @@
+pub mod Walk
+pub mod Signs
+pub mod Opened
+pub mod Pairs

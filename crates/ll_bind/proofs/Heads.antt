@@ -20,16 +20,16 @@ use Rattle.ll_laws.specs.Unify.{and_then, diff, diff_lists, Solved, solve}
 use Rattle.ll_laws.proofs.CallerLemmas.{head_eq-refl}
 use Rattle.ll_close.specs.Closing.{env_of}
 use Rattle.ll_close.proofs.CallerLemmas.{env_extends, head_value}
-use Rattle.ll_bindings.specs.declared.fresh.Fresh.{Fresh}
+use Rattle.ll_equate.specs.declared.fresh.Fresh.{Fresh}
 use Rattle.ll_bindings.specs.Bindings.{Table, count, found, unbound, Reaches, stands, through, HasCells, KeepsCells, IsPlaceOf, IsTable, IsEnd, AreSame}
 use Rattle.ll_bindings.specs.Spines.{args_in, weight}
-use Rattle.ll_bindings.specs.Pairs.{Alike}
-use Rattle.ll_bindings.specs.Scanned.{is_bad}
-use Rattle.ll_bindings.specs.Fresh.{AreClear, AreFresh, LeavesFresh}
-use Rattle.ll_bindings.specs.Solving.{along, Solves, Settled, Settles, IsAnswer, wanted, spare}
-use Rattle.ll_bindings.proofs.CallerLemmas.{found-bound, found-extends, place-extends, args_in-app, weight-two, diff-spine, diff-clash, diff-append, shape-app}
-use Rattle.ll_bindings.proofs.CallerLemmas.{spine-place, clash-int-app, solves-alike, solves-none, solves-clash, solves-start, fresh-keeps, clear-args}
-use Rattle.ll_bindings.proofs.CallerLemmas.{clear-join, clear-same}
+use Rattle.ll_equate.specs.Pairs.{Alike}
+use Rattle.ll_equate.specs.Scanned.{is_bad}
+use Rattle.ll_equate.specs.Fresh.{AreClear, AreFresh, LeavesFresh}
+use Rattle.ll_equate.specs.Solving.{along, Solves, Settled, Settles, IsAnswer, wanted, spare}
+use Rattle.ll_bindings.proofs.CallerLemmas.{found-bound, found-extends, place-extends, args_in-app, weight-two}
+use Rattle.ll_equate.proofs.CallerLemmas.{diff-spine, diff-clash, diff-append, shape-app, spine-place, clash-int-app, solves-alike, solves-none, solves-clash}
+use Rattle.ll_equate.proofs.CallerLemmas.{solves-start, fresh-keeps, clear-args, clear-join, clear-same}
 use Rattle.ll_store.specs.declared.store.Store.{Store}
 use Rattle.ll_store.specs.Stored.{Stored, stored, KeepsMarks}
 use Rattle.ll_store.specs.Trails.{Grows}

@@ -5,15 +5,16 @@ ghost use Rattle.ll_bank.specs.Term.{head_eq, app, close, close_head, applies_he
 ghost use Rattle.ll_bank.specs.Nodes.{term_tree, term_trees, HasTerm, AllInTerms, ShowsTerm, Extends};
 ghost use Rattle.ll_close.specs.Closing.{env_of};
 ghost use Rattle.ll_bindings.specs.Bindings.{IsTable, IsPlaceOf, IsEnd, HasCells, count};
-ghost use Rattle.ll_bindings.specs.Fresh.{AreFresh, LeavesFresh, StandsNowhere};
-ghost use Rattle.ll_bindings.specs.Solving.{IsSolved, Settles, wanted};
+ghost use Rattle.ll_equate.specs.Fresh.{AreFresh, LeavesFresh, StandsNowhere};
+ghost use Rattle.ll_equate.specs.Solving.{IsSolved, Settles, wanted};
 ghost use Rattle.ll_store.specs.Stored.{stored, KeepsMarks};
 ghost use Rattle.ll_store.specs.Tables.{table_of};
 ghost use Rattle.ll_bind.specs.Heads.{equate, pending, IsOpened};
 
 use ll_bank::{At, Bank, Head, OutOfMemory, TermView};
-use ll_bindings::{Fresh, unify_end, walk};
+use ll_bindings::walk;
 use ll_close::close_term;
+use ll_equate::{Fresh, unify_end};
 use ll_store::Store;
 use smallvec::SmallVec;
 use std::alloc::Global;

@@ -7,7 +7,7 @@ ghost use Rattle.std.specs.Prelude.{◌≡◌, true, length, All, IfOk};
 ghost use Rattle.ll_bank.specs.declared.At.{At as AtView};
 ghost use Rattle.ll_bank.specs.Nodes.{term_trees};
 ghost use Rattle.ll_bindings.specs.Bindings.{IsTable, IsPlaceOf, KeepsCells};
-ghost use Rattle.ll_bindings.specs.Solving.{IsSolved, wanted};
+ghost use Rattle.ll_equate.specs.Solving.{IsSolved, wanted};
 ghost use Rattle.ll_store.specs.Stored.{stored, KeepsMarks};
 ghost use Rattle.ll_store.specs.Tables.{table_of};
 
@@ -41,5 +41,5 @@ pub fn unify(
     ensures bank { store.new.bank ≡ store.old.bank }
     ensures marks { KeepsMarks (stored store.old) (stored store.new) }
 {
-    ll_bindings::unify(alloc, &store.bank, &mut store.cells, left, right)
+    ll_equate::unify(alloc, &store.bank, &mut store.cells, left, right)
 }

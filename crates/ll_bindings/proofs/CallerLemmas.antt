@@ -1,6 +1,6 @@
 -- Laws of bindings for the crates above.
-use Rattle.std.proofs.Common.{◌≡◌, ℕ, zero, suc, ◌<◌, true, List, [], ◌∷◌, ◌++◌, length, map, get_or, refl, ap, sym, subst, ◌∙◌, arith, length-append}
-use Rattle.std.specs.Prelude.{Option, Some, None, replicate, option_map}
+use Rattle.std.proofs.Common.{◌≡◌, ℕ, zero, suc, ◌<◌, true, List, [], ◌∷◌, ◌++◌, length, get_or, refl, ap, sym, subst, ◌∙◌, arith, length-append}
+use Rattle.std.specs.Prelude.{Option, Some, None, replicate}
 use Rattle.std.proofs.lemmas.Bool.{or_left, or_right, eqb-true, eq-eqb, ltb-true}
 use Rattle.std.proofs.lemmas.List.{length-replicate}
 use Rattle.ll_lists.proofs.CallerLemmas.{or_elim as or_cases}
@@ -8,77 +8,76 @@ use Rattle.ll_bank.specs.declared.At.{At}
 use Rattle.ll_bank.specs.Term.{Term, Var, Int, Con, Ap, sub, occurs}
 use Rattle.ll_bank.specs.Nodes.{Nodes, HasTerm, term_tree, Extends}
 use Rattle.ll_bank.proofs.CallerLemmas.{HasTerm-extends, term_tree-extends}
-use Rattle.ll_laws.specs.Unify.{vars_below, Solved, mgu}
-use Rattle.ll_laws.proofs.CallerLemmas.{subs_id, vars_below-part}
+use Rattle.ll_laws.specs.Unify.{vars_below}
+use Rattle.ll_laws.proofs.CallerLemmas.{vars_below-part}
 use Rattle.ll_bindings.specs.Bindings.{Table, cell, count, shown, followed, found, Reaches, stands, through, HasCells, IsPlaceOf, IsTable}
-use Rattle.ll_bindings.specs.Solving.{along, wanted}
-use Rattle.ll_bindings.proofs.Readings.{sub-agree, Obeys-found, found-only}
+use Rattle.ll_bindings.proofs.Readings.{sub-agree}
 -- ---- what is found for a variable
 
 -- for an unbound variable the variable itself is found
 pub use Rattle.ll_bindings.proofs.Readings.{found-free}
 -- an unbound variable stands for itself, however often bindings are followed
 pub use Rattle.ll_bindings.proofs.Readings.{followed-free}
--- ---- variables that no term mentions
+-- what is found goes along with the bindings
+pub use Rattle.ll_bindings.proofs.Readings.{Obeys-found}
+-- nothing else goes along with the bindings and leaves unbound variables alone
+pub use Rattle.ll_bindings.proofs.Readings.{found-only}
+-- ---- variables and arguments at places
 
--- a term without the variable, and with eigenconstants below the level alone, is clear of it
-pub use Rattle.ll_bindings.proofs.FreshLemmas.{clear-of}
--- another variable is clear
-pub use Rattle.ll_bindings.proofs.FreshLemmas.{clear-var}
--- terms that are clear, and more of them, are clear together
-pub use Rattle.ll_bindings.proofs.FreshLemmas.{clear-join}
--- of terms that are clear, those in front are
-pub use Rattle.ll_bindings.proofs.FreshLemmas.{clear-before}
--- of terms that are clear, those behind are
-pub use Rattle.ll_bindings.proofs.FreshLemmas.{clear-behind}
--- the arguments of a clear term are clear
-pub use Rattle.ll_bindings.proofs.FreshLemmas.{clear-args}
--- a term that comes to the same under a substitution is as clear
-pub use Rattle.ll_bindings.proofs.FreshLemmas.{clear-same}
--- of marks that all hold none fails
-pub use Rattle.ll_bindings.proofs.FreshLemmas.{none-false}
--- terms in which no more stands leave new variables new
-pub use Rattle.ll_bindings.proofs.FreshLemmas.{fresh-keeps}
--- variables that are new to terms are new to the first
-pub use Rattle.ll_bindings.proofs.FreshLemmas.{fresh-first}
+-- a variable at a place has a cell
+pub use Rattle.ll_bindings.proofs.Tables.{var-below}
+-- an unbound variable at a place stands for itself
+pub use Rattle.ll_bindings.proofs.Tables.{end-var}
+-- an argument of a place is a place
+pub use Rattle.ll_bindings.proofs.Tables.{step-inside}
 -- ---- heads and arguments
 
 -- the arguments of a head with arguments
 pub use Rattle.ll_bindings.proofs.Spines.{args_in-app}
--- a term weighs two or more
-pub use Rattle.ll_bindings.proofs.Spines.{weight-two}
 -- a head with arguments begins with a head
 pub use Rattle.ll_bindings.proofs.Spines.{is_spine-app}
--- a place that shows a head with arguments begins with a head
-pub use Rattle.ll_bindings.proofs.Pairs.{spine-place}
--- two applications have one shape where their heads are equal and their arguments as many
-pub use Rattle.ll_bindings.proofs.Pairs.{shape-app}
--- terms of one shape have as many arguments
-pub use Rattle.ll_bindings.proofs.Alike.{shape-length}
--- terms of one head and as many arguments differ where their arguments do
-pub use Rattle.ll_bindings.proofs.Alike.{diff-spine}
--- lists differ where their fronts do, and then where their backs do
-pub use Rattle.ll_bindings.proofs.Alike.{diff-append}
--- terms of different heads, or with more arguments, clash
-pub use Rattle.ll_bindings.proofs.Alike.{diff-clash}
--- a number clashes with an application
-pub use Rattle.ll_bindings.proofs.Pairs.{clash-int-app}
--- an application clashes with a number
-pub use Rattle.ll_bindings.proofs.Pairs.{clash-app-int}
--- ---- unification, step by step
+-- a head with arguments is no variable
+pub use Rattle.ll_bindings.proofs.Spines.{app-var}
+-- a term is built up from its head and arguments
+pub use Rattle.ll_bindings.proofs.Spines.{build_up}
+-- what holds of a term and goes down to its parts holds of its arguments
+pub use Rattle.ll_bindings.proofs.Spines.{take_down}
+-- what is below one more is below, or it is the number itself
+pub use Rattle.ll_bindings.proofs.Spines.{below-suc}
+-- a term weighs two or more
+pub use Rattle.ll_bindings.proofs.Spines.{weight-two}
+-- the arguments from one on weigh as much as that one and those behind it
+pub use Rattle.ll_bindings.proofs.Spines.{rest_weight-more}
+-- a term at a place weighs more than its arguments
+pub use Rattle.ll_bindings.proofs.Spines.{weight-place}
+-- ---- stacks of things that wait for one another
 
--- at first all of both lists is left to unify
-pub use Rattle.ll_bindings.proofs.Solving.{solves-start}
--- the same lists in another form
-pub use Rattle.ll_bindings.proofs.Solving.{solves-alike}
--- nothing is left to unify, and the unifier is what the table says
-pub use Rattle.ll_bindings.proofs.Solving.{solves-none}
--- what is left clashes, and there is no unifier
-pub use Rattle.ll_bindings.proofs.Solving.{solves-clash}
--- a table keeps its own cells
-pub use Rattle.ll_bindings.proofs.Settling.{keeps-same}
--- cells that are kept twice are kept
-pub use Rattle.ll_bindings.proofs.Settling.{keeps-then}
+-- what holds with a last element
+pub use Rattle.ll_bindings.proofs.Stacks.{opened}
+-- what holds on the empty stack
+pub use Rattle.ll_bindings.proofs.Stacks.{closed}
+-- one more on top leaves the lowest one, or is it
+pub use Rattle.ll_bindings.proofs.Stacks.{lowest-push}
+-- one more waits
+pub use Rattle.ll_bindings.proofs.Stacks.{Waits-push}
+-- the last one waits, and those below for it
+pub use Rattle.ll_bindings.proofs.Stacks.{Waits-last}
+-- those that wait in one way wait in each that follows from it
+pub use Rattle.ll_bindings.proofs.Stacks.{Waits-map}
+-- a list is empty or has a last element
+pub use Rattle.ll_bindings.proofs.Stacks.{split_last}
+-- of these two, that it is empty
+pub use Rattle.ll_bindings.proofs.Stacks.{no_item}
+-- and that it has a last element
+pub use Rattle.ll_bindings.proofs.Stacks.{an_item}
+-- ---- the weight of what is left of terms that are gone through
+
+-- one term less weighs less
+pub use Rattle.ll_bindings.proofs.Frames.{weight-pops}
+-- so does a term with an argument more that is done
+pub use Rattle.ll_bindings.proofs.Frames.{weight-known}
+-- and with that argument's own arguments to be done
+pub use Rattle.ll_bindings.proofs.Frames.{weight-opens}
 -- ---- cells
 
 -- a cell that is bound lies among the cells
@@ -272,18 +271,3 @@ found-unbound nodes t y z h = go (suc (h.ordered.rank y)) y (omega arith)
         step ih (Some at) e =
             occurs-from (found nodes t) z (term_tree nodes at.0) (subst (λ u. occurs z u ≡ true) (found-bound nodes t y at h e) o)
             (λ w i j. ih w (let f = h.ordered.falls y at e w i in omega arith) j)
-
--- ---- what unification asks for
-
--- where nothing is bound, what unifies the lists as they stand
-pub wanted-start : (nodes : Nodes) (t : Table) (ls rs : List Term) → ((x : ℕ) → cell t x ≡ None) → wanted nodes t ls rs ≡ mgu ls rs t.levels
-wanted-start nodes t ls rs h =
-    (λ i. option_map (along (free i)) (mgu (map (sub (free i)) ls) (map (sub (free i)) rs) t.levels))
-    ∙ ((λ i. option_map (along Var) (mgu (subs_id ls i) (subs_id rs i) t.levels)) ∙ same (mgu ls rs t.levels))
-  where
-    free : found nodes t ≡ Var
-    free = λ i x. found-free nodes t x (h x) i
-
-    same : (o : Option Solved) → option_map (along Var) o ≡ o
-    same None = refl
-    same (Some v) = refl

@@ -2,14 +2,5 @@ pub mod Spines
 pub mod Stacks
 pub mod Readings
 pub mod Tables
-pub mod Scans
-pub mod Alike
-pub mod Binding
-pub mod Pairs
-pub mod Solving
-pub mod FreshLemmas
-pub mod Settling
+pub mod Frames
 pub mod CallerLemmas
-pub mod Copies
-pub mod Carrying
-pub mod NovelLemmas

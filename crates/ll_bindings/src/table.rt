@@ -2,7 +2,6 @@
 ghost use Rattle.std.specs.Prelude.{◌≡◌, ◌<◌, ◌≤◌, ℕ, ◌+◌, ◌^◌, length, IfOk, OnOk, IfSome, None, slice_index, slice_index_or};
 ghost use Rattle.ll_bank.specs.Term.{Term, sub};
 ghost use Rattle.ll_bank.specs.Nodes.{term_tree, HasTerm};
-ghost use Rattle.ll_laws.specs.Unify.{is_older};
 ghost use Rattle.ll_bindings.specs.Bindings.{Table, IsTable, IsPlaceOf, IsValue, IsEnd, IsAmong, AreSame, IsSet, IsLevel};
 ghost use Rattle.ll_bindings.specs.Spines.{IsArgument, AreArguments};
 
@@ -75,15 +74,6 @@ pub fn walk<T: Bindings>(bank: &Bank, table: &T, at: At) -> At
         end = to;
     }
     end
-}
-
-/// The pair (level, number) of `x` is below that of `y`.
-pub fn is_older<T: Bindings>(table: &T, x: usize, y: usize) -> bool
-    requires first { x < length (T.table table.now).levels }
-    requires second { y < length (T.table table.now).levels }
-    ensures { result ≡ is_older (T.table table.now).levels x y }
-{
-    table.level(x) < table.level(y) || table.level(x) == table.level(y) && x < y
 }
 
 /// An argument of the term at a place.

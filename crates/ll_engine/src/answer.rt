@@ -8,7 +8,7 @@ ghost use Rattle.ll_freeze.specs.Fits.{Fits};
 ghost use Rattle.ll_engine.specs.Turned.{is_empty, answers};
 
 use ll_bank::{At, Bank, FormAt, OutOfMemory};
-use ll_bindings::{Carrier, read_into};
+use ll_copy::{Carrier, read_into};
 use ll_freeze::Machine;
 use ll_laws::{Branch, Step};
 use ll_resources::Context;

@@ -16,7 +16,7 @@ use crate::attempt::go_on;
 use crate::take::unify_under;
 use ll_agenda::Top;
 use ll_bank::{At, FormNode, Names, OutOfMemory};
-use ll_bindings::read_all;
+use ll_copy::read_all;
 use ll_freeze::Machine;
 use ll_laws::Step;
 use ll_modules::value;

@@ -5,7 +5,7 @@ ghost use Rattle.ll_bank.specs.Term.{close, applies_heads};
 ghost use Rattle.ll_bank.specs.Nodes.{form_tree, term_tree, HasTerm, AllInTerms, Extends};
 ghost use Rattle.ll_close.specs.Closing.{env_of};
 ghost use Rattle.ll_bindings.specs.Bindings.{IsTable, IsPlaceOf, HasCells, count};
-ghost use Rattle.ll_bindings.specs.Fresh.{StandsNowhere};
+ghost use Rattle.ll_equate.specs.Fresh.{StandsNowhere};
 ghost use Rattle.ll_store.specs.Stored.{stored, KeepsMarks};
 ghost use Rattle.ll_store.specs.Tables.{table_of};
 ghost use Rattle.ll_laws.specs.Leaf.{ways};

@@ -11,9 +11,10 @@ use Rattle.ll_bank.specs.Nodes.{Nodes, term_tree, term_trees, AllInTerms}
 use Rattle.ll_laws.specs.Unify.{Solved, mgu, vars_below}
 use Rattle.ll_laws.proofs.CallerLemmas.{sub_id, sub_same, found-unifier, found-falls, found-best, none-unifier}
 use Rattle.ll_bindings.specs.Bindings.{Table, cell, count, found, IsTable, IsPlaceOf, BindsPlaces}
-use Rattle.ll_bindings.specs.Solving.{IsAnswer, wanted}
-use Rattle.ll_bindings.specs.Copied.{IsFinal, AreFinal}
-use Rattle.ll_bindings.proofs.CallerLemmas.{found-free, found-unbound, place-below, table-unbound, wanted-start}
+use Rattle.ll_equate.specs.Solving.{IsAnswer, wanted}
+use Rattle.ll_copy.specs.Copied.{IsFinal, AreFinal}
+use Rattle.ll_bindings.proofs.CallerLemmas.{found-free, found-unbound, place-below, table-unbound}
+use Rattle.ll_equate.proofs.CallerLemmas.{wanted-start}
 use Rattle.ll_unify.specs.declared.table.Table.{Table as KeptTable}
 use Rattle.ll_unify.specs.declared.Subst.{Subst}
 use Rattle.ll_unify.specs.Tables.{table_of, IsStart}

@@ -10,7 +10,8 @@ ghost use Rattle.ll_laws.specs.Unify.{mgu, vars_below};
 ghost use Rattle.ll_unify.specs.Unifies.{solved_of, HasEntries, IsBest};
 
 use ll_bank::{At, Bank, OutOfMemory};
-use ll_bindings::{read_cells, unify};
+use ll_copy::read_cells;
+use ll_equate::unify;
 use std::alloc::Global;
 use table::Table;
 

@@ -47,9 +47,10 @@ use Rattle.ll_engine.specs.Opening.{Opens}
 use Rattle.ll_engine.specs.Front.{IsFront}
 use Rattle.ll_engine.specs.Taking.{IsUnified, Unifies}
 use Rattle.ll_bindings.specs.Bindings.{Table, IsTable, IsOrdered, IsPlaceOf, HasCells}
-use Rattle.ll_bindings.specs.Scanned.{is_bad}
-use Rattle.ll_bindings.specs.Fresh.{StandsNowhere}
-use Rattle.ll_bindings.proofs.CallerLemmas.{table-extends, cells-below, place-below, clear-of, clear-var}
+use Rattle.ll_equate.specs.Scanned.{is_bad}
+use Rattle.ll_equate.specs.Fresh.{StandsNowhere}
+use Rattle.ll_bindings.proofs.CallerLemmas.{table-extends, cells-below, place-below}
+use Rattle.ll_equate.proofs.CallerLemmas.{clear-of, clear-var}
 use Rattle.ll_engine.proofs.machine.ReadLemmas.{reading_same, reading_past, read_same, length_variables, fits_table, with_cells, same_table, table_more}
 use Rattle.ll_engine.proofs.machine.ReadLemmas.{table_values, reads_more}
 use Rattle.ll_engine.proofs.machine.CellLemmas.{all_drop}

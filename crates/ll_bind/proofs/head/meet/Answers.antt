@@ -4,8 +4,8 @@ use Rattle.ll_bank.specs.Term.{Term, close}
 use Rattle.ll_bank.specs.Nodes.{term_tree}
 use Rattle.ll_bank.proofs.CallerLemmas.{term_tree-extends}
 use Rattle.ll_close.specs.Closing.{env_of}
-use Rattle.ll_bindings.specs.Fresh.{AreFresh, LeavesFresh}
-use Rattle.ll_bindings.specs.Solving.{Settles}
+use Rattle.ll_equate.specs.Fresh.{AreFresh, LeavesFresh}
+use Rattle.ll_equate.specs.Solving.{Settles}
 use Rattle.ll_bindings.proofs.CallerLemmas.{table-extends}
 use Rattle.ll_store.specs.declared.store.Store.{Store}
 use Rattle.ll_store.specs.Tables.{table_of}

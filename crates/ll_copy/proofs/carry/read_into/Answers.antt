@@ -1,0 +1,36 @@
+use Rattle.std.proofs.Common.{get_or, refl, ◌+◌}
+use Rattle.ll_bank.specs.declared.At.{At}
+use Rattle.ll_bank.proofs.CallerLemmas.{Extends-refl, Extends-trans}
+use Rattle.ll_copy.proofs.Copies.{read-none, carried-more}
+use Rattle.ll_copy.proofs.carry.read_into.Goals as goal
+
+pub returns-in_err-copies-clause-keeps : goal.returns-in_err-copies-clause-keeps
+returns-in_err-copies-clause-keeps g c = Extends-refl c.args.other.now
+
+pub loop-place-init : goal.loop-place-init
+loop-place-init g c = record {
+  keeps = Extends-refl c.args.other.now;
+  known = λ at copy k. let q = rw c.clear.ensures.items at k in cc;
+  read = rw c.in_ok-copies.ensures.items (read-none c.args.bank.now c.args.other.now (g.T.Bindings.table c.args.table.now));
+}
+
+pub loop-place-preserved : goal.loop-place-preserved
+loop-place-preserved g c =
+    let first = c.args.bank.now in
+    let t = g.T.Bindings.table c.args.table.now in
+    let none : At = record { 0 = 0 } in
+    record {
+      keeps = Extends-trans c.loop-place.invariant.keeps c.in_ok-copy.ensures.keeps;
+      known = c.in_ok-copy.ensures.known;
+      read = rw c.in_ok-push.ensures.items
+          (carried-more first c.loop-place.other c.carry_one.new.other t c.loop-place.place-index (c.loop-place.place-index + 1) c.args.places.now
+          c.loop-place.copies.items none
+          (get_or c.args.places.now c.loop-place.place-index none) c.in_ok-copy.copy c.in_ok-copy.ensures.keeps c.loop-place-test.true refl refl
+          c.loop-place.invariant.read c.in_ok-copy.ensures.copy);
+    }
+
+pub returns-in_err-copy-clause-keeps : goal.returns-in_err-copy-clause-keeps
+returns-in_err-copy-clause-keeps g c = Extends-trans c.loop-place.invariant.keeps c.carry_one.ensures.keeps
+
+pub returns-in_err-push-clause-keeps : goal.returns-in_err-push-clause-keeps
+returns-in_err-push-clause-keeps g c = Extends-trans c.loop-place.invariant.keeps c.carry_one.ensures.keeps

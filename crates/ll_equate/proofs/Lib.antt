@@ -1,0 +1,9 @@
+pub mod Scans
+pub mod Alike
+pub mod Binding
+pub mod Pairs
+pub mod Solving
+pub mod FreshLemmas
+pub mod Settling
+pub mod CallerLemmas
+pub mod NovelLemmas

@@ -1,0 +1,12 @@
+use Rattle.std.proofs.lemmas.Option.{IfSome_then}
+use Rattle.ll_equate.proofs.NovelLemmas.{meeting-new}
+use Rattle.ll_equate.proofs.bind.new_at.Goals as goal
+
+pub returns-clause-meeting : goal.returns-clause-meeting
+returns-clause-meeting g c =
+    IfSome_then c.fresh_at.result c.fresh_at.ensures
+    (λ x n. meeting-new c.args.bank.now (g.T.Bindings.table c.args.table.now) c.args.fresh.now c.args.left.0 c.args.right.0 x c.requires.left c.requires.right n
+    (c.is_variable.ensures.no_var c.if-is_variable.false))
+
+pub returns-clause-no_var : goal.returns-clause-no_var
+returns-clause-no_var g c = IfSome_then c.fresh_at.result c.fresh_at.ensures (λ x n. c.is_variable.ensures.no_var c.if-is_variable.false)

@@ -1,0 +1,7 @@
+use Rattle.ll_equate.proofs.Pairs.{class-joined, classes-set}
+use Rattle.ll_equate.proofs.classes.Classes.lead.Goals as goal
+
+pub returns : goal.returns
+returns c =
+    λ nodes t h j. classes-set nodes t c.grow.new.list.items c.args.high c.args.low c.in_ok-grow.ensures.inside (c.in_ok-grow.ensures.classes nodes t h)
+    (class-joined nodes t c.args.low c.args.high c.requires j)

@@ -1,0 +1,34 @@
+use Rattle.std.proofs.Common.{refl, [], ◌∷◌, ◌++◌, ◌≡◌, ◌∙◌, List, ap, subst}
+use Rattle.std.proofs.lemmas.Result.{IfOk-weaker}
+use Rattle.ll_equate.specs.declared.meet.Pair.{Pair}
+use Rattle.ll_equate.specs.Pairs.{lefts, rights}
+use Rattle.ll_equate.specs.Fresh.{LeavesFresh}
+use Rattle.ll_equate.specs.Solving.{Settles}
+use Rattle.ll_equate.proofs.Solving.{pairs-start}
+use Rattle.ll_equate.proofs.equate.open.Goals as goal
+
+pub settle-requires-clause-pairs : goal.settle-requires-clause-pairs
+settle-requires-clause-pairs g c =
+    rw (c.in_ok-push.ensures.items, c.clear.ensures.items)
+    (pairs-start c.args.bank.now (g.T.Bindings.table c.args.table.now) (record { left = c.args.left; right = c.args.right; next = 0 }) c.requires.pair refl)
+
+pub returns-clause-settles : goal.returns-clause-settles
+returns-clause-settles g c =
+    let p : Pair = record { left = c.args.left; right = c.args.right; next = 0 } in
+    let e : c.push.new.self.items ≡ p ∷ [] = c.in_ok-push.ensures.items ∙ ap (λ (ps : List Pair). ps ++ p ∷ []) c.clear.ensures.items in
+    IfOk-weaker c.settle.result _ _
+    (λ good h. subst (λ (ps : List Pair). Settles c.args.bank.now (g.T.Bindings.table c.args.table.now) (g.T.Bindings.table c.settle.new.table)
+    (lefts c.args.bank.now ps) (rights c.args.bank.now ps) good) e h)
+    c.settle.ensures.settles
+
+pub settle-requires-clause-fresh : goal.settle-requires-clause-fresh
+settle-requires-clause-fresh g c = rw (c.in_ok-push.ensures.items, c.clear.ensures.items) c.requires.fresh
+
+pub returns-clause-fresh : goal.returns-clause-fresh
+returns-clause-fresh g c =
+    let p : Pair = record { left = c.args.left; right = c.args.right; next = 0 } in
+    let e : c.push.new.self.items ≡ p ∷ [] = c.in_ok-push.ensures.items ∙ ap (λ (ps : List Pair). ps ++ p ∷ []) c.clear.ensures.items in
+    IfOk-weaker c.settle.result _ _
+    (λ good h q. subst (λ (ps : List Pair). LeavesFresh c.args.bank.now (g.T.Bindings.table c.args.table.now) (g.T.Bindings.table c.settle.new.table)
+    c.args.work.now.fresh c.settle.new.work.fresh (lefts c.args.bank.now ps) []) e (h q))
+    c.settle.ensures.fresh

@@ -1,0 +1,7 @@
+use Rattle.ll_equate.proofs.Scans.{scan-starts}
+use Rattle.ll_equate.proofs.scan.scan.Goals as goal
+
+pub frames-init : goal.frames-init
+frames-init g c =
+    rw (c.new-frames.ensures.items, c.requires.places, c.requires.vars)
+    (scan-starts c.args.bank.now (g.T.Bindings.table c.args.table.now) c.args.var c.args.level c.args.start c.requires.start)

@@ -1,0 +1,5 @@
+pub mod Scanned
+pub mod Fresh
+pub mod Pairs
+pub mod Solving
+pub mod Novel

@@ -1,4 +1,5 @@
 pub mod Counting
 pub mod Writing
+pub mod Fronts
 pub mod Reading
 pub mod CallerLemmas

@@ -1,10 +1,8 @@
 -- Status and text of a call.
 pub mod CallLemmas
 pub mod DeepenLaws
-pub mod FaultExamples
 pub mod LawLemmas
 pub mod OneText
 pub mod OutcomeLemmas
 pub mod OwnLemmas
-pub mod PartsLemmas
 pub mod SessionLaws

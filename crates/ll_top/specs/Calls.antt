@@ -1,9 +1,8 @@
--- What a call of the program comes to, by its words and the texts on its shelf, and how it ends.
+-- What a call of the program comes to, by its words and the texts on its shelf.
 use Rattle.std.specs.Prelude.{◌≡◌, ◌⊎◌, ℕ, List, Option, Some, None}
 use Rattle.std.specs.Io.KnownBytes.{append_known}
 use Rattle.ll_edge.specs.Texts.{Texts}
-use Rattle.ll_edge.specs.Pieces.{AppendsFront}
-use Rattle.ll_top.specs.Faults.{Usage, fault_text}
+use Rattle.ll_judge.specs.Faults.{Usage, fault_text}
 use Rattle.ll_top.specs.Making.{MakeComesTo}
 use Rattle.ll_words.specs.Making.{MakeWords, MadeRunWords}
 use Rattle.ll_top.specs.MadeRuns.{MadeRunComesTo}
@@ -11,10 +10,12 @@ use Rattle.ll_words.specs.Words.{RunWords, SessionWords, DeepenWords, CheckWords
 use Rattle.ll_words.specs.Words.{IsConvert, IsMake, IsMadeRun}
 use Rattle.ll_laws.specs.Problem.{ProblemTree}
 use Rattle.ll_laws.specs.Output.{run_status}
-use Rattle.ll_top.specs.Outcome.{RunComesTo, RunAsks, whole_text, PrintComesTo, CheckComesTo}
+use Rattle.ll_top.specs.Outcome.{RunComesTo, whole_text}
+use Rattle.ll_judge.specs.Outcome.{RunAsks, PrintComesTo}
+use Rattle.ll_check.specs.Outcome.{CheckComesTo}
 use Rattle.ll_top.specs.Sessions.{SessionComesTo}
 use Rattle.ll_top.specs.Deepening.{DeepenComesTo}
-use Rattle.ll_top.specs.Converting.{ConvertComesTo}
+use Rattle.ll_judge.specs.Converting.{ConvertComesTo}
 
 -- what a call with these words comes to: the status and the whole text, where memory does not run out and no write fails
 pub data ComesTo (words : List (List ℕ)) (told : Option Texts) (absence read_failed : Type 0) (status : ℕ) (text : List ℕ) : Type 0 where
@@ -31,19 +32,6 @@ pub data ComesTo (words : List (List ℕ)) (told : Option Texts) (absence read_f
       → ComesTo words told absence read_failed status text
   runs_made : (run : MadeRunWords) → IsMadeRun words run → MadeRunComesTo run status text → ComesTo words told absence read_failed status text
   makes : (make : MakeWords) → IsMake words make → MakeComesTo make status text → ComesTo words told absence read_failed status text
-
--- what was appended where memory ran out: nothing, or a prefix of what would have been written
-pub data AppendsOwn (Comes : ℕ → List ℕ → Type 0) (before after : Option (List ℕ)) : Type 0 where
-  nothing : after ≡ before → AppendsOwn Comes before after
-  front : (status : ℕ) (text : List ℕ) → Comes status text → AppendsFront before text after → AppendsOwn Comes before after
-
--- How a call ends that comes to this: its whole text was written; or a write failed, with a prefix of it written; or memory ran out.
--- `write_failed` says that the sink's count of faults rose.
-pub data Ends (Comes : ℕ → List ℕ → Type 0) (write_failed : Type 0) (before after : Option (List ℕ)) (status : ℕ) : Type 0 where
-  whole : (text : List ℕ) → Comes status text → after ≡ append_known before text → Ends Comes write_failed before after status
-  unwritable : (meant : ℕ) (text : List ℕ) → Comes meant text → write_failed → status ≡ 6 → AppendsFront before text after
-      → Ends Comes write_failed before after status
-  no_memory : status ≡ 10 → AppendsOwn Comes before after → Ends Comes write_failed before after status
 
 -- A call with these words is complete: where the texts are told, and neither a read nor a write failed, it ends with the one status and
 -- the one whole text that its words and texts come to, or memory ran out.

@@ -2,11 +2,11 @@
 use Rattle.std.specs.Prelude.{◌≡◌, ℕ, List, ◌++◌, Option, None, codes, decimal}
 use Rattle.ll_edge.specs.Texts.{Texts}
 use Rattle.ll_deepen.specs.Deciding.{IsDeciding}
-use Rattle.ll_laws.specs.Output.{line}
+use Rattle.ll_laws.specs.Output.{line, run_status}
 use Rattle.ll_laws.specs.Problem.{ProblemTree}
-use Rattle.ll_top.specs.Faults.{Cause, fault_text, cause_status}
-use Rattle.ll_top.specs.Outcome.{RunAsks, RunFails, whole_text}
-use Rattle.ll_laws.specs.Output.{run_status}
+use Rattle.ll_judge.specs.Faults.{Cause, fault_text, cause_status}
+use Rattle.ll_judge.specs.Outcome.{RunAsks, RunFails}
+use Rattle.ll_top.specs.Outcome.{whole_text}
 use Rattle.ll_words.specs.Words.{RunWords, DeepenWords}
 
 -- the run with one of its bounds

@@ -1,9 +1,4 @@
 pub mod Making
-pub mod Faults
-pub mod Converting
-pub mod ConvertEnds
-pub mod Verdicts
-pub mod Judging
 pub mod MadeRuns
 pub mod Outcome
 pub mod Sessions
@@ -15,7 +10,5 @@ pub mod SessionEnds
 pub mod DeepenEnds
 pub mod MadeEnds
 pub mod Running
-pub mod Lines
 pub mod Proved
 pub mod Nothing
-pub mod Counting

@@ -6,7 +6,7 @@ use Rattle.ll_laws.specs.Output.{run_status, summary_text}
 use Rattle.ll_make.specs.Kinds.{query_text}
 use Rattle.ll_top.specs.Making.{make_text}
 use Rattle.ll_words.specs.Making.{MadeRunWords}
-use Rattle.ll_top.specs.Judging.{TextsAsk}
+use Rattle.ll_judge.specs.Judging.{TextsAsk}
 
 -- the program that is made and the query of its kind ask this problem
 abbrev pub MadeAsks : MadeRunWords → ProblemTree → Type 0

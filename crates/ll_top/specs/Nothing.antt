@@ -5,7 +5,7 @@ use Rattle.ll_laws.specs.Problem.{ProblemTree}
 use Rattle.ll_laws.specs.Line.{DerivationLines}
 use Rattle.ll_laws.specs.Completeness.{ShowsClosed}
 use Rattle.ll_words.specs.Words.{RunWords}
-use Rattle.ll_top.specs.Outcome.{RunAsks}
+use Rattle.ll_judge.specs.Outcome.{RunAsks}
 
 -- No derivation shows the query of the problem (derivations after Hodas and Miller 1994): none at all, whatever closed terms it has for
 -- the query's variables and however many nodes. Derivations with whole-number goals are left out.

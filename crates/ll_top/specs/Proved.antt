@@ -14,8 +14,8 @@ use Rattle.ll_laws.specs.Dealt.{asked_terms}
 use Rattle.ll_laws.specs.Output.{answer_text, summary_text}
 use Rattle.ll_laws.specs.ProofText.{proof_text}
 use Rattle.ll_words.specs.Words.{RunWords}
-use Rattle.ll_top.specs.Outcome.{RunAsks, front_events}
-use Rattle.ll_top.specs.Verdicts.{stopped_text}
+use Rattle.ll_judge.specs.Outcome.{RunAsks}
+use Rattle.ll_top.specs.Outcome.{front_events, stopped_text}
 
 -- The derivation shows the answer: it is a whole derivation of the query with the answer's terms for its variables, in which every
 -- linear clause is used exactly once, and it has as many nodes as the answer's branch has steps.

@@ -1,25 +1,13 @@
 //! The top call: everything that the program does.
 #![tactic(auto)]
 
-mod checking;
-mod converting;
 mod deepening;
-mod fault;
-mod finding;
 mod first_run;
-mod heading;
 mod indexes;
-mod judge;
-mod line;
 mod made_runs;
 mod making;
-mod outlet;
-mod prepare;
-mod printing;
-mod refusal;
 mod run;
 mod session;
-mod silent;
 mod team;
 
 ghost use Rattle.std.specs.Prelude.{◌≡◌, ◌≤◌, ◌<◌, ◌↔◌, ◌⊎◌, ℕ, List, Option, None, Some, IfSome, IfOk, IfErr, OnOk, OnErr};
@@ -28,36 +16,31 @@ ghost use Rattle.ll_edge.specs.Counts.{Rose};
 ghost use Rattle.ll_edge.specs.Pieces.{AppendsFront};
 ghost use Rattle.ll_edge.specs.Texts.{Texts};
 ghost use Rattle.ll_laws.specs.Valid.{IsValid};
-ghost use Rattle.ll_words.specs.Words.{FitsForm, cover_form, IsInForm, IsInWorkersForm, RunWords, IsRun, shown_words, shown_check};
-ghost use Rattle.ll_top.specs.Outcome.{name_of, name_in_check, RunComesTo, PrintComesTo, CheckComesTo, IsDenied, IsCoveredCall, IsUncoveredCall};
-ghost use Rattle.ll_words.specs.Words.{word_texts};
-ghost use Rattle.ll_top.specs.Outcome.{text_of_run, status_of_run};
-ghost use Rattle.ll_top.specs.Calls.{ComesTo, Ends, Completes, Headline};
-ghost use Rattle.ll_top.specs.Endings.{status_of_found, status_of_finding, RunEnds};
+ghost use Rattle.ll_words.specs.Words.{FitsForm, cover_form, IsInForm, IsInWorkersForm, RunWords, IsRun, shown_words, word_texts};
+ghost use Rattle.ll_judge.specs.Outcome.{name_of};
+ghost use Rattle.ll_check.specs.Outcome.{IsDenied, IsCoveredCall, IsUncoveredCall};
+ghost use Rattle.ll_top.specs.Outcome.{RunComesTo, text_of_run, status_of_run};
+ghost use Rattle.ll_top.specs.Calls.{ComesTo, Completes, Headline};
+ghost use Rattle.ll_judge.specs.CallEnds.{Ends};
+ghost use Rattle.ll_top.specs.Endings.{status_of_found, RunEnds};
 ghost use Rattle.ll_top.specs.Running.{IsRunRefusal};
 ghost use Rattle.ll_top.specs.Proved.{WritesShown};
 ghost use Rattle.ll_top.specs.Nothing.{AsksInVain};
 
-use checking::check_derivation;
-use converting::serve_convert;
 use deepening::serve_deepen;
-use fault::{Cause, refuse};
-use finding::Finding;
 use first_run::run_first;
-use judge::Role;
+use ll_check::serve_check;
 use ll_edge::{Gate, Shelf, Sink};
+use ll_judge::{Cause, Refusal, Role, prepare, refuse, serve_convert, serve_print};
 use ll_laws::{Problem, answers_are_shown, search_is_complete};
 use ll_lexer::one_reading;
 use ll_parser::{one_program, one_query};
 use ll_prooftext::one_derivation_in_any;
 use ll_session::one_session;
-use ll_words::{CheckCommand, Command, RunCommand, read_command, workers_of};
+use ll_words::{Command, RunCommand, read_command, workers_of};
 pub use made_runs::made_asks;
 use made_runs::serve_made_run;
 use making::serve_make;
-use prepare::prepare;
-use printing::print_program;
-use refusal::Refusal;
 use run::{Found, run};
 use session::serve_session;
 use std::alloc::Global;
@@ -329,25 +312,6 @@ fn run_problem<R: Threads + Wait + Sync, O: Sink, G: Gate>(
     }
 }
 
-// Prints a program, and says why not where it is not printed.
-fn serve_print<F: Shelf, O: Sink>(alloc: Global, name: &str, shelf: &mut F, sink: &mut O) -> u8
-    ensures same_texts { F.texts shelf.new ≡ F.texts shelf.old }
-    ensures shelf_faults_kept { F.faults shelf.old ≤ F.faults shelf.new }
-    ensures absences_kept { F.absences shelf.old ≤ F.absences shelf.new }
-    ensures sink_faults_kept { O.faults sink.old ≤ O.faults sink.new }
-
-    ensures ends { Ends (PrintComesTo (F.texts shelf.old) (Rose (F.absences shelf.old) (F.absences shelf.new))
-        (Rose (F.faults shelf.old) (F.faults shelf.new)) name.now) (Rose (O.faults sink.old) (O.faults sink.new))
-        (O.written sink.old) (O.written sink.new) result }
-{
-    match print_program(alloc, name, shelf, sink) {
-        Ok(()) => 0,
-        Err(Refusal::Text(_, refusal)) => refuse(refusal.cause(name), sink),
-        Err(Refusal::Unwritable) => 6,
-        Err(Refusal::OutOfMemory) => 10,
-    }
-}
-
 // The name of a run's text.
 fn text_name<'a>(run: &RunCommand<'a>, role: Role) -> &'a str
     ensures { result.now ≡ name_of (shown_words run.now) role }
@@ -357,58 +321,6 @@ fn text_name<'a>(run: &RunCommand<'a>, role: Role) -> &'a str
         Role::Query => run.query,
         // A run has no derivation.
         Role::Proof => "",
-    }
-}
-
-// Checks a derivation, or says which answer covers it, and says why not where this is not done.
-fn serve_check<F: Shelf, O: Sink>(
-    alloc: Global,
-    check: &CheckCommand<'_>,
-    shelf: &mut F,
-    sink: &mut O,
-) -> u8
-    requires bound { IfSome check.now.bound (λ bound. bound ≤ 1000000) }
-
-    ensures same_texts { F.texts shelf.new ≡ F.texts shelf.old }
-    ensures shelf_faults_kept { F.faults shelf.old ≤ F.faults shelf.new }
-    ensures absences_kept { F.absences shelf.old ≤ F.absences shelf.new }
-    ensures sink_faults_kept { O.faults sink.old ≤ O.faults sink.new }
-
-    ensures ends { Ends (CheckComesTo (F.texts shelf.old) (Rose (F.absences shelf.old) (F.absences shelf.new))
-        (Rose (F.faults shelf.old) (F.faults shelf.new)) (shown_check check.now)) (Rose (O.faults sink.old) (O.faults sink.new))
-        (O.written sink.old) (O.written sink.new) result }
-{
-    match check_derivation(alloc, check, shelf, sink) {
-        Ok(finding) => finding_status(finding),
-        Err(Refusal::Text(role, refusal)) => {
-            refuse(refusal.cause(checked_name(check, role)), sink)
-        }
-        Err(Refusal::Unwritable) => 6,
-        Err(Refusal::OutOfMemory) => 10,
-    }
-}
-
-// The name of a check's text.
-fn checked_name<'a>(check: &CheckCommand<'a>, role: Role) -> &'a str
-    ensures { result.now ≡ name_in_check (shown_check check.now) role }
-{
-    match role {
-        Role::Program => check.program,
-        Role::Query => check.query,
-        Role::Proof => check.proof,
-    }
-}
-
-// The status of what a check found.
-fn finding_status(finding: Finding) -> u8
-    ensures { result ≡ status_of_finding finding }
-{
-    match finding {
-        Finding::Shows { .. } => 0,
-        Finding::Fails { .. } => 9,
-        Finding::Covered { .. } => 0,
-        Finding::TooLong { .. } => 11,
-        Finding::CountsNumbers { .. } => 11,
     }
 }
 

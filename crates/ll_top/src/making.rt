@@ -4,7 +4,7 @@ ghost use Rattle.ll_edge.specs.Counts.{Rose};
 ghost use Rattle.ll_make.specs.Kinds.{Fits};
 ghost use Rattle.ll_words.specs.Words.{shown_make};
 ghost use Rattle.ll_top.specs.Making.{MakeComesTo};
-ghost use Rattle.ll_top.specs.Calls.{Ends};
+ghost use Rattle.ll_judge.specs.CallEnds.{Ends};
 
 use ll_edge::{Sink, WriteFailed, write_all};
 use ll_make::program;

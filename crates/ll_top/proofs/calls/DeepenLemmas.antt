@@ -10,22 +10,25 @@ use Rattle.ll_edge.specs.Texts.{Texts}
 use Rattle.ll_laws.specs.Problem.{ProblemTree}
 use Rattle.ll_laws.specs.Output.{run_status}
 use Rattle.ll_laws.specs.Valid.{IsValid}
-use Rattle.ll_top.specs.declared.judge.Role.{Role}
-use Rattle.ll_top.specs.declared.refusal.TextRefusal.{TextRefusal}
-use Rattle.ll_top.specs.declared.refusal.Refusal.{Refusal}
-use Rattle.ll_top.specs.declared.refusal.Refusal.TheVariants.{Text, Unwritable, OutOfMemory}
+use Rattle.ll_judge.specs.declared.judge.Role.{Role}
+use Rattle.ll_judge.specs.declared.refusing.TextRefusal.{TextRefusal}
+use Rattle.ll_judge.specs.declared.refusing.Refusal.{Refusal}
+use Rattle.ll_judge.specs.declared.refusing.Refusal.TheVariants.{Text, Unwritable, OutOfMemory}
 use Rattle.ll_top.specs.declared.run.Found.{Found}
 use Rattle.ll_words.specs.Words.{DeepenWords}
-use Rattle.ll_top.specs.Judging.{TextsAsk}
-use Rattle.ll_top.specs.Outcome.{name_of, RunAsks, whole_text}
-use Rattle.ll_top.specs.Calls.{nothing, Ends}
+use Rattle.ll_judge.specs.Judging.{TextsAsk}
+use Rattle.ll_judge.specs.Outcome.{name_of, RunAsks}
+use Rattle.ll_top.specs.Outcome.{whole_text}
+use Rattle.ll_judge.specs.CallEnds.{nothing, Ends}
 use Rattle.ll_top.specs.Deepening.{run_within, bound_line, DeepenComesTo, deepened, deepen_failed}
 use Rattle.ll_top.specs.DeepenEnds.{with_bound, first_run, DeepenRefuses, DeepensTo}
-use Rattle.ll_top.specs.Endings.{cause_of, Prepares, Refuses, status_of_found}
+use Rattle.ll_judge.specs.Endings.{cause_of, Prepares, Refuses}
+use Rattle.ll_top.specs.Endings.{status_of_found}
 use Rattle.ll_top.specs.OwnEnds.{EndsOwn, NoneFails}
 use Rattle.ll_top.specs.Running.{IsRunRefusal}
-use Rattle.ll_top.proofs.outcomes.OutcomeLemmas.{refused-ends}
-use Rattle.ll_top.proofs.outcomes.OwnLemmas.{first-cut, second-done, second-stopped, refused-later, stopped, ended, ends-more}
+use Rattle.ll_judge.proofs.CallerLemmas.{refused-ends}
+use Rattle.ll_edge.proofs.CallerLemmas.{first-cut}
+use Rattle.ll_top.proofs.outcomes.OwnLemmas.{second-done, second-stopped, refused-later, stopped, ended, ends-more}
 
 -- ---- another bound
 

@@ -4,7 +4,7 @@ use Rattle.std.specs.Prelude.{◌↔◌, count_by, is_some, if◌then◌else◌}
 use Rattle.std.specs.Io.KnownBytes.{append_known}
 use Rattle.std.proofs.lemmas.List.{append-nil}
 use Rattle.ll_lists.proofs.CallerLemmas.{none_not_some}
-use Rattle.ll_edge.proofs.CallerLemmas.{append_known-append}
+use Rattle.ll_edge.proofs.CallerLemmas.{append_known-append, front_in}
 use Rattle.ll_edge.specs.Pieces.{AppendsFront}
 use Rattle.ll_first.specs.Upto.{first_of, counted}
 use Rattle.ll_first.proofs.CallerLemmas.{upto_none, upto_some}
@@ -14,12 +14,11 @@ use Rattle.ll_laws.specs.Search.{is_answer}
 use Rattle.ll_laws.specs.Problem.{ProblemTree, problem_events, problem_cost}
 use Rattle.ll_laws.specs.Output.{run_status, counts_text}
 use Rattle.ll_order.specs.Outlets.{CountsOf, Gives}
-use Rattle.ll_top.specs.Outcome.{status_of_run, text_of_run}
+use Rattle.ll_top.specs.Outcome.{status_of_run, text_of_run, stopped_text}
 use Rattle.ll_top.specs.Proved.{stop_or_summary, end_of_run}
-use Rattle.ll_top.specs.Running.{all_lines, OutletState, SameOutlet, Writes, BreaksOff}
-use Rattle.ll_top.specs.Verdicts.{stopped_text}
-use Rattle.ll_top.proofs.calls.GivenLemmas.{front_in}
-use Rattle.ll_top.proofs.calls.RunLemmas.{last-line, events-same, lines-written}
+use Rattle.ll_outlet.specs.Running.{all_lines, OutletState, SameOutlet, Writes, BreaksOff}
+use Rattle.ll_top.proofs.calls.RunLemmas.{last-line}
+use Rattle.ll_outlet.proofs.CallerLemmas.{events-same, lines-written}
 use Rattle.ll_top.proofs.calls.ProvedLemmas.{told-text}
 
 module _ (p : ProblemTree) (k : ℕ) where

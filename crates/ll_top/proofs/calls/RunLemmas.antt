@@ -1,16 +1,14 @@
 -- A run from its start to its end.
 use Rattle.std.proofs.Common.{◌≡◌, ◌≤◌, ℕ, zero, suc, ◌+◌, refl, subst, ap, sym, ◌∙◌, Bool, true, false, List, [], ◌∷◌, ◌++◌, length, take, arith}
 use Rattle.std.proofs.Common.{append_assoc, inl, inr}
-use Rattle.std.specs.Prelude.{Option, Result, Ok, Err, OnOk, OnErr, count_by, cond, nat_lt, ◌||◌, codes, decimal}
-use Rattle.std.specs.List.{list_any}
+use Rattle.std.specs.Prelude.{Option, count_by, cond, nat_lt, ◌||◌}
+use Rattle.std.specs.List.{list_any, Contains}
 use Rattle.std.specs.Io.KnownBytes.{append_known}
 use Rattle.std.proofs.lemmas.List.Sums.{sum_by-cons}
 use Rattle.std.proofs.lemmas.Bool.{lt-ltb}
 use Rattle.std.proofs.lemmas.List.{append-nil, length-take}
 use Rattle.std.proofs.lemmas.List.Elements.{Contains-append_right}
-use Rattle.std.specs.List.{Contains}
-use Rattle.ll_laws.proofs.CallerLemmas.{cut_count-suc}
-use Rattle.ll_edge.proofs.CallerLemmas.{append_known-append}
+use Rattle.ll_edge.proofs.CallerLemmas.{append_known-append, no_front, front_in}
 use Rattle.ll_bank.specs.Term.{Term}
 use Rattle.ll_edge.specs.Pieces.{AppendsFront}
 use Rattle.ll_laws.specs.declared.Event.{Event}
@@ -19,59 +17,22 @@ use Rattle.ll_laws.specs.declared.Counts.{Counts}
 use Rattle.ll_laws.specs.Answered.{Answered}
 use Rattle.ll_laws.specs.Search.{cut_count, is_answer, is_reached}
 use Rattle.ll_laws.specs.Problem.{ProblemTree, problem_events, problem_cost}
-use Rattle.ll_laws.specs.Output.{line, bindings_text, answer_text, answers_text, summary_text, counts_text, run_status, status_by}
-use Rattle.ll_laws.specs.ProofText.{derivation_text, proved_answers_text}
-use Rattle.ll_laws.specs.Dealt.{dealt}
+use Rattle.ll_laws.specs.Output.{summary_text, counts_text, run_status, status_by}
 use Rattle.ll_laws.specs.Laws.{AnswersAreShown}
 use Rattle.ll_laws.specs.Valid.{IsValid}
 use Rattle.ll_laws.specs.Sound.{Every}
-use Rattle.ll_order.specs.Outlets.{Gives, CountsOf}
+use Rattle.ll_order.specs.Outlets.{CountsOf}
 use Rattle.ll_crew.specs.Crews.{GivesPrefix}
+use Rattle.ll_outlet.proofs.CallerLemmas.{events-same, refused-same, front-written, refused-lines}
 use Rattle.ll_top.specs.Outcome.{whole_text}
-use Rattle.ll_top.proofs.calls.GivenLemmas.{no_front, front_in, given-kept, refused-kept, given-written, front-given, refused-written}
-use Rattle.ll_top.specs.Running.{event_lines, all_lines, counted, status_of_counts, AnswersAll, IsWelcome, OutletState, SameOutlet, Writes, BreaksOff}
-
--- ---- counts that are cut
-
--- the text of answers does not change where the count of those before is cut
-answers_text-cut : (p : ProblemTree) (k : ℕ) (es : List Event) → answers_text p (cut_count k) es ≡ answers_text p k es
-answers_text-cut p k [] = refl
-answers_text-cut p k (Answer a ∷ es) =
-    let e = cut_count-suc k in
-    let one : answer_text p (suc (cut_count k)) a ≡ answer_text p (suc k) a = ap (λ n. line (codes "answer " ++ decimal n) ++ bindings_text p a) e in
-    let two = sym (answers_text-cut p (suc (cut_count k)) es) ∙ (ap (λ n. answers_text p n es) e ∙ answers_text-cut p (suc k) es) in cc
-answers_text-cut p k (Reached ∷ es) = answers_text-cut p k es
-
--- ---- events
-
--- and so with proofs
-proved_answers_text-cut : (p : ProblemTree) (k : ℕ) (es : List Event) → proved_answers_text p (cut_count k) es ≡ proved_answers_text p k es
-proved_answers_text-cut p k [] = refl
-proved_answers_text-cut p k (Answer a ∷ es) =
-    let e = cut_count-suc k in
-    let one : answer_text p (suc (cut_count k)) a ≡ answer_text p (suc k) a = ap (λ n. line (codes "answer " ++ decimal n) ++ bindings_text p a) e in
-    let two = sym (proved_answers_text-cut p (suc (cut_count k)) es) ∙ (ap (λ n. proved_answers_text p n es) e ∙ proved_answers_text-cut p (suc k) es) in cc
-proved_answers_text-cut p k (Reached ∷ es) = proved_answers_text-cut p k es
-
--- the lines of an event, and the text of the answers after it
-pub event_then : (proofs : Bool) (p : ProblemTree) (k : ℕ) (e : Event) (es : List Event)
-    → event_lines proofs p k e ++ all_lines proofs p (counted k e) es ≡ all_lines proofs p k (e ∷ es)
-event_then false p k (Answer a) es = ap (λ xs. answer_text p (suc k) a ++ xs) (answers_text-cut p (suc k) es)
-event_then true p k (Answer a) es =
-    let proof = derivation_text p.names (dealt p a) in
-    ap (λ xs. answer_text p (suc k) a ++ proof ++ xs) (proved_answers_text-cut p (suc k) es)
-event_then false p k Reached es = refl
-event_then true p k Reached es = refl
+use Rattle.ll_outlet.specs.Running.{all_lines, AnswersAll, IsWelcome, OutletState, SameOutlet, Writes, BreaksOff}
+use Rattle.ll_top.specs.Running.{status_of_counts}
 
 -- the whole text: the lines of the events, and the last line
 pub whole-lines : (proofs : Bool) (p : ProblemTree) → all_lines proofs p 0 (problem_events p)
     ++ summary_text (count_by is_answer (problem_events p)) (count_by is_reached (problem_events p)) (problem_cost p) ≡ whole_text proofs p
 whole-lines false p = refl
 whole-lines true p = refl
-
-pub no-lines : (proofs : Bool) (p : ProblemTree) (k : ℕ) → all_lines proofs p k [] ≡ []
-no-lines false p k = refl
-no-lines true p k = refl
 
 count-cons : (test : Event → Bool) (e : Event) (es : List Event) (b : Bool) → test e ≡ b → count_by test (e ∷ es) ≡ cond b 1 0 + count_by test es
 count-cons test e es b h = sum_by-cons (λ x. cond (test x) 1 0) e es ∙ ap (λ x. cond x 1 0 + count_by test es) h
@@ -108,79 +69,21 @@ welcome-all shown p v = by [] (problem_events p) refl
 module _ {W : Type 0} (takes breaks : W → Event → W → Type 0) (state : W → OutletState) (writes : (x : W) (e : Event) (y : W) → takes x e y
     → Writes (state x) e (state y))
     (breaks_off : (x : W) (e : Event) (y : W) → breaks x e y → BreaksOff (state x) e (state y)) where
-  -- the lines of an event, and of events from this state on
-  abbrev lines_of : W → Event → List ℕ
-  lines_of x e = event_lines (state x).proofs (state x).problem (state x).answers e
-
+  -- the lines of events from this state on
   abbrev lines_from : W → List Event → List ℕ
   lines_from x es = all_lines (state x).proofs (state x).problem (state x).answers es
 
-  -- the lines of the first event, and of those behind it
-  pub lines-then : (x : W) (e : Event) (y : W) (es : List Event) → takes x e y → lines_of x e ++ lines_from y es ≡ lines_from x (e ∷ es)
-  lines-then x e y es h =
-      let w = writes x e y h in
-      let s = state x in
-      let t = state y in
-      let same : lines_from y es ≡ all_lines s.proofs s.problem (counted s.answers e) es =
-      ap (λ q. all_lines q t.problem t.answers es) w.same.proofs
-      ∙ (ap (λ q. all_lines s.proofs q t.answers es) w.same.problem ∙ ap (λ k. all_lines s.proofs s.problem k es) w.answers) in
-      ap (λ xs. lines_of x e ++ xs) same ∙ event_then s.proofs s.problem s.answers e es
-
-  lines-begin : (x : W) (e : Event) (es : List Event) → (rest : List ℕ) × (lines_of x e ++ rest ≡ lines_from x (e ∷ es))
-  lines-begin x e es = (
-    all_lines (state x).proofs (state x).problem (counted (state x).answers e) es,
-    event_then (state x).proofs (state x).problem (state x).answers e es,
-  )
-
-  pub same-on : (a b c : OutletState) → SameOutlet a b → SameOutlet b c → SameOutlet a c
-  same-on a b c h k =
-      record {
-        problem = k.problem ∙ h.problem;
-        proofs = k.proofs ∙ h.proofs;
-        lent = k.lent ∙ h.lent;
-        faults = let f = h.faults in let g = k.faults in
-            omega arith;
-      }
-
-  same-self : (a : OutletState) → SameOutlet a a
-  same-self a = record { problem = refl; proofs = refl; lent = refl; faults = omega arith }
-
-  took-same : (x : W) (e : Event) (y : W) → takes x e y → SameOutlet (state x) (state y)
-  took-same x e y h = (writes x e y h).same
-
-  broke-same : (x : W) (e : Event) (y : W) → breaks x e y → SameOutlet (state x) (state y)
-  broke-same x e y h = (breaks_off x e y h).same
-
-  abbrev Kept : W → W → Type 0
-  Kept x y = SameOutlet (state x) (state y)
-
-  -- all events were given
-  pub events-same : (x y : W) (es : List Event) → Gives takes x es y → SameOutlet (state x) (state y)
-  events-same x y es g = given-kept takes breaks Kept (λ z. same-self (state z)) (λ a b c. same-on (state a) (state b) (state c)) took-same broke-same x y es g
-
-  pub events-written : (x y : W) (es : List Event) → Gives takes x es y → (state y).written ≡ append_known (state x).written (lines_from x es)
-  events-written x y es g =
-      given-written takes breaks (λ z. (state z).written) lines_of lines_from (λ z. no-lines (state z).proofs (state z).problem (state z).answers)
-      (λ a e b h. (writes a e b h).written) lines-then lines-begin
-      (λ a e b h. (breaks_off a e b h).written) x y es g
-
-  -- only the first of them were
+  -- only the first of the events were given
   pub prefix-same : (x y : W) (es : List Event) → GivesPrefix takes breaks x es y → SameOutlet (state x) (state y)
-  prefix-same x y es (inl (front, back, e, g)) = events-same x y front g
-  prefix-same x y es (inr r) = refused-kept takes breaks Kept (λ z. same-self (state z)) (λ a b c. same-on (state a) (state b) (state c)) took-same broke-same x
-      y es r
+  prefix-same x y es (inl (front, back, e, g)) = events-same takes breaks state writes breaks_off x y front g
+  prefix-same x y es (inr r) = refused-same takes breaks state writes breaks_off x y es r
 
   pub prefix-written : (x y : W) (es : List Event) (last : List ℕ) → GivesPrefix takes breaks x es y
       → AppendsFront (state x).written (lines_from x es ++ last) (state y).written
   prefix-written x y es last (inl (front, back, e, g)) =
       subst (λ xs. AppendsFront (state x).written (lines_from x xs ++ last) (state y).written) (sym e)
-      (front-given takes breaks (λ z. (state z).written) lines_of lines_from (λ z. no-lines (state z).proofs (state z).problem (state z).answers)
-      (λ a e b h. (writes a e b h).written) lines-then lines-begin
-      (λ a e b h. (breaks_off a e b h).written) x y front back last g)
-  prefix-written x y es last (inr r) =
-      refused-written takes breaks (λ z. (state z).written) lines_of lines_from (λ z. no-lines (state z).proofs (state z).problem (state z).answers)
-      (λ a e b h. (writes a e b h).written) lines-then lines-begin
-      (λ a e b h. (breaks_off a e b h).written) x y es last r
+      (front-written takes breaks state writes breaks_off x y front back last g)
+  prefix-written x y es last (inr r) = refused-lines takes breaks state writes breaks_off x y es last r
 
   -- what was written of a text with the lines of these events, of which no answer was taken yet, and something behind them
   pub lines-begun : (x y : W) (p : ProblemTree) (es : List Event) (last text : List ℕ) → (state x).problem ≡ p → (state x).answers ≡ 0
@@ -195,12 +98,6 @@ module _ {W : Type 0} (takes breaks : W → Event → W → Type 0) (state : W �
   pub text-begun : (x y : W) (p : ProblemTree) → (state x).problem ≡ p → (state x).answers ≡ 0 → GivesPrefix takes breaks x (problem_events p) y
       → AppendsFront (state x).written (whole_text (state x).proofs p) (state y).written
   text-begun x y p e k g = lines-begun x y p (problem_events p) (last_text p) (whole_text (state x).proofs p) e k (whole-lines (state x).proofs p) g
-
-  -- all of the lines were written
-  pub lines-written : (x y : W) (p : ProblemTree) (es : List Event) → (state x).problem ≡ p → (state x).answers ≡ 0 → Gives takes x es y
-      → (state y).written ≡ append_known (state x).written (all_lines (state x).proofs p 0 es)
-  lines-written x y p es e k g = events-written x y es g ∙ ap (append_known (state x).written)
-      (ap (λ q. all_lines (state x).proofs q (state x).answers es) e ∙ ap (λ n. all_lines (state x).proofs p n es) k)
 
 any-count : (test : Event → Bool) (es : List Event) → list_any test es ≡ nat_lt 0 (count_by test es)
 any-count test [] = refl
@@ -265,12 +162,3 @@ run-status p c h =
     let f = any-count is_answer es in
     let g = any-count is_reached es in
     let i = status-by c.answers c.reached (count_by is_answer es) (count_by is_reached es) h.0 h.1 in cc
-
--- what follows of a fact for an answer, or for a refusal
-pub on_ok_map : {T E : Type 0} (r : Result T E) (A B : Type 0) → OnOk r A → (A → B) → OnOk r B
-on_ok_map (Ok x) A B h f = f h
-on_ok_map (Err e) A B h f = tt
-
-pub on_err_map : {T E : Type 0} (r : Result T E) (A B : Type 0) → OnErr r A → (A → B) → OnErr r B
-on_err_map (Ok x) A B h f = tt
-on_err_map (Err e) A B h f = f h

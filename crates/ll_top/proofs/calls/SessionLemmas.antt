@@ -16,25 +16,24 @@ use Rattle.ll_polarity.specs.Asks.{ProgramPart}
 use Rattle.ll_session.specs.Queries.{QueryLine, IsProgramOf}
 use Rattle.ll_session.specs.Reading.{TextAsks}
 use Rattle.ll_session.specs.Replied.{Answers, StopsShort, refused, not_begun}
-use Rattle.ll_top.specs.declared.judge.Role.{Role}
-use Rattle.ll_top.specs.declared.judge.Role.TheVariants.{Program, Query}
-use Rattle.ll_top.specs.declared.refusal.TextRefusal.{TextRefusal}
-use Rattle.ll_top.specs.declared.refusal.TextRefusal.TheVariants as text
-use Rattle.ll_top.specs.declared.refusal.Refusal.{Refusal}
-use Rattle.ll_top.specs.declared.refusal.Refusal.TheVariants.{Text, Unwritable, OutOfMemory}
+use Rattle.ll_judge.specs.declared.judge.Role.{Role}
+use Rattle.ll_judge.specs.declared.judge.Role.TheVariants.{Program, Query}
+use Rattle.ll_judge.specs.declared.refusing.TextRefusal.{TextRefusal}
+use Rattle.ll_judge.specs.declared.refusing.TextRefusal.TheVariants as text
+use Rattle.ll_judge.specs.declared.refusing.Refusal.{Refusal}
+use Rattle.ll_judge.specs.declared.refusing.Refusal.TheVariants.{Text, Unwritable, OutOfMemory}
 use Rattle.ll_words.specs.Words.{SessionWords}
-use Rattle.ll_top.specs.Judging.{IsPartOf, IsProgramCause}
-use Rattle.ll_top.specs.Outcome.{IsRead, Reaches, first, later, ReadFails}
-use Rattle.ll_top.specs.Calls.{nothing, Ends}
-use Rattle.ll_top.specs.Endings.{refusal_of, cause_of, IsNotRead, Refuses}
+use Rattle.ll_judge.specs.Judging.{IsPartOf, IsProgramCause}
+use Rattle.ll_judge.specs.Outcome.{IsRead, Reaches, first, later, ReadFails}
+use Rattle.ll_judge.specs.CallEnds.{nothing, Ends}
+use Rattle.ll_judge.specs.Endings.{refusal_of, cause_of, IsNotRead, Refuses}
 use Rattle.ll_top.specs.OwnEnds.{EndsOwn, NoneFails}
 use Rattle.ll_top.specs.Running.{IsRunRefusal}
 use Rattle.ll_top.specs.Sessions.{reply_text, replies_text, session_not_read, faulty_program, SessionComesTo, replied, session_failed}
 use Rattle.ll_top.specs.SessionEnds.{name_in_session, RefusesText, WritesReply, CutsReply, RepliesTo, TextsComeTo, RefusesProgram}
-use Rattle.ll_top.proofs.calls.GivenLemmas.{given-written, front-given, refused-written}
-use Rattle.ll_top.proofs.outcomes.OutcomeLemmas.{refused-ends}
+use Rattle.ll_outlet.proofs.CallerLemmas.{given-written, front-given, refused-written}
+use Rattle.ll_judge.proofs.CallerLemmas.{refused-ends, not-read}
 use Rattle.ll_top.proofs.outcomes.OwnLemmas.{ends-more, stopped}
-use Rattle.ll_top.proofs.calls.PrepareLemmas.{not-read}
 
 -- ---- replies that were written
 

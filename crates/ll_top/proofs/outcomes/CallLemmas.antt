@@ -12,20 +12,19 @@ use Rattle.ll_words.specs.Words.{IsDeepen, IsPrint, IsCheck, IsConvert, IsMake, 
 use Rattle.ll_top.specs.Making.{MakeComesTo}
 use Rattle.ll_words.specs.Making.{MakeWords, MadeRunWords}
 use Rattle.ll_top.specs.MadeRuns.{MadeRunComesTo}
-use Rattle.ll_top.specs.Faults.{Cause, Usage, Absent, Unreadable, Oversized, OversizedAs, Faulty, fault_text, cause_status}
-use Rattle.ll_top.specs.Outcome.{ReadFails, absent as is_absent, unreadable as is_unreadable, oversized as is_oversized, run_texts, RunFails}
-use Rattle.ll_top.specs.Outcome.{not_read, faulty, RunComesTo, ran, failed, PrintFails, source_not_read, faulty_source, PrintComesTo, printed, print_failed}
-use Rattle.ll_top.specs.Outcome.{name_in_check, check_texts, CheckFails, texts_not_read, faulty_text, CheckComesTo, shown, refuted, covered, too_long}
-use Rattle.ll_top.specs.Outcome.{counting, check_failed, IsDenied, IsCoveredCall, IsUncoveredCall, front_events, status_of_run, text_of_run, whole_text}
-use Rattle.ll_top.specs.Outcome.{RunAsks}
+use Rattle.ll_judge.specs.Faults.{Cause, Usage, Absent, Unreadable, Oversized, OversizedAs, Faulty, fault_text, cause_status}
+use Rattle.ll_judge.specs.Outcome.{ReadFails, absent as is_absent, unreadable as is_unreadable, oversized as is_oversized, run_texts, RunFails}
+use Rattle.ll_judge.specs.Outcome.{not_read, faulty, PrintFails, source_not_read, faulty_source, PrintComesTo, printed, print_failed, RunAsks}
+use Rattle.ll_top.specs.Outcome.{RunComesTo, ran, failed, front_events, status_of_run, text_of_run, whole_text}
+use Rattle.ll_check.specs.Outcome.{name_in_check, check_texts, CheckFails, texts_not_read, faulty_text, CheckComesTo, shown, refuted, covered, too_long}
+use Rattle.ll_check.specs.Outcome.{counting, check_failed, IsDenied, IsCoveredCall, IsUncoveredCall}
 use Rattle.ll_top.specs.Sessions.{SessionFails, session_not_read, faulty_program, SessionComesTo, replied, session_failed}
 use Rattle.ll_top.specs.Deepening.{run_within, DeepenComesTo, deepened, deepen_failed}
-use Rattle.ll_top.specs.Converting.{ConvertFails, proof_not_read, faulty_proof, too_long_as, ConvertComesTo, converted, convert_failed}
-use Rattle.ll_top.specs.Calls.{ComesTo, misused, runs, sessions, deepens, prints, checks, converts, makes, runs_made, AppendsOwn, nothing, front, Ends, whole}
-use Rattle.ll_top.specs.Calls.{unwritable, no_memory, Completes, Headline}
-use Rattle.ll_top.specs.Endings.{Refuses, line, cut}
-use Rattle.ll_words.specs.CommandKinds.{Kind, nothing as no_kind, a_run, a_session, a_deepening, a_print, a_check, a_conversion, a_make}
-use Rattle.ll_words.specs.CommandKinds.{a_made_run, kind_of}
+use Rattle.ll_judge.specs.Converting.{ConvertFails, proof_not_read, faulty_proof, too_long_as, ConvertComesTo, converted, convert_failed}
+use Rattle.ll_top.specs.Calls.{ComesTo, misused, runs, sessions, deepens, prints, checks, converts, makes, runs_made, Completes, Headline}
+use Rattle.ll_judge.specs.CallEnds.{AppendsOwn, nothing, front, Ends, whole, unwritable, no_memory}
+use Rattle.ll_judge.specs.Endings.{Refuses, line, cut}
+use Rattle.ll_words.specs.CommandKinds.{Kind, nothing as no_kind, a_run, a_session, a_deepening, a_print, a_check, a_conversion, a_make, a_made_run, kind_of}
 use Rattle.ll_words.proofs.CallerLemmas.{run-kind, session-kind, deepen-kind, print-kind, cover-kind, checked-kind}
 use Rattle.ll_words.proofs.CallerLemmas.{convert-kind, make-kind, made-run-kind, checked-in-form, check-not-cover, bad-not-in-form}
 use Rattle.ll_words.proofs.CallerLemmas.{run-in-form, session-in-form, deepen-in-form, print-in-form, convert-in-form, make-in-form, made-run-in-form}

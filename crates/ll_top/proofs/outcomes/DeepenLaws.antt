@@ -6,9 +6,10 @@ use Rattle.ll_deepen.proofs.CallerLemmas.{one_bound}
 use Rattle.ll_edge.specs.Texts.{Texts}
 use Rattle.ll_laws.specs.Problem.{ProblemTree}
 use Rattle.ll_laws.specs.Output.{run_status}
-use Rattle.ll_top.specs.Faults.{Cause, fault_text, cause_status}
+use Rattle.ll_judge.specs.Faults.{Cause, fault_text, cause_status}
 use Rattle.ll_words.specs.Words.{RunWords, DeepenWords}
-use Rattle.ll_top.specs.Outcome.{RunAsks, RunFails, whole_text}
+use Rattle.ll_judge.specs.Outcome.{RunAsks, RunFails}
+use Rattle.ll_top.specs.Outcome.{whole_text}
 use Rattle.ll_top.specs.Deepening.{run_within, bound_line, DeepenComesTo, deepened, deepen_failed}
 use Rattle.ll_top.specs.DeepenEnds.{with_bound, first_run}
 use Rattle.ll_top.proofs.calls.DeepenLemmas.{asks-within, deciding-within}

@@ -8,17 +8,16 @@ use Rattle.ll_words.specs.Words.{IsCheck, IsConvert, IsMake, IsMadeRun, IsBadWor
 use Rattle.ll_top.specs.Making.{make_text}
 use Rattle.ll_words.specs.Making.{MakeWords, MadeRunWords}
 use Rattle.ll_top.specs.MadeRuns.{MadeRunComesTo}
-use Rattle.ll_top.specs.Faults.{Usage, fault_text}
-use Rattle.ll_top.specs.Outcome.{RunComesTo, PrintComesTo, CheckComesTo}
+use Rattle.ll_judge.specs.Faults.{Usage, fault_text}
+use Rattle.ll_top.specs.Outcome.{RunComesTo}
+use Rattle.ll_judge.specs.Outcome.{PrintComesTo}
+use Rattle.ll_check.specs.Outcome.{CheckComesTo}
 use Rattle.ll_top.specs.Sessions.{SessionComesTo}
 use Rattle.ll_top.specs.Deepening.{DeepenComesTo}
-use Rattle.ll_top.specs.Converting.{ConvertComesTo}
+use Rattle.ll_judge.specs.Converting.{ConvertComesTo}
 use Rattle.ll_top.specs.Calls.{ComesTo, misused, runs, sessions, deepens, prints, checks, converts, makes, runs_made}
-use Rattle.ll_words.proofs.CallerLemmas.{one-bad}
-use Rattle.ll_words.proofs.CallerLemmas.{word-behind}
-use Rattle.ll_words.proofs.CallerLemmas.{check-not-cover, bad-not-in-form}
+use Rattle.ll_words.proofs.CallerLemmas.{one-bad, word-behind, check-not-cover, bad-not-in-form, same-kind}
 use Rattle.ll_top.proofs.outcomes.CallLemmas.{comes-kind, comes-in-form}
-use Rattle.ll_words.proofs.CallerLemmas.{same-kind}
 
 -- ---- words
 

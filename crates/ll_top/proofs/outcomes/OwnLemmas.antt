@@ -1,32 +1,19 @@
 -- From the way a call ends to its status and its text, and texts of two pieces.
-use Rattle.std.proofs.Common.{◌≡◌, ◌≤◌, ℕ, refl, ap, sym, subst, ◌∙◌, List, [], ◌++◌}
+use Rattle.std.proofs.Common.{◌≡◌, ◌≤◌, ℕ, refl, sym, subst, List, ◌++◌}
 use Rattle.std.specs.Prelude.{Option, Result, Ok, Err, IfOk, IfErr, OnOk, OnErr}
 use Rattle.std.specs.Io.KnownBytes.{append_known}
-use Rattle.std.proofs.lemmas.List.{append-nil}
-use Rattle.ll_edge.proofs.CallerLemmas.{Rose-later, append_known-append, append_known-nil}
+use Rattle.ll_edge.proofs.CallerLemmas.{Rose-later, both-written, second-cut}
 use Rattle.ll_edge.specs.Counts.{Rose}
 use Rattle.ll_edge.specs.Pieces.{AppendsFront}
-use Rattle.ll_top.specs.declared.judge.Role.{Role}
-use Rattle.ll_top.specs.declared.refusal.TextRefusal.{TextRefusal}
-use Rattle.ll_top.specs.declared.refusal.Refusal.{Refusal}
-use Rattle.ll_top.specs.declared.refusal.Refusal.TheVariants.{Text, Unwritable, OutOfMemory}
-use Rattle.ll_top.specs.Calls.{AppendsOwn, nothing, front, Ends, whole, unwritable, no_memory}
+use Rattle.ll_judge.specs.declared.judge.Role.{Role}
+use Rattle.ll_judge.specs.declared.refusing.TextRefusal.{TextRefusal}
+use Rattle.ll_judge.specs.declared.refusing.Refusal.{Refusal}
+use Rattle.ll_judge.specs.declared.refusing.Refusal.TheVariants.{Text, Unwritable, OutOfMemory}
+use Rattle.ll_judge.specs.CallEnds.{AppendsOwn, nothing, front, Ends, unwritable, no_memory, whole}
 use Rattle.ll_top.specs.OwnEnds.{EndsOwn}
 use Rattle.ll_top.specs.Running.{IsRunRefusal}
-use Rattle.ll_top.proofs.calls.GivenLemmas.{front_in}
 
 -- ---- two pieces, one behind the other
-
-pub both-written : (before mid after : Option (List ℕ)) (a b : List ℕ) → mid ≡ append_known before a → after ≡ append_known mid b
-    → after ≡ append_known before (a ++ b)
-both-written before mid after a b e f = f ∙ (ap (λ o. append_known o b) e ∙ append_known-append before a b)
-
-pub first-cut : (before after : Option (List ℕ)) (a b : List ℕ) → AppendsFront before a after → AppendsFront before (a ++ b) after
-first-cut before after a b f = front_in before before after [] a b (a ++ b) (sym (append_known-nil before)) refl f
-
-pub second-cut : (before mid after : Option (List ℕ)) (a b : List ℕ) → mid ≡ append_known before a → AppendsFront mid b after
-    → AppendsFront before (a ++ b) after
-second-cut before mid after a b e f = front_in before mid after a b [] (a ++ b) e (ap (λ x. a ++ x) (append-nil b)) f
 
 -- a refusal that came later on
 pub refusal-later : (before middle after : ℕ) (e : Refusal) → before ≤ middle → IsRunRefusal middle after e → IsRunRefusal before after e

@@ -1,6 +1,5 @@
 use Rattle.std.proofs.Common.{refl, ap}
-use Rattle.ll_words.specs.Words.{shown_check, shown_convert, shown_make}
-use Rattle.ll_words.specs.Words.{word_texts}
+use Rattle.ll_words.specs.Words.{shown_check, shown_convert, shown_make, word_texts}
 use Rattle.ll_words.specs.CommandKinds.{command_kind, has_team}
 use Rattle.ll_words.proofs.CallerLemmas.{asked-workers, asked-alone, asked-in-form, workers-in-form, bad-not-in-form}
 use Rattle.ll_top.proofs.outcomes.CallLemmas.{print-call, check-call, convert-call, make-call, usage-call}

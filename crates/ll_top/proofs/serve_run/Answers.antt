@@ -1,9 +1,10 @@
 use Rattle.std.proofs.Common.{ap, ◌∙◌, arith}
 use Rattle.ll_edge.proofs.CallerLemmas.{Rose-later}
 use Rattle.ll_words.specs.Words.{shown_words}
-use Rattle.ll_top.specs.Endings.{cause_of}
-use Rattle.ll_top.specs.Outcome.{name_of}
-use Rattle.ll_top.proofs.outcomes.OutcomeLemmas.{found-ends, cut-ends, memory-ends, refuses-later, refusal-ends}
+use Rattle.ll_judge.specs.Endings.{cause_of}
+use Rattle.ll_judge.specs.Outcome.{name_of}
+use Rattle.ll_top.proofs.outcomes.OutcomeLemmas.{found-ends, cut-ends, memory-ends, refusal-ends}
+use Rattle.ll_judge.proofs.CallerLemmas.{refuses-later}
 use Rattle.ll_top.proofs.calls.ProvedLemmas.{run-shown, refused-past}
 use Rattle.ll_top.proofs.calls.NothingLemmas.{asks-in-vain}
 use Rattle.ll_top.proofs.serve_run.Goals as goal

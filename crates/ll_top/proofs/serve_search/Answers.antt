@@ -1,6 +1,5 @@
 use Rattle.std.proofs.Common.{sym, subst}
-use Rattle.ll_words.specs.Words.{IsCommand, shown_words, shown_session, shown_deepen, shown_made_run}
-use Rattle.ll_words.specs.Words.{word_texts}
+use Rattle.ll_words.specs.Words.{IsCommand, shown_words, shown_session, shown_deepen, shown_made_run, word_texts}
 use Rattle.ll_words.proofs.CallerLemmas.{asked-alone, asked-run, no-team, workers-in-form, bad-not-in-form}
 use Rattle.ll_top.proofs.outcomes.CallLemmas.{run-call, session-call, deepen-call, made-run-call}
 use Rattle.ll_top.proofs.calls.ProvedLemmas.{shown-run}

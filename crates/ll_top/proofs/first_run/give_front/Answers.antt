@@ -4,7 +4,7 @@ use Rattle.ll_laws.specs.Problem.{problem_events}
 use Rattle.ll_first.specs.Upto.{first_of}
 use Rattle.ll_top.specs.Outcome.{text_of_run}
 use Rattle.ll_top.specs.Proved.{end_of_run}
-use Rattle.ll_top.specs.Running.{IsWelcome, IsReady, told_with}
+use Rattle.ll_outlet.specs.Running.{IsWelcome, IsReady, told_with}
 use Rattle.ll_top.proofs.calls.RunLemmas.{welcome-all, prefix-same, lines-begun}
 use Rattle.ll_top.proofs.calls.FirstRunLemmas.{first-same, first-written}
 use Rattle.ll_top.proofs.calls.ProvedLemmas.{told-text}

@@ -4,7 +4,8 @@ use Rattle.ll_lists.proofs.CallerLemmas.{OnErr-always as on_err}
 use Rattle.ll_laws.specs.Problem.{problem_events}
 use Rattle.ll_laws.specs.Search.{is_answer}
 use Rattle.ll_top.specs.Endings.{status_of_found}
-use Rattle.ll_top.proofs.calls.RunLemmas.{on_ok_map, on_err_map, run-status}
+use Rattle.ll_outlet.proofs.CallerLemmas.{on_ok_map, on_err_map}
+use Rattle.ll_top.proofs.calls.RunLemmas.{run-status}
 use Rattle.ll_top.proofs.calls.FirstRunLemmas.{stop-end, stop-status, whole-end, whole-status, text-ended, text-cut, not-stopped}
 use Rattle.ll_top.proofs.first_run.run_first.Goals as goal
 

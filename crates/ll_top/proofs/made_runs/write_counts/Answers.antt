@@ -1,7 +1,7 @@
 use Rattle.std.proofs.Common.{◌∙◌}
 use Rattle.ll_lists.proofs.CallerLemmas.{OnErr-always as on_err}
 use Rattle.ll_top.specs.MadeRuns.{last_line}
-use Rattle.ll_top.proofs.calls.GivenLemmas.{no_front}
+use Rattle.ll_edge.proofs.CallerLemmas.{no_front}
 use Rattle.ll_top.proofs.calls.RunLemmas.{run-status}
 use Rattle.ll_top.proofs.calls.MadeRunLemmas.{line-written, line-cut}
 use Rattle.ll_top.proofs.made_runs.write_counts.Goals as goal

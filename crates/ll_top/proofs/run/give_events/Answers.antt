@@ -1,8 +1,9 @@
 use Rattle.std.proofs.Common.{subst, sym}
 use Rattle.ll_laws.specs.Sound.{Every}
 use Rattle.ll_laws.specs.Problem.{problem_events}
-use Rattle.ll_top.specs.Running.{IsWelcome, IsReady, told_with}
-use Rattle.ll_top.proofs.calls.RunLemmas.{welcome-all, events-same, prefix-same, lines-written, text-begun}
+use Rattle.ll_outlet.specs.Running.{IsWelcome, IsReady, told_with}
+use Rattle.ll_top.proofs.calls.RunLemmas.{welcome-all, prefix-same, text-begun}
+use Rattle.ll_outlet.proofs.CallerLemmas.{events-same, lines-written}
 use Rattle.ll_top.proofs.calls.WaitingLemmas.{each_with, none_taken, none_given, shown_all, shown_front}
 use Rattle.ll_top.proofs.run.give_events.Goals as goal
 

@@ -1,4 +1,4 @@
-use Rattle.ll_top.proofs.calls.GivenLemmas.{no_front}
+use Rattle.ll_edge.proofs.CallerLemmas.{no_front}
 use Rattle.ll_lists.proofs.CallerLemmas.{OnErr-always as on_err}
 use Rattle.ll_top.proofs.run.run.Goals as goal
 

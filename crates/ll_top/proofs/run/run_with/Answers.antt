@@ -1,6 +1,7 @@
 use Rattle.std.proofs.Common.{◌≡◌, subst, IfOk}
 use Rattle.ll_top.specs.Endings.{status_of_found}
-use Rattle.ll_top.proofs.calls.RunLemmas.{on_ok_map, on_err_map, whole-written, last-broken, run-status}
+use Rattle.ll_outlet.proofs.CallerLemmas.{on_ok_map, on_err_map}
+use Rattle.ll_top.proofs.calls.RunLemmas.{whole-written, last-broken, run-status}
 use Rattle.ll_top.proofs.run.run_with.Goals as goal
 
 pub returns-clause-found : goal.returns-clause-found

@@ -1,6 +1,6 @@
 use Rattle.std.proofs.Common.{refl}
 use Rattle.std.proofs.lemmas.Result.{err_from_is_err_and}
-use Rattle.ll_top.specs.Calls.{nothing}
+use Rattle.ll_judge.specs.CallEnds.{nothing}
 use Rattle.ll_top.proofs.session.reply_over.Goals as goal
 
 pub returns-in_err-index-clause-ends : goal.returns-in_err-index-clause-ends

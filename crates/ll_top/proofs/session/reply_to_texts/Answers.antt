@@ -2,7 +2,7 @@ use denote.Builtin.{unit}
 use Rattle.std.proofs.lemmas.Result.{err_from_is_err_and}
 use Rattle.ll_edge.proofs.CallerLemmas.{Rose-later}
 use Rattle.ll_words.specs.Words.{shown_session}
-use Rattle.ll_top.proofs.calls.PrepareLemmas.{not-read-later}
+use Rattle.ll_judge.proofs.CallerLemmas.{not-read-later}
 use Rattle.ll_top.proofs.calls.SessionLemmas.{program-not-read, queries-not-read, texts-ended}
 use Rattle.ll_top.proofs.session.reply_to_texts.Goals as goal
 

@@ -3,7 +3,8 @@ use Rattle.std.specs.Prelude.{codes, decimal, ◌++◌}
 use Rattle.ll_lists.proofs.CallerLemmas.{OnErr-always as on_err}
 use Rattle.ll_laws.specs.Output.{line}
 use Rattle.ll_top.specs.Outcome.{whole_text}
-use Rattle.ll_top.proofs.outcomes.OwnLemmas.{both-written, first-cut, second-cut, refusal-later}
+use Rattle.ll_edge.proofs.CallerLemmas.{both-written, first-cut, second-cut}
+use Rattle.ll_top.proofs.outcomes.OwnLemmas.{refusal-later}
 use Rattle.ll_top.proofs.session.reply_with_run.Goals as goal
 
 pub returns-in_err-write_heading-clause-prefix : goal.returns-in_err-write_heading-clause-prefix

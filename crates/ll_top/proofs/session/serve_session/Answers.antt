@@ -1,9 +1,10 @@
 use Rattle.std.proofs.Common.{refl, ap, ◌∙◌}
 use Rattle.ll_edge.proofs.CallerLemmas.{Rose-later}
-use Rattle.ll_top.specs.Endings.{cause_of, status_of_found}
+use Rattle.ll_judge.specs.Endings.{cause_of}
+use Rattle.ll_top.specs.Endings.{status_of_found}
 use Rattle.ll_top.specs.OwnEnds.{NoneFails}
 use Rattle.ll_words.specs.Words.{shown_session}
-use Rattle.ll_top.proofs.outcomes.OutcomeLemmas.{refuses-later}
+use Rattle.ll_judge.proofs.CallerLemmas.{refuses-later}
 use Rattle.ll_top.proofs.outcomes.OwnLemmas.{done-ends, cut-ends, memory-ends}
 use Rattle.ll_top.proofs.calls.SessionLemmas.{session-refused}
 use Rattle.ll_top.proofs.session.serve_session.Goals as goal

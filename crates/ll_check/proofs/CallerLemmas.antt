@@ -1,0 +1,4 @@
+-- What the crates above may cite of checks and covers, beside the public contracts.
+
+-- where no node is of a whole-number goal, none is the first one
+pub use Rattle.ll_check.proofs.CountingLemmas.{none-counts}

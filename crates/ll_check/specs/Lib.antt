@@ -1,0 +1,4 @@
+pub mod Verdicts
+pub mod Counting
+pub mod Outcome
+pub mod Endings

@@ -1,0 +1,7 @@
+//! A check or a cover of a derivation: what it finds, and the line that says it.
+#![tactic(auto)]
+
+mod checking;
+mod finding;
+
+pub use checking::serve_check;

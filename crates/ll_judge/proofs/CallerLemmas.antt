@@ -1,0 +1,18 @@
+-- What the crates above may cite of the judging of texts, beside the public contracts.
+
+-- the tokens of a text are read by the grammar, by the role of the text
+pub use Rattle.ll_judge.proofs.GrammarLemmas.{IsOfGrammar}
+-- tokens have at most one first fault by the grammar, whatever the role of the text
+pub use Rattle.ll_judge.proofs.GrammarLemmas.{one-grammar-fault}
+-- and none where they are read by it
+pub use Rattle.ll_judge.proofs.GrammarLemmas.{no-grammar-fault}
+-- a text that is not read when it is its turn is why not all of them are
+pub use Rattle.ll_judge.proofs.PrepareLemmas.{not-read}
+-- why a text was not read holds under counts that rose later on
+pub use Rattle.ll_judge.proofs.PrepareLemmas.{not-read-later}
+-- and so does the end of a fault line
+pub use Rattle.ll_judge.proofs.OutcomeLemmas.{refuses-later}
+-- a call that writes the line of its cause ends as one that comes to it
+pub use Rattle.ll_judge.proofs.OutcomeLemmas.{refused-ends}
+-- a fault line ends with the status of its cause, or with 6 where a write failed
+pub use Rattle.ll_judge.proofs.OutcomeLemmas.{refused-status}

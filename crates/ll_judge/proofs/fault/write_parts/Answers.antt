@@ -1,0 +1,16 @@
+use Rattle.std.proofs.Common.{arith}
+use Rattle.ll_lists.proofs.CallerLemmas.{OnErr-always}
+use Rattle.ll_judge.proofs.PartsLemmas.{one-written, part-cut}
+use Rattle.ll_judge.proofs.fault.write_parts.Goals as goal
+
+pub returns-in_err-write_all-clause-prefix : goal.returns-in_err-write_all-clause-prefix
+returns-in_err-write_all-clause-prefix g c =
+    OnErr-always _ (part-cut c.args.parts.now c.loop-part.part-index _ c.loop-part-test.true _ _ _ c.loop-part.invariant.parts
+    (rw c.as_bytes.ensures.value at c.in_err-write_all.ensures.prefix))
+
+pub loop-part-preserved : goal.loop-part-preserved
+loop-part-preserved g c = record {
+  parts = one-written c.args.parts.now c.loop-part.part-index _ c.loop-part-test.true _ _ _ c.loop-part.invariant.parts
+      (rw c.as_bytes.ensures.value at c.in_ok-write_all.ensures.appends);
+  faults = let h = c.loop-part.invariant.faults in let k = c.in_ok-write_all.ensures.faults_kept in omega arith;
+}

@@ -1,0 +1,11 @@
+use Rattle.std.proofs.lemmas.Result.{err_from_is_err_and}
+use Rattle.ll_judge.proofs.PrepareLemmas.{query-unread, query-asked}
+use Rattle.ll_judge.proofs.preparing.ask_text.Goals as goal
+
+pub returns-in_err-query-clause-cause : goal.returns-in_err-query-clause-cause
+returns-in_err-query-clause-cause c =
+    let p = err_from_is_err_and c.from_residual.result c.from_residual.ensures.1 in
+    rw (p.1, p.2) (query-unread c.args.loaded c.args.text.now _ c.in_err-query.ensures.err)
+
+pub returns-clause-cause : goal.returns-clause-cause
+returns-clause-cause c = query-asked c.args.loaded c.args.text.now _ c.ask.result c.in_ok-query.ensures.ok c.ask.ensures.fault

@@ -1,0 +1,11 @@
+use Rattle.std.proofs.lemmas.Result.{err_from_is_err_and}
+use Rattle.ll_judge.proofs.PrepareLemmas.{program-unread, program-loaded}
+use Rattle.ll_judge.proofs.preparing.load_text.Goals as goal
+
+pub returns-in_err-program-clause-cause : goal.returns-in_err-program-clause-cause
+returns-in_err-program-clause-cause c =
+    let p = err_from_is_err_and c.from_residual.result c.from_residual.ensures.1 in
+    rw (p.1, p.2) (program-unread c.args.text.now _ c.in_err-program.ensures.err)
+
+pub returns-clause-cause : goal.returns-clause-cause
+returns-clause-cause c = program-loaded c.args.text.now _ c.load.result c.in_ok-program.ensures.ok c.load.ensures.cause

@@ -1,0 +1,12 @@
+use Rattle.std.proofs.lemmas.Result.{err_from_is_err_and}
+use Rattle.ll_judge.proofs.PrepareLemmas.{source-refused, source-unprinted}
+use Rattle.ll_judge.proofs.printing.printed.Goals as goal
+
+pub returns-in_err-text-clause-refused : goal.returns-in_err-text-clause-refused
+returns-in_err-text-clause-refused g c =
+    let p = err_from_is_err_and c.from_residual.result c.from_residual.ensures.1 in
+    rw (p.1, p.2) (source-refused _ _ _ c.args.name.now _ c.in_err-text.ensures.refused)
+
+pub returns-clause-refused : goal.returns-clause-refused
+returns-clause-refused g c = source-unprinted _ _ _ c.args.name.now c.in_ok-text.text.items _ c.in_ok-text.ensures.read
+    (rw c.deref.ensures.value at c.printed_text.ensures.refused)

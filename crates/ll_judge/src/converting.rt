@@ -1,0 +1,128 @@
+//! From the words of a conversion to its bytes.
+ghost use Rattle.std.specs.Prelude.{◌≡◌, ◌≤◌, ◌⊎◌, ℕ, List, length, IfOk};
+ghost use Rattle.ll_edge.specs.Counts.{Rose};
+ghost use Rattle.ll_prooftext.specs.Sizes.{text_in};
+ghost use Rattle.ll_prooftext.specs.Versions.{IsProofText};
+ghost use Rattle.ll_judge.specs.CallEnds.{Ends};
+ghost use Rattle.ll_judge.specs.Converting.{own_names, ConvertComesTo};
+ghost use Rattle.ll_judge.specs.ConvertEnds.{IsConversionOf, Converts};
+ghost use Rattle.ll_words.specs.Words.{shown_convert};
+
+use crate::derivation::derivation_of;
+use crate::fault::{Cause, refuse};
+use crate::judge::Role;
+use crate::preparing::{LONGEST_TEXT, read};
+use crate::refusing::Refusal;
+use ll_bank::{Names, OutOfMemory};
+use ll_edge::{Shelf, Sink, WriteFailed, write_all};
+use ll_laws::Derivation;
+use ll_prooftext::{size, write, write2};
+use ll_words::ConvertCommand;
+use std::alloc::Global;
+
+/// What a derivation comes to in a version.
+#[derive(Drop)]
+pub enum NewText {
+    /// Its text.
+    Whole(Vec<u8>),
+    /// Its text would have too many bytes, and was not made.
+    TooLong,
+}
+
+/// Writes the derivation in the text of this name as a text of the version that is asked for, and answers the status: 0; 4, 5, 7 or 8 where
+/// the text is not read or is no text of a derivation, and 8 also where the text that would be written has more than 16,777,216 bytes, each
+/// with its line written; 6 where the sink failed, with a prefix written; 10 where memory ran out, with nothing written.
+pub fn serve_convert<F: Shelf, O: Sink>(
+    alloc: Global,
+    convert: &ConvertCommand<'_>,
+    shelf: &mut F,
+    sink: &mut O,
+) -> u8
+    requires version { (convert.now.version ≡ 1) ⊎ (convert.now.version ≡ 2) }
+
+    ensures same_texts { F.texts shelf.new ≡ F.texts shelf.old }
+    ensures shelf_faults_kept { F.faults shelf.old ≤ F.faults shelf.new }
+    ensures absences_kept { F.absences shelf.old ≤ F.absences shelf.new }
+    ensures sink_faults_kept { O.faults sink.old ≤ O.faults sink.new }
+
+    ensures ends { Ends (ConvertComesTo (F.texts shelf.old) (Rose (F.absences shelf.old) (F.absences shelf.new))
+        (Rose (F.faults shelf.old) (F.faults shelf.new)) (shown_convert convert.now)) (Rose (O.faults sink.old) (O.faults sink.new))
+        (O.written sink.old) (O.written sink.new) result }
+{
+    match conversion(alloc, convert, shelf) {
+        Ok(NewText::Whole(text)) => match write_all(sink, &text) {
+            Ok(()) => 0,
+            Err(WriteFailed) => 6,
+        },
+        Ok(NewText::TooLong) => { refuse(Cause::OversizedAs(convert.proof, convert.version), sink) }
+        Err(Refusal::Text(_, refusal)) => refuse(refusal.cause(convert.proof), sink),
+        Err(Refusal::Unwritable) => unreachable!(),
+        Err(Refusal::OutOfMemory) => 10,
+    }
+}
+
+// What the text of a conversion's name comes to: reads it from the shelf to its end, and then judges it.
+fn conversion<F: Shelf>(
+    alloc: Global,
+    convert: &ConvertCommand<'_>,
+    shelf: &mut F,
+) -> Result<NewText, Refusal>
+    requires version { (convert.now.version ≡ 1) ⊎ (convert.now.version ≡ 2) }
+
+    ensures same_texts { F.texts shelf.new ≡ F.texts shelf.old }
+    ensures faults_kept { F.faults shelf.old ≤ F.faults shelf.new }
+    ensures absences_kept { F.absences shelf.old ≤ F.absences shelf.new }
+
+    ensures converts { Converts (F.texts shelf.old) (Rose (F.absences shelf.old) (F.absences shelf.new))
+        (Rose (F.faults shelf.old) (F.faults shelf.new)) (shown_convert convert.now) result }
+{
+    let proof = read(alloc, shelf, convert.proof, Role::Proof)?;
+    converted(alloc, &proof, convert.version)
+}
+
+// What a text of a derivation comes to in a version.
+fn converted(alloc: Global, proof: &[u8], version: u8) -> Result<NewText, Refusal>
+    requires short { length proof.now ≤ 16777216 }
+    requires version { (version ≡ 1) ⊎ (version ≡ 2) }
+    ensures { IsConversionOf proof.now version result }
+{
+    let mut names = Names::new(alloc);
+    let derivation = derivation_of(alloc, proof, &mut names)?;
+    new_text(alloc, &names, &derivation, version)
+}
+
+// What a derivation comes to in a version. The length of its text is found first, so no text that is too long is made.
+fn new_text(
+    alloc: Global,
+    names: &Names,
+    derivation: &Derivation,
+    version: u8,
+) -> Result<NewText, Refusal>
+    requires { (version ≡ 1) ⊎ (version ≡ 2) }
+    ensures { (proof : List ℕ) → names.now ≡ own_names proof → IsProofText names.now proof derivation.now → IsConversionOf proof version result }
+{
+    if size(alloc, names, derivation, version)? > LONGEST_TEXT as u64 {
+        return Ok(NewText::TooLong);
+    }
+    let text = text_as(alloc, names, derivation, version)?;
+    Ok(NewText::Whole(text))
+}
+
+// The text of a derivation in a version.
+fn text_as(
+    alloc: Global,
+    names: &Names,
+    derivation: &Derivation,
+    version: u8,
+) -> Result<Vec<u8>, OutOfMemory>
+    requires { (version ≡ 1) ⊎ (version ≡ 2) }
+    ensures { IfOk result (λ text. text.items ≡ text_in version names.now derivation.now) }
+{
+    let mut text = Vec::new(alloc);
+    if version == 1 {
+        write(alloc, names, derivation, &mut text)?;
+    } else {
+        write2(alloc, names, derivation, &mut text)?;
+    }
+    Ok(text)
+}

@@ -1,0 +1,4 @@
+pub mod GivenLemmas
+pub mod RunLemmas
+pub mod WaitingLemmas
+pub mod CallerLemmas

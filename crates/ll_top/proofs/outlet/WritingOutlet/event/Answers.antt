@@ -1,7 +1,0 @@
-use Rattle.std.proofs.Common.{refl, le_refl}
-use Rattle.ll_top.proofs.calls.GivenLemmas.{no_front}
-use Rattle.ll_top.proofs.outlet.WritingOutlet.event.Goals as goal
-
-pub returns-in_default-clause-refused : goal.returns-in_default-clause-refused
-returns-in_default-clause-refused g c =
-    record { same = record { problem = refl; proofs = refl; lent = refl; faults = le_refl _ }; written = no_front _ _ }

@@ -8,12 +8,11 @@ use Rattle.ll_laws.specs.Search.{cut_count, is_answer, is_reached}
 use Rattle.ll_laws.specs.Sound.{Every}
 use Rattle.ll_laws.specs.Problem.{ProblemTree, problem_events, problem_cost}
 use Rattle.ll_core.proofs.CallerLemmas.{every_more, every_front, every_back}
-use Rattle.ll_order.specs.Outlets.{Gives, Refuses}
+use Rattle.ll_order.specs.Outlets.{Gives, GivesPrefix, Refuses}
 use Rattle.ll_order.proofs.CallerLemmas.{gives_more, refuses_more, no_count, counts_more}
 use Rattle.ll_engine.specs.Seen.{Owing}
 use Rattle.ll_engine.specs.Steps.{fresh}
-use Rattle.ll_crew.specs.Crews.{GivesPrefix}
-use Rattle.ll_crew.specs.Leading.{Kept}
+use Rattle.ll_job.specs.Leading.{Kept}
 use Rattle.ll_crew.specs.Alone.{IsAlone}
 use Rattle.ll_crew.specs.Pieces.{Stretched}
 

@@ -8,7 +8,8 @@ use Rattle.ll_core.proofs.CallerLemmas.{cut_sum}
 use Rattle.ll_pool.specs.declared.data.OpenPiece.{OpenPiece}
 use Rattle.ll_freeze.specs.Frozen.{FrozenSight}
 use Rattle.ll_engine.specs.Seen.{Owing}
-use Rattle.ll_crew.specs.Pieces.{Stretched, Stretching, Owes, OwesAll, OwesAfter, cost_in}
+use Rattle.ll_job.specs.Alternatives.{cost_in}
+use Rattle.ll_crew.specs.Pieces.{Stretched, Stretching, Owes, OwesAll, OwesAfter}
 
 -- the counts of two stretches
 made_on : (m a b c n k : ℕ) → b ≤ a → c ≤ b → cut_count n ≡ cut_count (m + (a - b)) → cut_count k ≡ cut_count (n + (b - c))

@@ -1,6 +1,6 @@
 -- What a piece owes once a batch was split off its engine.
-use Rattle.std.proofs.Common.{◌≡◌, ℕ, ◌<◌, List, [], ◌∷◌, ◌++◌, length, refl, sym, ap, ◌∙◌, subst, arith, append_assoc, append-nil, Option, Some, None}
-use Rattle.std.proofs.Common.{◌≤◌, le_trans, IsSomeAnd, Err}
+use Rattle.std.proofs.Common.{◌≡◌, ◌<◌, List, [], ◌∷◌, ◌++◌, length, refl, sym, ap, ◌∙◌, subst, arith, append_assoc, append-nil, Option, Some, None}
+use Rattle.std.proofs.Common.{◌≤◌, le_trans, IsSomeAnd}
 use Rattle.std.specs.Arc.{arc_value}
 use Rattle.std.specs.declared.sync.Arc.{Arc}
 use Rattle.std.specs.declared.alloc.Global.{Global}
@@ -8,9 +8,6 @@ use Rattle.std.proofs.Math.ListN.{length-append}
 use Rattle.ll_lists.proofs.CallerLemmas.{some_is as some_of}
 use Rattle.ll_laws.specs.declared.Event.{Event}
 use Rattle.ll_laws.specs.Search.{cut_count}
-use Rattle.ll_core.specs.Calls.{HandsBack}
-use Rattle.ll_core.specs.declared.answers.PublishFault.{PublishFault}
-use Rattle.ll_core.specs.declared.answers.PublishFault.TheVariants.{Full}
 use Rattle.ll_pool.specs.Turns.{EndsWith, IsRest}
 use Rattle.ll_pool.specs.declared.data.OpenPiece.{OpenPiece}
 use Rattle.ll_freeze.specs.Frozen.{FrozenSight, alternatives_in}
@@ -19,7 +16,8 @@ use Rattle.ll_engine.specs.Splits.{Splits, SplitsTo}
 use Rattle.ll_crew.specs.Runs.{SharesTo}
 use Rattle.ll_crew.specs.declared.piece.Shared.{Shared}
 use Rattle.ll_crew.specs.declared.piece.Shared.TheVariants.{Published}
-use Rattle.ll_crew.specs.Pieces.{Owes, OwesAll, OwesAfter, events_in, cost_in}
+use Rattle.ll_job.specs.Alternatives.{events_in, cost_in}
+use Rattle.ll_crew.specs.Pieces.{Owes, OwesAll, OwesAfter}
 
 cancel_right : {X : Type 0} (xs ys zs : List X) → xs ++ zs ≡ ys ++ zs → xs ≡ ys
 cancel_right [] [] zs e = refl
@@ -31,14 +29,6 @@ cancel_right (x ∷ xs) (y ∷ ys) zs e =
 
 pub split_some : (old new : Owing) (o : Option FrozenSight) (b : FrozenSight) → o ≡ Some b → Splits old o new → SplitsTo old b new
 split_some old new o b e s = subst (λ x. Splits old x new) e s
-
--- the same with the batch that was published, which shows this one
-pub as_published : (a b : FrozenSight) (old new : Owing) → a ≡ b → SplitsTo old b new → SplitsTo old a new
-as_published a b old new e s = subst (λ x. SplitsTo old x new) (sym e) s
-
-pub handed : (n : FrozenSight) (fault : PublishFault FrozenSight) (total : ℕ) (batch : Arc FrozenSight Global) → fault ≡ Full total batch
-    → HandsBack n (Err fault) → arc_value batch ≡ n
-handed n fault total batch e h = subst (λ f. HandsBack n (Err f)) e h
 
 module _ (events : List Event) (old new : Owing) (b : FrozenSight) (s : SplitsTo old b new) where
   whole_events : (x : OpenPiece) → Owes x events old [] → x.owes.events ≡ (events ++ new.events) ++ events_in (alternatives_in b)

@@ -1,5 +1,5 @@
 -- What the piece of a worker owes, while its engine runs.
-use Rattle.std.specs.Prelude.{◌≡◌, ℕ, ◌+◌, ◌-◌, ◌<◌, ◌≤◌, List, [], ◌++◌, Bool, true, false, Option, Some, None, IsSomeAnd, flat_map, sum_by}
+use Rattle.std.specs.Prelude.{◌≡◌, ℕ, ◌+◌, ◌-◌, ◌<◌, ◌≤◌, List, [], ◌++◌, Bool, true, false, Option, Some, None, IsSomeAnd}
 use Rattle.std.specs.Arc.{arc_value}
 use Rattle.std.specs.declared.sync.Arc.{Arc}
 use Rattle.std.specs.declared.alloc.Global.{Global}
@@ -10,12 +10,7 @@ use Rattle.ll_laws.specs.Problem.{ProblemTree}
 use Rattle.ll_pool.specs.declared.data.OpenPiece.{OpenPiece}
 use Rattle.ll_freeze.specs.Frozen.{FrozenSight, alternatives_in}
 use Rattle.ll_engine.specs.Seen.{Owing}
-
-abbrev pub events_in : List (Owed Event) → List Event
-events_in os = flat_map (λ (o : Owed Event). o.events) os
-
-abbrev pub cost_in : List (Owed Event) → ℕ
-cost_in os = sum_by (λ (o : Owed Event). o.cost) os
+use Rattle.ll_job.specs.Alternatives.{events_in, cost_in}
 
 -- a worker has kept no engine, or one of this problem
 abbrev pub IsKeptOf : ProblemTree → Option Owing → Type 0

@@ -1,46 +1,23 @@
 //! A search by the caller alone.
-ghost use Rattle.std.specs.Prelude.{◌≡◌, ◌+◌, ◌≤◌, Err, IfOk, OnOk, OnErr, count_by, map};
+ghost use Rattle.std.specs.Prelude.{◌≡◌, Err, IfOk, OnOk, OnErr};
 ghost use Rattle.std.specs.Arc.{arc_value};
 ghost use Rattle.ll_laws.specs.Problem.{problem_events, problem_cost};
-ghost use Rattle.ll_laws.specs.Search.{cut_count, is_answer, is_reached};
 ghost use Rattle.ll_laws.specs.Sound.{Every};
 ghost use Rattle.ll_laws.specs.Valid.{IsValid};
 ghost use Rattle.ll_engine.specs.Steps.{fresh};
 ghost use Rattle.ll_freeze.specs.Indexed.{IsIndexOf};
-ghost use Rattle.ll_order.specs.Outlets.{Rose, Gives, CountsOf};
-ghost use Rattle.ll_crew.specs.declared.whole.CrewFault.{CrewFault};
-ghost use Rattle.ll_crew.specs.Crews.{GivesPrefix};
-ghost use Rattle.ll_crew.specs.Leading.{Kept};
+ghost use Rattle.ll_order.specs.Outlets.{Rose, Gives, GivesPrefix, CountsOf};
+ghost use Rattle.ll_job.specs.declared.fault.CrewFault.{CrewFault};
+ghost use Rattle.ll_job.specs.Leading.{Kept};
 
 use crate::piece::stretch;
-use crate::whole::{CrewFault, fault_of};
 use ll_engine::Engine;
 use ll_index::Index;
+use ll_job::{CrewFault, give_some};
 use ll_laws::{Counts, Problem};
-use ll_order::{Outlet, give};
+use ll_order::Outlet;
 use std::alloc::Global;
 use std::sync::Arc;
-
-// Gives the outlet events, which are welcome, and counts them.
-fn give_some<O: Outlet>(
-    events: Vec<O::Found>,
-    counts: Counts,
-    out: &mut O,
-) -> Result<Counts, CrewFault>
-    requires welcome { Every (O.welcome out.old) (map O.Found.stands_for events.items) }
-    requires few { (counts.answers ≤ 18446744073709551615) × (counts.reached ≤ 18446744073709551615) }
-    ensures given { OnOk result (Gives O.takes out.old (map O.Found.stands_for events.items) out.new) }
-    ensures answers { IfOk result (λ new. new.answers ≡ cut_count (counts.answers + count_by is_answer (map O.Found.stands_for events.items))) }
-    ensures reached { IfOk result (λ new. new.reached ≡ cut_count (counts.reached + count_by is_reached (map O.Found.stands_for events.items))) }
-    ensures refused { OnErr result (GivesPrefix O.takes O.breaks out.old (map O.Found.stands_for events.items) out.new) }
-    ensures write { result ≡ Err CrewFault.Write → Rose (O.faults out.old) (O.faults out.new) }
-    ensures kept { Kept O.takes O.breaks O.welcome O.faults out.old out.new }
-{
-    match give(events, out, counts) {
-        Ok(counts) => Ok(counts),
-        Err(fault) => Err(fault_of(fault)),
-    }
-}
 
 /// Searches a valid problem by one engine with an index of its clauses, and gives the outlet what was found after every few steps. Its clauses are those
 /// of [`crew`](crate::crew).

@@ -1,5 +1,5 @@
 //! The crew of a problem of which only the first answers are wanted.
-ghost use Rattle.std.specs.Prelude.{◌≡◌, ◌↔◌, ◌<◌, ◌≤◌, ◌+◌, None, Err, IfOk, IfSome, OnOk, OnErr, false, if◌then◌else◌, count_by};
+ghost use Rattle.std.specs.Prelude.{◌≡◌, ◌↔◌, ◌<◌, ◌≤◌, None, Err, IfOk, IfSome, OnOk, OnErr, false, count_by};
 ghost use Rattle.std.specs.Arc.{arc_value};
 ghost use Rattle.ll_laws.specs.declared.Event.{Event};
 ghost use Rattle.ll_laws.specs.Problem.{problem_events, problem_cost};
@@ -7,65 +7,20 @@ ghost use Rattle.ll_laws.specs.Search.{is_answer};
 ghost use Rattle.ll_laws.specs.Sound.{Every};
 ghost use Rattle.ll_laws.specs.Valid.{IsValid};
 ghost use Rattle.ll_freeze.specs.Indexed.{IsIndexOf};
-ghost use Rattle.ll_order.specs.Outlets.{Rose, Gives, CountsOf};
+ghost use Rattle.ll_order.specs.Outlets.{Rose, Gives, GivesPrefix, CountsOf};
 ghost use Rattle.ll_first.specs.Upto.{first_of};
-ghost use Rattle.ll_crew.specs.declared.whole.CrewFault.{CrewFault};
-ghost use Rattle.ll_crew.specs.Crews.{GivesPrefix};
+ghost use Rattle.ll_job.specs.declared.fault.CrewFault.{CrewFault};
 
-use crate::job::Sharing;
-use crate::whole::{CrewFault, crew_by, index_of};
+use crate::whole::crew_by;
 use ll_edge::Gate;
-use ll_first::Enough;
+use ll_first::{Enough, Until};
 use ll_index::Index;
+use ll_job::{CrewFault, Sharing, index_of};
 use ll_laws::{Counts, Problem};
-use ll_order::{OutFault, Outlet};
 use std::alloc::Global;
 use std::sync::atomic::AtomicU64;
 use std::sync::{Arc, Wait};
 use std::thread::Threads;
-
-// An outlet that hands events on until the one within has had enough. A crew stops its pool where a write failed, so this outlet says that
-// one did, and has a fault more.
-#[derive(Drop)]
-struct Until<'s, E> {
-    out: &'s mut E,
-    ended: bool,
-}
-
-impl<'s, E: Enough> Outlet for Until<'s, E> {
-    type Found = E::Found;
-
-    ghost use Rattle.ll_crew.specs.Firsts.{GoesOn, Ends};
-
-    ghost takes = { λ before event after. GoesOn E.takes E.breaks E.faults E.limit E.answers
-        (record { out = before.out.now; ended = before.ended; lent = before.out.ghost_name })
-        event
-        (record { out = after.out.now; ended = after.ended; lent = after.out.ghost_name }) };
-
-    ghost breaks = { λ before event after. Ends E.takes E.breaks E.faults E.limit E.answers
-        (record { out = before.out.now; ended = before.ended; lent = before.out.ghost_name })
-        event
-        (record { out = after.out.now; ended = after.ended; lent = after.out.ghost_name }) };
-
-    ghost welcome = { λ outlet event. E.welcome outlet.out.now event };
-
-    ghost faults = { λ outlet. E.faults outlet.out.now + (if outlet.ended then 1 else 0) };
-
-    fn event(&mut self, event: E::Found) -> Result<(), OutFault> {
-        if self.ended {
-            return Err(OutFault::OutOfMemory);
-        }
-        match self.out.event(event) {
-            Ok(()) => {}
-            Err(fault) => return Err(fault),
-        }
-        if self.out.enough() {
-            self.ended = true;
-            return Err(OutFault::Write);
-        }
-        Ok(())
-    }
-}
 
 /// Searches a valid problem with 1 to 64 workers, of which the caller is the first, and gives the outlet the events of the search in
 /// order, as [`crew`](crate::crew) does, until the outlet has had enough answers: it has taken none yet. Where it has had enough the

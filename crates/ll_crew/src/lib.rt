@@ -3,19 +3,13 @@
 
 mod alone;
 mod apart;
-mod bell;
-mod beside;
 mod crowd;
 mod first;
-mod job;
-mod lead;
-mod offer;
 mod piece;
 mod whole;
 mod worker;
 
 pub use apart::crew_apart;
 pub use first::crew_first;
-pub use offer::Offer;
-pub use whole::{CrewFault, crew, crew_with};
+pub use whole::{crew, crew_with};
 pub use worker::work;

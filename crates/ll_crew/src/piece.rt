@@ -5,26 +5,23 @@ ghost use Rattle.std.specs.Arc.{arc_value};
 ghost use Rattle.ll_laws.specs.Pool.{Owed};
 ghost use Rattle.ll_laws.specs.declared.Event.{Event as TheEvent};
 ghost use Rattle.ll_freeze.specs.Frozen.{alternatives_in};
-ghost use Rattle.ll_laws.specs.Sound.{report_of};
 ghost use Rattle.ll_engine.specs.Resumes.{Resumes};
-ghost use Rattle.ll_crew.specs.Leading.{Stands, Stopped};
-ghost use Rattle.ll_crew.specs.Turns.{Stays, Leaves};
+ghost use Rattle.ll_job.specs.Leading.{Stands, Stopped};
+ghost use Rattle.ll_job.specs.Turns.{Stays, Leaves};
 ghost use Rattle.ll_crew.specs.Runs.{SharesTo, RunsTo, RunsAlone, RunsOne, RunsAll, EndsTo, Reports};
-ghost use Rattle.ll_crew.specs.Pieces.{IsKeptOf, Stretched, OwesAll, OwesAfter, events_in, cost_in};
-ghost use Rattle.ll_crew.specs.Seats.{IsSeat, Calm};
+ghost use Rattle.ll_job.specs.Alternatives.{events_in, cost_in};
+ghost use Rattle.ll_crew.specs.Pieces.{IsKeptOf, Stretched, OwesAll, OwesAfter};
+ghost use Rattle.ll_job.specs.Seats.{IsSeat, Calm};
 
-use crate::job::{Job, Sharing};
-use crate::lead::{Told, look, tell};
-use crate::offer::Offer;
 use ll_bank::OutOfMemory;
-use ll_core::{Look, PublishFault};
+use ll_core::Look;
 use ll_engine::{Engine, Step2};
 use ll_freeze::Frozen;
-use ll_laws::{Batch, Notice, Problem, Report};
+use ll_job::{Job, Offer, Told, look, publish, report};
+use ll_laws::{Batch, Notice, Problem};
 use ll_order::Outlet;
 use ll_pool::Seat;
-use std::alloc::{AllocError, Global};
-use std::sync::atomic::Ordering;
+use std::alloc::Global;
 use std::sync::{Arc, Wait};
 
 /// So many steps an engine goes between two looks.
@@ -106,21 +103,9 @@ fn share_oldest<'p, R: Wait, O: Outlet>(
     let Some(batch) = engine.split_oldest()? else {
         return Ok(Shared::Nothing);
     };
-    let alternatives = batch.len();
-    let batch = Arc::new(job.alloc, batch)?;
-    if let Sharing::Apart = job.sharing {
-        job.came_back.fetch_add(1, Ordering::Relaxed);
-        return Ok(Shared::Back(batch));
-    }
-    let point = Offer::new(&batch)?;
-    let offer = Arc::new(job.alloc, point)?;
-    match job.pool.publish(job.rt, seat, offer) {
-        Ok(()) => {
-            job.bell.ring(job.rt, alternatives);
-            Ok(Shared::Published)
-        }
-        Err(PublishFault::Full { total: _, batch: _ }) => Ok(Shared::Back(batch)),
-        Err(PublishFault::OutOfMemory { batch: _ }) => Err(AllocError),
+    match publish(job, seat, batch)? {
+        None => Ok(Shared::Published),
+        Some(batch) => Ok(Shared::Back(batch)),
     }
 }
 
@@ -459,30 +444,6 @@ fn run_piece<'p, R: Wait, O: Outlet>(
             ran
         }
     }
-}
-
-// Reports what was found for a piece that owes nothing more. False where the worker is to leave.
-fn report<'p, R: Wait, O: Outlet>(
-    job: &Job<'_, 'p, R, O>,
-    seat: &mut Seat<Offer<'p, O::Found>>,
-    events: Vec<O::Found>,
-    inferences: u64,
-    told: &mut Told,
-    out: &mut O,
-) -> bool
-    requires seat { IsSeat job.now.pool.now job.now.problem.now seat.old }
-    requires stands { Stands O.takes O.breaks O.welcome O.faults job.now.start.now.value job.now.problem.now seat.old out.old told.old }
-    requires owes { IsSomeAnd seat.old.mine.piece (λ piece. record { events = map O.Found.stands_for events.items; cost = inferences }
-        ≡ report_of piece.owes) }
-    ensures leads { told.new.leads ≡ told.old.leads }
-    ensures done { result ≡ true → Stays (Stands O.takes O.breaks O.welcome O.faults job.now.start.now.value job.now.problem.now seat.new out.new told.new)
-        seat.old seat.new × (seat.new.mine.piece ≡ None) }
-    ensures left { result ≡ false → Leaves (Stopped O.takes O.breaks O.welcome O.faults job.now.start.now.value job.now.problem.now out.new told.new)
-        told.old.leads seat.old seat.new }
-{
-    job.pool.report(job.rt, seat, Report { events, inferences });
-    job.bell.ring(job.rt, 0);
-    tell(job, seat, told, out)
 }
 
 /// Works an alternative that was claimed, and reports. False where the pool is starved or stopped.

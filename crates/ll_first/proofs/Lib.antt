@@ -1,3 +1,4 @@
 pub mod Uptos
 pub mod Enoughs
+pub mod FirstLemmas
 pub mod CallerLemmas

@@ -2,5 +2,7 @@
 #![tactic(auto)]
 
 mod enough;
+mod until;
 
 pub use enough::{Enough, First};
+pub use until::Until;

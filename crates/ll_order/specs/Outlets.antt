@@ -25,6 +25,11 @@ pub record Refuses {O X : Type 0} (takes breaks : O → X → O → Type 0) (bef
   pub given : Gives takes before front between
   pub broke : breaks between refused after
 
+-- a prefix of the events was given, and the outlet may have refused the next one
+abbrev pub GivesPrefix : {O : Type 0} → (O → Event → O → Type 0) → (O → Event → O → Type 0) → O → List Event → O → Type 0
+GivesPrefix takes breaks before events after = ((front : List Event) × (back : List Event) × (events ≡ front ++ back) × Gives takes before front after)
+    ⊎ Refuses takes breaks before events after
+
 -- the numbers of answers, of branches that reached the bound and of inferences, each cut at the greatest u64
 abbrev pub CountsOf : Counts → List Event → ℕ → Type 0
 CountsOf counts events cost = (counts.answers ≡ cut_count (count_by is_answer events)) × (counts.reached ≡ cut_count (count_by is_reached events))

@@ -15,9 +15,10 @@ ghost use Rattle.ll_top.specs.Outcome.{whole_text};
 
 use crate::indexes::problem_index;
 use crate::team::Team;
-use ll_crew::{CrewFault, crew_with};
+use ll_crew::crew_with;
 use ll_edge::{Gate, Sink, write_all};
 use ll_index::Index;
+use ll_job::CrewFault;
 use ll_judge::Refusal;
 use ll_laws::{Counts, Event, Problem, answers_are_shown};
 use ll_outlet::{Asked, Line, Lined, Writing};

@@ -21,8 +21,7 @@ use Rattle.ll_laws.specs.Output.{summary_text, counts_text, run_status, status_b
 use Rattle.ll_laws.specs.Laws.{AnswersAreShown}
 use Rattle.ll_laws.specs.Valid.{IsValid}
 use Rattle.ll_laws.specs.Sound.{Every}
-use Rattle.ll_order.specs.Outlets.{CountsOf}
-use Rattle.ll_crew.specs.Crews.{GivesPrefix}
+use Rattle.ll_order.specs.Outlets.{GivesPrefix, CountsOf}
 use Rattle.ll_outlet.proofs.CallerLemmas.{events-same, refused-same, front-written, refused-lines}
 use Rattle.ll_top.specs.Outcome.{whole_text}
 use Rattle.ll_outlet.specs.Running.{all_lines, AnswersAll, IsWelcome, OutletState, SameOutlet, Writes, BreaksOff}

@@ -6,10 +6,9 @@ use Rattle.ll_edge.specs.Pieces.{AppendsFront}
 use Rattle.ll_edge.proofs.CallerLemmas.{append_known-nil}
 use Rattle.ll_laws.specs.declared.Event.{Event}
 use Rattle.ll_first.specs.Upto.{first_of}
-use Rattle.ll_order.specs.Outlets.{Gives}
+use Rattle.ll_order.specs.Outlets.{Gives, GivesPrefix}
 use Rattle.ll_laws.specs.Problem.{ProblemTree}
 use Rattle.ll_laws.specs.Sound.{Every}
-use Rattle.ll_crew.specs.Crews.{GivesPrefix}
 use Rattle.ll_outlet.specs.Running.{IsWelcome}
 
 -- what holds of each of a list, beside what holds anyway

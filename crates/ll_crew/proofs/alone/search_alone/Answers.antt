@@ -1,7 +1,7 @@
 use Rattle.std.proofs.Common.{ap, subst, OnErr}
 use Rattle.ll_laws.specs.Problem.{problem_events}
 use Rattle.ll_engine.specs.Seen.{Owing}
-use Rattle.ll_crew.specs.Crews.{GivesPrefix}
+use Rattle.ll_order.specs.Outlets.{GivesPrefix}
 use Rattle.ll_crew.proofs.alone.search_alone.Goals as goal
 
 pub returns-clause-refused : goal.returns-clause-refused

@@ -1,6 +1,6 @@
 use Rattle.std.proofs.Common.{refl}
 use Rattle.ll_laws.specs.Problem.{problem_events}
-use Rattle.ll_crew.proofs.FirstLemmas.{all_given, enough_given, prefix_within, same_lent, same_lent_prefix, faults_on, faults_prefix, not_enough}
+use Rattle.ll_first.proofs.CallerLemmas.{all_given, enough_given, prefix_within, same_lent, same_lent_prefix, faults_on, faults_prefix, not_enough}
 use Rattle.ll_crew.proofs.first.give_until.Goals as goal
 
 pub returns-in-Ok-clause-same_reference : goal.returns-in-Ok-clause-same_reference

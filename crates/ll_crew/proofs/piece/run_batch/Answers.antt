@@ -4,9 +4,8 @@ use Rattle.std.specs.Arc.{arc_value}
 use Rattle.std.proofs.lemmas.Result.{IfOk-from_err}
 use Rattle.ll_lists.proofs.CallerLemmas.{OnErr-always}
 use Rattle.ll_freeze.specs.Frozen.{FrozenSight, alternatives_in}
-use Rattle.ll_crew.specs.Leading.{Stands}
-use Rattle.ll_crew.proofs.Calms.{seat_on}
-use Rattle.ll_crew.proofs.Claiming.{stays_on, goes_stays}
+use Rattle.ll_job.specs.Leading.{Stands}
+use Rattle.ll_job.proofs.CallerLemmas.{seat_on, stays_on, goes_stays}
 use Rattle.ll_crew.proofs.Finishing.{at_place, runs_more}
 use Rattle.ll_crew.proofs.piece.run_batch.Goals as goal
 

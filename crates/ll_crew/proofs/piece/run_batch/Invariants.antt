@@ -2,7 +2,7 @@ use Rattle.std.specs.Prelude.{map}
 use Rattle.std.proofs.Common.{◌≡◌}
 use Rattle.std.specs.Arc.{arc_value}
 use Rattle.ll_freeze.specs.Frozen.{alternatives_in}
-use Rattle.ll_crew.specs.Leading.{Stands}
+use Rattle.ll_job.specs.Leading.{Stands}
 use Rattle.ll_crew.specs.Pieces.{IsKeptOf}
 use Rattle.ll_crew.specs.Runs.{RunsFirst}
 use Rattle.ll_crew.proofs.piece.run_batch.Given as goal

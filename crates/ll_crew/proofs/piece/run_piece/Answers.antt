@@ -2,7 +2,7 @@ use Rattle.std.proofs.Common.{◌∙◌}
 use Rattle.std.proofs.lemmas.Result.{IfOk-from_err}
 use Rattle.ll_lists.proofs.CallerLemmas.{OnErr-always}
 use Rattle.ll_crew.specs.declared.piece.Ending.TheVariants as ending
-use Rattle.ll_crew.proofs.Claiming.{ended_as}
+use Rattle.ll_crew.proofs.Arms.{ended_as}
 use Rattle.ll_crew.proofs.Finishing.{partly_reports}
 use Rattle.ll_crew.proofs.piece.run_piece.Goals as goal
 

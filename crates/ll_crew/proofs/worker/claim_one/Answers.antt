@@ -2,10 +2,9 @@ use Rattle.std.proofs.Common.{◌∙◌, refl}
 use Rattle.std.proofs.lemmas.Result.{IfOk-from_err}
 use Rattle.ll_lists.proofs.CallerLemmas.{OnErr-always}
 use Rattle.ll_core.specs.declared.answers.Claimed.TheVariants as claims
-use Rattle.ll_crew.specs.Leading.{Stands, Stopped}
-use Rattle.ll_crew.proofs.Calms.{seat_on, calm_claim}
-use Rattle.ll_crew.proofs.Goings.{stays_goes}
-use Rattle.ll_crew.proofs.Claiming.{stays_on, stays_out, claim_stands, claim_stays, claim_ended, claim_starved, claim_stopped}
+use Rattle.ll_job.specs.Leading.{Stands, Stopped}
+use Rattle.ll_job.proofs.CallerLemmas.{seat_on, calm_claim, stays_goes, stays_on, stays_out}
+use Rattle.ll_job.proofs.CallerLemmas.{claim_stands, claim_stays, claim_ended, claim_starved, claim_stopped}
 use Rattle.ll_crew.proofs.worker.claim_one.Goals as goal
 
 pub work_piece-requires-clause-stands : goal.work_piece-requires-clause-stands

@@ -1,6 +1,6 @@
 use Rattle.std.proofs.Common.{◌≡◌, None}
-use Rattle.ll_crew.specs.Leading.{Stands}
-use Rattle.ll_crew.specs.Turns.{Stays}
+use Rattle.ll_job.specs.Leading.{Stands}
+use Rattle.ll_job.specs.Turns.{Stays}
 use Rattle.ll_crew.specs.Pieces.{IsKeptOf}
 use Rattle.ll_crew.proofs.worker.work_with.Given as goal
 

@@ -1,0 +1,51 @@
+-- What holds of a value holds in the arm that has it.
+use Rattle.std.proofs.Common.{◌≡◌, ℕ, List, Bool, subst, Option, Some, None, Result, Ok, Err, IfOk}
+use Rattle.std.specs.Prelude.{IfSome, IfNone}
+use Rattle.std.specs.declared.sync.Arc.{Arc}
+use Rattle.std.specs.declared.alloc.Global.{Global}
+use Rattle.ll_laws.specs.declared.Event.{Event}
+use Rattle.ll_laws.specs.Problem.{ProblemTree}
+use Rattle.ll_freeze.specs.Frozen.{FrozenSight}
+use Rattle.ll_engine.specs.Seen.{Owing}
+use Rattle.ll_job.specs.Seats.{Sat}
+use Rattle.ll_crew.specs.Runs.{RunsTo, EndsTo, WentTo}
+use Rattle.ll_crew.specs.declared.piece.Ending.{Ending}
+use Rattle.ll_crew.specs.declared.piece.Ending.TheVariants as ending
+use Rattle.ll_crew.specs.declared.piece.Ran.{Ran}
+use Rattle.ll_crew.specs.declared.piece.Ran.TheVariants.{Back}
+use Rattle.ll_crew.specs.declared.worker.Went.{Went}
+
+pub some_of : {X : Type 0} (P : X → Type 0) (o : Option X) (x : X) → o ≡ Some x → IfSome o P → P x
+some_of P o x e h = subst (λ p. IfSome p P) e h
+
+pub none_of : {X : Type 0} {P : Type 0} (o : Option X) → o ≡ None → IfNone o P → P
+none_of {X} {P} o e h = subst (λ (p : Option X). IfNone p P) e h
+
+pub ran_back : (standing end : Type 0) (leads : Bool) (problem : ProblemTree) (ran : Ran) (batch : Arc FrozenSight Global) (s a : Sat) (events : List Event)
+    (engine : Owing) → ran ≡ Back batch → RunsTo standing end leads problem ran s a events engine
+    → RunsTo standing end leads problem (Back batch) s a events engine
+ran_back standing end leads problem ran batch s a events engine is r = subst (λ x. RunsTo standing end leads problem x s a events engine) is r
+
+pub ended_partly : (standing end : Type 0) (leads : Bool) (problem : ProblemTree) (ended : Ending) (n : ℕ) (batch : Arc FrozenSight Global) (s a : Sat)
+    (events : List Event) → ended ≡ ending.Partly n batch → EndsTo standing end leads problem ended s a events
+    → EndsTo standing end leads problem (ending.Partly n batch) s a events
+ended_partly standing end leads problem ended n batch s a events is r = subst (λ x. EndsTo standing end leads problem x s a events) is r
+
+pub some_on : {E : Type 0} (result : Result (Option ℕ) E) (P Q : ℕ → Type 0) → IfOk result (λ o. IfSome o P) → ((n : ℕ) → P n → Q n)
+    → IfOk result (λ o. IfSome o Q)
+some_on (Ok None) P Q h f = tt
+some_on (Ok (Some n)) P Q h f = f n h
+some_on (Err e) P Q h f = tt
+
+pub none_on : {E : Type 0} (result : Result (Option ℕ) E) (P Q : Type 0) → IfOk result (λ o. IfNone o P) → (P → Q) → IfOk result (λ o. IfNone o Q)
+none_on (Ok None) P Q h f = f h
+none_on (Ok (Some n)) P Q h f = tt
+none_on (Err e) P Q h f = tt
+
+pub went_as : (standing end : Type 0) (leads : Bool) (problem : ProblemTree) (went went' : Went) (s a : Sat) → went ≡ went'
+    → WentTo standing end leads problem went s a → WentTo standing end leads problem went' s a
+went_as standing end leads problem went went' s a is r = subst (λ x. WentTo standing end leads problem x s a) is r
+
+pub ended_as : (standing end : Type 0) (leads : Bool) (problem : ProblemTree) (ended ended' : Ending) (s a : Sat) (events : List Event) → ended ≡ ended'
+    → EndsTo standing end leads problem ended s a events → EndsTo standing end leads problem ended' s a events
+ended_as standing end leads problem ended ended' s a events is r = subst (λ x. EndsTo standing end leads problem x s a events) is r

@@ -1,0 +1,7 @@
+pub mod Calms
+pub mod Leadings
+pub mod Goings
+pub mod Gathering
+pub mod Endings
+pub mod Claiming
+pub mod CallerLemmas

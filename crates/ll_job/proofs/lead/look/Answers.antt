@@ -1,0 +1,20 @@
+use Rattle.std.proofs.Common.{◌≡◌, ◌⊎◌, true, inl, inr}
+use Rattle.ll_core.specs.Calls.{overview}
+use Rattle.ll_job.proofs.Goings.{looked, look_leaves}
+use Rattle.ll_job.proofs.lead.look.Goals as goal
+use Rattle.ll_job.proofs.lead.look.Goals.{Joined-then-look, then-look-via-then-look, then-look-via-else-look+then-look-2}
+
+marked : (g : _) (c : Joined-then-look g) → (c.look-look.result.starved ≡ true) ⊎ (c.look-look.result.stopped ≡ true)
+marked g c = elim c.then-look.branch [ then-look-via-then-look w ↦ inl w.if-look.true | then-look-via-else-look+then-look-2 w ↦ inr w.if-look-2.true ]
+
+pub returns-then-look-clause-left : goal.returns-then-look-clause-left
+returns-then-look-clause-left g c = λ f.
+    look_leaves g.O.Outlet.takes g.O.Outlet.breaks g.O.Outlet.welcome g.O.Outlet.faults c.args.job.now.start.now.value c.args.job.now.problem.now
+    c.args.seat.now c.look-look.new.seat c.args.out.now c.args.told.now (overview c.look-look.result) c.look-look.ensures.turn c.requires.seat.problem
+    c.requires.stands
+    (marked g c)
+
+pub tell-requires-clause-stands : goal.tell-requires-clause-stands
+tell-requires-clause-stands g c κs within =
+    looked g.O.Outlet.takes g.O.Outlet.breaks g.O.Outlet.welcome g.O.Outlet.faults c.args.job.now.start.now.value c.args.job.now.problem.now c.args.seat.now
+    c.look-look.new.seat c.args.out.now c.args.told.now (overview c.look-look.result) c.look-look.ensures.turn c.requires.seat.problem c.requires.stands

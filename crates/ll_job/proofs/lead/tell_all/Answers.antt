@@ -1,0 +1,53 @@
+use Rattle.std.specs.Prelude.{map}
+use Rattle.std.proofs.Common.{ap, Err}
+use Rattle.ll_laws.specs.declared.Event.{Event}
+use Rattle.ll_laws.specs.Pool.{Owed}
+use Rattle.ll_job.proofs.Leadings.{calm_ready}
+use Rattle.ll_job.proofs.Goings.{goes_calm, told_welcome, told_more, told_refused}
+use Rattle.ll_job.proofs.lead.tell_all.Goals as goal
+
+pub returns-in_default : goal.returns-in_default
+returns-in_default g c =
+    let i = c.loop.invariant in
+    record {
+      leads = i.0;
+      on = λ e. goes_calm g.O.Outlet.takes g.O.Outlet.breaks g.O.Outlet.welcome g.O.Outlet.faults c.args.job.now.start.now.value c.args.job.now.problem.now
+          c.args.seat.now c.loop.seat c.ready.new.seat c.loop.out c.loop.told c.requires.seat.problem i.1
+          (calm_ready c.ready.result c.in_default.not-Events c.loop.seat c.ready.new.seat c.ready.ensures.turn) c.ready.ensures.owes;
+      left = λ f. absurd (cc);
+    }
+
+pub give-requires-clause-welcome : goal.give-requires-clause-welcome
+give-requires-clause-welcome g c κs within =
+    let i = c.loop.invariant in
+    told_welcome g.O.Outlet.takes g.O.Outlet.breaks g.O.Outlet.welcome g.O.Outlet.faults c.args.job.now.start.now.value c.args.job.now.problem.now
+    c.args.seat.now c.loop.seat c.ready.new.seat c.loop.out c.loop.out c.loop.told c.in-Events.report
+    (map g.O.Found.Notice.stands_for c.report.inside.events.items)
+    c.report.inside.inferences
+    (ap (λ (o : Owed Event). o.events) c.report.view_is) (ap (λ (o : Owed Event). o.cost) c.report.view_is) c.in-Events.ensures.turn c.requires.seat.problem i.0
+    i.1
+
+pub loop-preserved : goal.loop-preserved
+loop-preserved g c =
+    let i = c.loop.invariant in let ok = c.in-Ok.ensures in (
+      i.0,
+      told_more g.O.Outlet.takes g.O.Outlet.breaks g.O.Outlet.welcome g.O.Outlet.faults c.args.job.now.start.now.value c.args.job.now.problem.now
+          c.args.seat.now c.loop.seat c.ready.new.seat c.loop.out c.give.new.out c.loop.told c.in-Events.report
+          (map g.O.Found.Notice.stands_for c.report.inside.events.items)
+          c.report.inside.inferences
+          (ap (λ (o : Owed Event). o.events) c.report.view_is) (ap (λ (o : Owed Event). o.cost) c.report.view_is) c.in-Events.ensures.turn
+          c.requires.seat.problem i.0 i.1
+          (record { answers = c.in-Ok.counts.answers; reached = c.in-Ok.counts.reached; inferences = c.saturating_add-inferences.result })
+          c.in-Events.ensures.owes ok.given ok.answers ok.reached c.saturating_add-inferences.ensures ok.faults_kept ok.welcome_kept,
+    )
+
+pub returns-in-Err-clause-left : goal.returns-in-Err-clause-left
+returns-in-Err-clause-left g c = λ f.
+    let i = c.loop.invariant in let err = c.in-Err.ensures in
+    told_refused g.O.Outlet.takes g.O.Outlet.breaks g.O.Outlet.welcome g.O.Outlet.faults c.args.job.now.start.now.value c.args.job.now.problem.now
+    c.args.seat.now c.loop.seat c.ready.new.seat c.loop.out c.give.new.out c.loop.told c.in-Events.report
+    (map g.O.Found.Notice.stands_for c.report.inside.events.items)
+    c.report.inside.inferences
+    (ap (λ (o : Owed Event). o.events) c.report.view_is) (ap (λ (o : Owed Event). o.cost) c.report.view_is) c.in-Events.ensures.turn c.requires.seat.problem i.0
+    i.1
+    c.in-Err.fault c.quit.new.seat err.refused (λ e. err.write (ap Err e)) err.faults_kept err.welcome_kept c.quit.ensures.same c.quit.ensures.left

@@ -1,0 +1,5 @@
+pub mod Seats
+pub mod Alternatives
+pub mod Leading
+pub mod Turns
+pub mod Crews

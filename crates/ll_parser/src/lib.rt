@@ -27,7 +27,7 @@ use std::marker::Model;
 pub const MOST_OPEN: usize = 1000;
 
 /// A binary operator.
-#[derive(Clone, Copy, Debug, PartialEq, Eq)]
+#[derive(Clone, Copy)]
 pub enum Op {
     /// `:-`
     ColonDash,
@@ -46,18 +46,18 @@ pub enum Op {
 }
 
 /// A name or a variable: its number among the names, and the place where it stands.
-#[derive(Clone, Copy, Debug, PartialEq, Eq)]
+#[derive(Clone, Copy)]
 pub struct Named {
     pub name: u32,
     pub at: Place,
 }
 
 /// The place of a node among the nodes of raw trees.
-#[derive(Clone, Copy, Debug, PartialEq, Eq)]
+#[derive(Clone, Copy)]
 pub struct RawAt(pub usize);
 
 /// A node of a raw tree, with the places of its parts.
-#[derive(Clone, Copy, Debug, PartialEq, Eq)]
+#[derive(Clone, Copy)]
 pub enum RawNode<'a> {
     /// `true`.
     True,
@@ -89,7 +89,7 @@ pub enum RawNode<'a> {
 }
 
 /// A clause, and whether it is marked `LINEAR`.
-#[derive(Clone, Copy, Debug, PartialEq, Eq)]
+#[derive(Clone, Copy)]
 pub struct RawClause {
     pub linear: bool,
     pub form: RawAt,
@@ -154,7 +154,7 @@ impl Model for RawQuery {
 }
 
 // What a sign takes together before it: all that is tighter.
-#[derive(Clone, Copy, Debug, PartialEq, Eq)]
+#[derive(Clone, Copy)]
 enum Level {
     Ampersand,
     Semicolon,
@@ -164,21 +164,21 @@ enum Level {
 }
 
 // The sign of a sum.
-#[derive(Clone, Copy, Debug, PartialEq, Eq)]
+#[derive(Clone, Copy)]
 enum SumOp {
     Plus,
     Minus,
 }
 
 // The sign of a comparison: `<` or `=<`.
-#[derive(Clone, Copy, Debug, PartialEq, Eq)]
+#[derive(Clone, Copy)]
 enum TestOp {
     Less,
     Most,
 }
 
 // The word of a quantifier.
-#[derive(Clone, Copy, Debug, PartialEq, Eq)]
+#[derive(Clone, Copy)]
 enum Quantifier {
     Forall,
     Exists,

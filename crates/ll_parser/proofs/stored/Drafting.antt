@@ -1,6 +1,8 @@
 -- What the clauses and modules so far show stays while nodes are added, and what a token outside of a formula does.
-use Rattle.std.proofs.Common.{◌≡◌, ℕ, ◌<◌, ◌≤◌, Bool, true, false, List, [], ◌++◌, length, map, All, get_or, Option, Some, None, option_map, refl, sym, subst}
-use Rattle.std.proofs.Common.{◌∙◌, ap, append-nil, arith, length-append}
+use Rattle.std.proofs.Common.{◌≡◌, ℕ, ◌<◌, ◌≤◌, Bool, true, false, List, [], ◌∷◌, ◌++◌, length, map, All, get_or, Option, Some, None, option_map}
+use Rattle.std.proofs.Common.{refl, sym, subst, ◌∙◌, ap, append-nil, arith, length-append}
+use Rattle.std.proofs.lemmas.List.{map-append}
+use Rattle.std.proofs.lemmas.List.Elements.{All-push}
 use Rattle.ll_lists.proofs.CallerLemmas.{map_same_on as same_map}
 use Rattle.ll_lexer.specs.declared.Place.{Place}
 use Rattle.ll_bank.proofs.CallerLemmas.{grow_kept}
@@ -19,8 +21,8 @@ use Rattle.ll_parser.specs.declared.texts.Stage.TheVariants as stages
 use Rattle.ll_parser.specs.declared.waiting.Waiting.{Waiting}
 use Rattle.ll_parser.specs.Raw.{Raw, truth, ClauseTree, ModuleTree, ProgramTree}
 use Rattle.ll_parser.specs.Flat.{Pending, Flat, want, flat_step}
-use Rattle.ll_parser.specs.FlatText.{boundary, inside, FlatProgram, add_clause, enter, end_clause, phase_step, program_step, asking, query_start, query_step}
-use Rattle.ll_parser.specs.FlatText.{program_start, program_final}
+use Rattle.ll_parser.specs.FlatText.{boundary, inside, FlatProgram, add_clause, close_module, enter, end_clause, phase_step, program_step, asking, query_start}
+use Rattle.ll_parser.specs.FlatText.{query_step, program_start, program_final}
 use Rattle.ll_parser.specs.Nodes.{Node, identifier, build_raw, raw_trees, raw_at, shown_clause, shown_module, shown_program}
 use Rattle.ll_parser.specs.Symbols.{symbol_tok}
 use Rattle.ll_parser.specs.Waiting.{known, waiting, tree, mode_view, Extends, Grows, Fits, Gives, GivesTree}
@@ -177,6 +179,40 @@ marked-next d new o p e fits s g =
     ∙ ap (λ (ps : List Pending). enter (whole_view (known texts) d) (current_view (known texts) d) true (flat_step (want ps) (symbol_tok (known texts) s)))
     (sym (begins-idle d.waiting (subst (PhaseFits d.waiting) e fits) (known texts))))
     g
+
+-- ---- the end of a module
+
+-- none is at work
+pub closes-none : (d : Draft) (o : Option RawModule) → DraftFits d → d.current ≡ None → o ≡ None
+    → ClosesModule d (record { waiting = d.waiting; clauses = d.clauses; modules = d.modules; current = o })
+closes-none d o fits none left = record {
+  fits = record { clauses = fits.clauses; modules = fits.modules; current = subst (CurrentFits d.waiting.forms) (sym left) tt };
+  waiting = refl;
+  none = left;
+  is = λ texts. ap (λ m. close_module (whole_view (known texts) d) (option_map (shown_module (known texts) d.waiting.forms) m)) (sym none);
+}
+
+-- the one at work was put to the others
+pub closes-some : (d new : Draft) (m : RawModule) → DraftFits d → d.current ≡ Some m → new.current ≡ None → new.waiting ≡ d.waiting
+    → new.clauses.items ≡ d.clauses.items → new.modules.items ≡ d.modules.items ++ m ∷ [] → ClosesModule d new
+closes-some d new m fits some left waiting clauses modules = record {
+  fits = record {
+    clauses = subst (λ (w : Waiting). ClausesFit w.forms new.clauses.items) (sym waiting) (subst (ClausesFit d.waiting.forms) (sym clauses) fits.clauses);
+    modules = subst (λ (w : Waiting). All (ModuleFits w.forms) new.modules.items) (sym waiting)
+        (subst (All (ModuleFits d.waiting.forms)) (sym modules)
+        (All-push (ModuleFits d.waiting.forms) d.modules.items m fits.modules (subst (CurrentFits d.waiting.forms) some fits.current)));
+    current = subst (CurrentFits new.waiting.forms) (sym left) tt;
+  };
+  waiting = waiting;
+  none = left;
+  is = λ texts.
+      (λ i. shown_program (known texts) (waiting i).forms (clauses i) (modules i))
+      ∙ ((λ i. record {
+        clauses = map (shown_clause (known texts) d.waiting.forms) d.clauses.items;
+        modules = map-append (shown_module (known texts) d.waiting.forms) d.modules.items (m ∷ []) i;
+      })
+      ∙ ap (λ o. close_module (whole_view (known texts) d) (option_map (shown_module (known texts) d.waiting.forms) o)) (sym some));
+}
 
 -- ---- before the first token
 

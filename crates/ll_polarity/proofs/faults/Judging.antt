@@ -1,13 +1,13 @@
 -- The first faults of programs, part by part.
 use Rattle.std.proofs.Common.{◌≡◌, ℕ, suc, ◌+◌, ◌<◌, Bool, true, false, true≢false, List, [], ◌∷◌, ◌++◌, length, map, take, drop, reverse, All, Option, Some}
-use Rattle.std.proofs.Common.{None, slice_index_or, refl, sym, subst, ap, ◌∙◌, arith, drop-cons, add-one, if◌then◌else◌}
+use Rattle.std.proofs.Common.{None, slice_index_or, refl, sym, subst, ap, ◌∙◌, arith, length-append, drop-cons, add-one, if◌then◌else◌}
 use Rattle.std.specs.Prelude.{is_some, IfNone, MatchOption}
 use Rattle.std.specs.List.{list_any}
 use Rattle.std.specs.Str.{bytes_eq}
 use Rattle.std.specs.HashMap.{HashMap}
 use Rattle.std.specs.declared.hash.FoldHasher.{FoldHasher}
 use Rattle.std.specs.declared.hash.BuildHasherDefault.{BuildHasherDefault}
-use Rattle.std.proofs.lemmas.List.{append-nil, length-map, map-append, take_more, get_or-map}
+use Rattle.std.proofs.lemmas.List.{append-nil, length-map, length-reverse, map-append, take_more, get_or-map}
 use denote.Ref.{Bor}
 use Rattle.ll_lexer.specs.declared.Fault.{Fault}
 use Rattle.ll_parser.specs.declared.Named.{Named}
@@ -94,6 +94,18 @@ opened local names b = record b {
   scope = map (λ (n : Identifier). record { text = n.text; local = local }) (reverse (map (identifier b.texts) names))
       ++ b.scope;
 }
+
+-- how many binders there are then
+pub opened-length : (local : Bool) (before later : Scoped) (names : List Named) → later ≡ opened local names before
+    → length later.scope ≡ length names + length before.scope
+opened-length local before later names e =
+    let texts = map (identifier before.texts) names in
+    let inner = map (λ (n : Identifier). let b : Binder = record { text = n.text; local = local } in b) (reverse texts) in
+    let l = length-append inner before.scope in
+    let m = length-map (reverse texts) (λ (n : Identifier). let b : Binder = record { text = n.text; local = local } in b) in
+    let r = length-reverse texts in
+    let k = length-map names (identifier before.texts) in
+    ap (λ (b : Scoped). length b.scope) e ∙ omega arith
 
 pub scope-of-module : (texts : List (List ℕ)) (nodes : List Node) (m : RawModule) (ls ps : List Named) (b0 b1 b2 b3 : Scoped)
     → b0 ≡ record { texts = texts; scope = [] } → b1 ≡ b0 → b2 ≡ opened true ls b1 → b3 ≡ opened false ps b2

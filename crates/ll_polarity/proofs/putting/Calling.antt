@@ -24,7 +24,7 @@ use Rattle.ll_polarity.specs.declared.put_terms.Turn.TheVariants as turn
 use Rattle.ll_polarity.specs.Scope.{meaning}
 use Rattle.ll_polarity.specs.Reading.{Met, Read, read_name}
 use Rattle.ll_polarity.specs.Named.{IsNamed, AreNamed}
-use Rattle.ll_polarity.specs.Built.{Around, applied, built_term, built_terms, arguments, raws_past}
+use Rattle.ll_polarity.specs.Built.{Around, put_term, applied, built_term, built_terms, arguments, raws_past}
 use Rattle.ll_polarity.specs.Standing.{front_term, HasRoom}
 use Rattle.ll_polarity.specs.Calls.{Site, arguments_from, gives, goes_on, opens, finished, IsReady, CallFits, CallsFit, TurnFits, IsBegun, IsResumed, IsGiven}
 use Rattle.ll_polarity.proofs.reading.Grows.{Longer, longer_refl, longer_trans, longer_term, longer_terms}
@@ -146,6 +146,16 @@ pub named_argument : (texts : List (List ℕ)) (forms : List Node) (at k : ℕ) 
     → raws_past k (arguments (raw_at texts forms at)) ≡ more (raw_at texts forms arg.0) rest → IsNamed (raw_at texts forms arg.0)
 named_argument texts forms at k arg rest h e = named_past k (arguments (raw_at texts forms at)) (raw_at texts forms arg.0) rest
     (named_arguments (raw_at texts forms at) h) e
+
+-- a name was begun, and waits for its first argument
+pub begun_head : (s : Site) (bank : Nodes) (c : Call) (met now : Met) (n : Identifier) (args : RawList) → raw_at s.texts s.forms c.at.0 ≡ raw.head n args
+    → c.args.items ≡ [] → (let f = read_name (meaning s.around.scope n.text) met n.text in
+    front_term c.front ≡ put_term s.around.quantified s.around.depth f.it → now ≡ f.met
+    → goes_on s bank c now ≡ built_term s.around met (raw_at s.texts s.forms c.at.0))
+begun_head s bank c met now n args tree empty front is =
+    (λ i. let ts = built_terms s.around (is i) (raws_past (length (empty i)) (arguments (tree i))) in
+    let x : Read Term = record { it = applied (front i) (term_trees bank (empty i) ++ ts.it); met = ts.met } in x)
+    ∙ ap (built_term s.around met) (sym tree)
 
 -- ---- the measure
 

@@ -1,11 +1,12 @@
 use Rattle.std.proofs.Common.{◌≡◌, ℕ, List, [], Some, ap, sym, ◌∙◌, arith}
 use Rattle.std.specs.Prelude.{slice_get, option_map}
+use Rattle.std.proofs.lemmas.Result.{IfOk-from_err}
 use Rattle.std.proofs.lemmas.List.{append-nil}
 use Rattle.std.proofs.lemmas.Option.{slice_get-map}
 use Rattle.ll_lexer.specs.declared.Token.{Token}
 use Rattle.ll_lexer.specs.declared.TokenKind.{TokenKind}
 use Rattle.ll_lexer.specs.Reading.{LexedText, bytes_of}
-use Rattle.ll_parser.specs.Tokens.{toks_of, tok_of, tok_by}
+use Rattle.ll_parser.specs.Tokens.{toks_of, tok_of, tok_by, Identifier, name, variable}
 use Rattle.ll_parser.specs.Symbols.{AddsOne}
 use Rattle.ll_parser.proofs.symbols.symbol_at.Goals as goal
 
@@ -196,3 +197,61 @@ returns-in-LoadArrow-clause-token c = λ more. tok_at c.args.tokens.now c.args.i
 
 pub returns-in-Number-clause-names : goal.returns-in-Number-clause-names
 returns-in-Number-clause-names c = none_added c.args.names.now
+
+pub get-token-requires : goal.get-token-requires
+get-token-requires c = c.requires.token
+
+pub bytes-requires : goal.bytes-requires
+bytes-requires c = c.requires.token
+
+pub bytes-requires-in-Variable : goal.bytes-requires-in-Variable
+bytes-requires-in-Variable c = c.requires.token
+
+pub word-requires-clause-ascii : goal.word-requires-clause-ascii
+word-requires-clause-ascii c = c.bytes.ensures.ascii
+
+pub word-requires-clause-room : goal.word-requires-clause-room
+word-requires-clause-room c = c.requires.room
+
+pub word-requires-in-Variable-clause-ascii : goal.word-requires-in-Variable-clause-ascii
+word-requires-in-Variable-clause-ascii c = c.bytes-in-Variable.ensures.ascii
+
+pub word-requires-in-Variable-clause-room : goal.word-requires-in-Variable-clause-room
+word-requires-in-Variable-clause-room c = c.requires.room
+
+pub returns-in_err-word-in-Name-clause-names : goal.returns-in_err-word-in-Name-clause-names
+returns-in_err-word-in-Name-clause-names c = IfOk-from_err c.from_residual.result _ c.from_residual.ensures.0
+
+pub returns-in_err-word-in-Name-clause-token : goal.returns-in_err-word-in-Name-clause-token
+returns-in_err-word-in-Name-clause-token c = IfOk-from_err c.from_residual.result _ c.from_residual.ensures.0
+
+pub returns-in_ok-word-in-Name-clause-names : goal.returns-in_ok-word-in-Name-clause-names
+returns-in_ok-word-in-Name-clause-names c = c.in_ok-word-in-Name.ensures.names
+
+pub returns-in_err-word-in-Variable-clause-names : goal.returns-in_err-word-in-Variable-clause-names
+returns-in_err-word-in-Variable-clause-names c =
+    IfOk-from_err c.from_residual-in_err-word-in-Variable.result _ c.from_residual-in_err-word-in-Variable.ensures.0
+
+pub returns-in_err-word-in-Variable-clause-token : goal.returns-in_err-word-in-Variable-clause-token
+returns-in_err-word-in-Variable-clause-token c =
+    IfOk-from_err c.from_residual-in_err-word-in-Variable.result _ c.from_residual-in_err-word-in-Variable.ensures.0
+
+pub returns-in_ok-word-in-Variable-clause-names : goal.returns-in_ok-word-in-Variable-clause-names
+returns-in_ok-word-in-Variable-clause-names c = c.in_ok-word-in-Variable.ensures.names
+
+pub number-requires : goal.number-requires
+number-requires c = rw c.get-token.ensures.token c.in-Number.is
+
+pub returns-in_ok-word-in-Name-clause-token : goal.returns-in_ok-word-in-Name-clause-token
+returns-in_ok-word-in-Name-clause-token c = λ more.
+    tok_at c.args.tokens.now c.args.i c.get-token.result _ c.get-token.ensures.token c.in-Name.is
+    ∙ ap (λ (n : Identifier). Some (name n)) (sym (c.in_ok-word-in-Name.ensures.text more
+    ∙ ap (λ bytes. let n : Identifier = record { text = bytes; at = c.get-token.result.at } in n)
+    (rw c.get-token.ensures.token at c.bytes.ensures.bytes)))
+
+pub returns-in_ok-word-in-Variable-clause-token : goal.returns-in_ok-word-in-Variable-clause-token
+returns-in_ok-word-in-Variable-clause-token c = λ more.
+    tok_at c.args.tokens.now c.args.i c.get-token.result _ c.get-token.ensures.token c.in-Variable.is
+    ∙ ap (λ (n : Identifier). Some (variable n)) (sym (c.in_ok-word-in-Variable.ensures.text more
+    ∙ ap (λ bytes. let n : Identifier = record { text = bytes; at = c.get-token.result.at } in n)
+    (rw c.get-token.ensures.token at c.bytes-in-Variable.ensures.bytes)))

@@ -1,6 +1,8 @@
-use Rattle.std.proofs.Common.{[]}
+use Rattle.std.proofs.Common.{◌<◌, [], length, map, subst, sym, ap, ◌∙◌}
 use Rattle.std.proofs.lemmas.Result.{IfOk-from_err}
+use Rattle.std.proofs.lemmas.List.{take_all}
 use Rattle.std.specs.String.{string_bytes}
+use Rattle.ll_laws.specs.declared.Module.{Module}
 use Rattle.std.proofs.lemmas.Option.{get_or_from_slice_get}
 use Rattle.ll_polarity.specs.Numbered.{text_of}
 use Rattle.ll_polarity.proofs.problems.QueryParts.{texts_more}
@@ -19,3 +21,16 @@ returns-in_err-push c = IfOk-from_err c.from_residual-in_err-push.result _ c.fro
 
 pub returns-in_err-text : goal.returns-in_err-text
 returns-in_err-text c = IfOk-from_err c.from_residual.result _ c.from_residual.ensures.0
+
+pub text-requires : goal.text-requires
+text-requires c =
+    subst (λ (m : Module). m.name < length c.args.names.now) (sym c.module-item.is)
+    (c.requires c.loop-module.module-index c.module-item.result c.loop-module-test.true)
+
+pub loop-module-init : goal.loop-module-init
+loop-module-init c = ap (map string_bytes) c.new-texts.ensures.items
+
+pub returns : goal.returns
+returns c =
+    c.loop-module.invariant
+    ∙ ap (map (λ (m : Module). text_of c.args.names.now m.name)) (take_all c.loop-module.module-index c.args.modules.now c.loop-module-test.false)

@@ -1,8 +1,9 @@
-use Rattle.std.proofs.Common.{refl, arith, ◌∙◌}
+use Rattle.std.proofs.Common.{refl, ap, arith, ◌∙◌}
 use Rattle.std.proofs.lemmas.Result.{IfOk-from_err}
-use Rattle.ll_bank.proofs.CallerLemmas.{Extends-refl}
+use Rattle.std.proofs.lemmas.List.{nil_from_length}
+use Rattle.ll_bank.proofs.CallerLemmas.{Extends-refl, Extends-trans}
 use Rattle.ll_polarity.specs.Grounds.{ground}
-use Rattle.ll_polarity.proofs.putting.Framing.{at_step, stands_now, coming_room, read_on, taken_fits, given_on, has_parts}
+use Rattle.ll_polarity.proofs.putting.Framing.{at_step, stands_now, coming_room, read_on, taken_fits, given_on, has_parts, coming_ends}
 use Rattle.ll_polarity.proofs.put_forms.form.Goals as goal
 
 pub steps-init : goal.steps-init
@@ -96,3 +97,30 @@ returns-in_err-step-in-Some-clause-shows c = IfOk-from_err c.from_residual-in_er
 
 pub returns-in_err-step-in-Some-clause-texts : goal.returns-in_err-step-in-Some-clause-texts
 returns-in_err-step-in-Some-clause-texts c = IfOk-from_err c.from_residual-in_err-step-in-Some.result _ c.from_residual-in_err-step-in-Some.ensures.0
+
+pub returns-in_err-step-in-Read-clause-keeps : goal.returns-in_err-step-in-Read-clause-keeps
+returns-in_err-step-in-Read-clause-keeps c = Extends-trans c.steps.invariant.coming.keeps c.begun.ensures.keeps
+
+pub returns-in_err-step-in-Some-clause-keeps : goal.returns-in_err-step-in-Some-clause-keeps
+returns-in_err-step-in-Some-clause-keeps c = Extends-trans c.steps.invariant.coming.keeps c.given.ensures.keeps
+
+pub returns-in-None-clause-shows : goal.returns-in-None-clause-shows
+returns-in-None-clause-shows c =
+    let f = at_step c.in-Give.is c.steps.invariant.coming c.steps.invariant.low in
+    (coming_ends f.coming (nil_from_length c.steps.frames.items (omega (arith, c.in-None.ensures.cases.0)))).0
+
+pub returns-in-None-clause-met : goal.returns-in-None-clause-met
+returns-in-None-clause-met c =
+    let f = at_step c.in-Give.is c.steps.invariant.coming c.steps.invariant.low in
+    (coming_ends f.coming (nil_from_length c.steps.frames.items (omega (arith, c.in-None.ensures.cases.0)))).1
+
+pub returns-in-None-clause-scope : goal.returns-in-None-clause-scope
+returns-in-None-clause-scope c =
+    let f = at_step c.in-Give.is c.steps.invariant.coming c.steps.invariant.low in
+    ap (λ a. a.scope) (coming_ends f.coming (nil_from_length c.steps.frames.items (omega (arith, c.in-None.ensures.cases.0)))).2
+
+pub returns-in-None-clause-texts : goal.returns-in-None-clause-texts
+returns-in-None-clause-texts c = c.steps.invariant.texts
+
+pub returns-in-None-clause-keeps : goal.returns-in-None-clause-keeps
+returns-in-None-clause-keeps c = c.steps.invariant.coming.keeps

@@ -1,9 +1,12 @@
-use Rattle.std.proofs.Common.{◌≡◌, ◌+◌, ◌∷◌, ◌++◌, [], List, ◌∙◌, ap, refl, sym, subst, take, arith}
+use Rattle.std.proofs.Common.{◌≡◌, ◌+◌, ◌∷◌, ◌++◌, [], List, None, ◌∙◌, ap, refl, sym, subst, take, arith}
 use Rattle.std.proofs.lemmas.Result.{IfOk-from_err}
-use Rattle.std.proofs.lemmas.List.{take_more}
+use Rattle.std.proofs.lemmas.List.{take_more, take_all}
 use Rattle.ll_bank.proofs.CallerLemmas.{Extends-refl}
 use Rattle.ll_parser.specs.declared.RawModule.{RawModule}
+use Rattle.ll_polarity.specs.Scope.{Scoped}
 use Rattle.ll_polarity.specs.Places.{place_in}
+use Rattle.ll_polarity.specs.Ready.{IsModuleReady}
+use Rattle.ll_polarity.specs.Standing.{StandsIn}
 use Rattle.ll_polarity.proofs.putting.ModuleRows.{AreModulesRead, modules_more, room_at_module}
 use Rattle.ll_polarity.proofs.put_modules.modules.Goals as goal
 
@@ -66,3 +69,41 @@ returns-in_err-push-clause-names c = IfOk-from_err c.from_residual-in_err-push.r
 
 pub returns-in_err-push-clause-shows : goal.returns-in_err-push-clause-shows
 returns-in_err-push-clause-shows c = IfOk-from_err c.from_residual-in_err-push.result _ c.from_residual-in_err-push.ensures.0
+
+pub module-requires-clause-stands : goal.module-requires-clause-stands
+module-requires-clause-stands c =
+    let texts = c.args.text.now.names.now in
+    let start : c.args.binders.now ≡ record { texts = texts; scope = [] } = λ i. record { texts = c.requires.stands.same i; scope = c.requires.outermost i } in
+    subst (λ (b : Scoped). StandsIn texts b (record { quantified = None; depth = 0 })) (start ∙ sym c.loop-body.invariant.binders) c.requires.stands
+
+pub module-requires-clause-outermost : goal.module-requires-clause-outermost
+module-requires-clause-outermost c = ap (λ (b : Scoped). b.scope) c.loop-body.invariant.binders
+
+pub module-requires-clause-ready : goal.module-requires-clause-ready
+module-requires-clause-ready c =
+    subst (IsModuleReady c.args.text.now.names.now c.args.text.now.forms.now) (sym c.body-item.is)
+    (c.requires.ready c.loop-body.body-index c.body-item.result c.loop-body-test.true)
+
+pub returns-clause-shows : goal.returns-clause-shows
+returns-clause-shows c =
+    let from = c.args.from.now in
+    let e : take c.loop-body.body-index from ≡ from = take_all c.loop-body.body-index from c.loop-body-test.false in
+    (subst (λ (xs : List RawModule). AreModulesRead c.args.text.now.names.now c.args.text.now.forms.now (place_in c.args.text.now.modules.now.places)
+    c.args.met.now.names c.args.bank.now c.loop-body.bank xs c.loop-body.put.items c.loop-body.met.names) e c.loop-body.invariant.read).show
+
+pub returns-clause-names : goal.returns-clause-names
+returns-clause-names c =
+    let from = c.args.from.now in
+    let e : take c.loop-body.body-index from ≡ from = take_all c.loop-body.body-index from c.loop-body-test.false in
+    (subst (λ (xs : List RawModule). AreModulesRead c.args.text.now.names.now c.args.text.now.forms.now (place_in c.args.text.now.modules.now.places)
+    c.args.met.now.names c.args.bank.now c.loop-body.bank xs c.loop-body.put.items c.loop-body.met.names) e c.loop-body.invariant.read).met
+
+pub returns-clause-inside : goal.returns-clause-inside
+returns-clause-inside c =
+    let from = c.args.from.now in
+    let e : take c.loop-body.body-index from ≡ from = take_all c.loop-body.body-index from c.loop-body-test.false in
+    (subst (λ (xs : List RawModule). AreModulesRead c.args.text.now.names.now c.args.text.now.forms.now (place_in c.args.text.now.modules.now.places)
+    c.args.met.now.names c.args.bank.now c.loop-body.bank xs c.loop-body.put.items c.loop-body.met.names) e c.loop-body.invariant.read).inside
+
+pub returns-clause-keeps : goal.returns-clause-keeps
+returns-clause-keeps c = c.loop-body.invariant.read.keeps

@@ -1,16 +1,16 @@
 use Rattle.std.proofs.Common.{◌≡◌, ◌<◌, ℕ, suc, [], length, refl, sym, subst, ap, ◌∙◌, arith, ◌∷◌, length-append}
 use Rattle.std.proofs.lemmas.Result.{IfOk-from_err}
-use Rattle.ll_bank.proofs.CallerLemmas.{Extends-refl}
+use Rattle.ll_bank.proofs.CallerLemmas.{Extends-refl, Extends-trans}
 use Rattle.ll_bank.specs.Term.{Term}
 use Rattle.std.specs.Prelude.{List}
 use Rattle.ll_parser.specs.Nodes.{raw_at}
-use Rattle.ll_parser.specs.Raw.{more}
+use Rattle.ll_parser.specs.Raw.{none, more}
 use Rattle.ll_parser.specs.Weights.{weights}
 use Rattle.ll_polarity.specs.Reading.{Read}
 use Rattle.ll_polarity.specs.Built.{built_terms, arguments, raws_past}
 use Rattle.ll_polarity.specs.Standing.{met_of, around}
 use Rattle.ll_polarity.specs.Calls.{Site}
-use Rattle.ll_polarity.proofs.putting.Calling.{named_argument, args_room, args_more, less_more}
+use Rattle.ll_polarity.proofs.putting.Calling.{named_argument, args_room, args_more, args_end, less_more}
 use Rattle.ll_polarity.proofs.put_terms.arguments_of.Goals as goal
 
 pub arguments-init : goal.arguments-init
@@ -75,3 +75,41 @@ returns-in_err-put-clause-met c = IfOk-from_err c.from_residual.result _ c.from_
 
 pub returns-in_err-put-clause-show : goal.returns-in_err-put-clause-show
 returns-in_err-put-clause-show c = IfOk-from_err c.from_residual.result _ c.from_residual.ensures.0
+
+pub argument-requires : goal.argument-requires
+argument-requires c = c.requires.ready.inside
+
+pub term-requires-clause-stands : goal.term-requires-clause-stands
+term-requires-clause-stands c = c.requires.stands
+
+pub returns-in_err-put-clause-keeps : goal.returns-in_err-put-clause-keeps
+returns-in_err-put-clause-keeps c = Extends-trans c.arguments.invariant.keeps c.term.ensures.keeps
+
+pub returns-in_err-push-clause-keeps : goal.returns-in_err-push-clause-keeps
+returns-in_err-push-clause-keeps c = Extends-trans c.arguments.invariant.keeps c.term.ensures.keeps
+
+pub returns-clause-inside : goal.returns-clause-inside
+returns-clause-inside c = c.arguments.invariant.inside
+
+pub returns-clause-keeps : goal.returns-clause-keeps
+returns-clause-keeps c = c.arguments.invariant.keeps
+
+pub returns-clause-show : goal.returns-clause-show
+returns-clause-show c =
+    let a = around c.args.place c.args.binders.now.scope in
+    let s : Site = record { texts = c.args.names.now; forms = c.args.forms.now; around = a } in
+    let target : Read (List Term) = built_terms a (met_of c.args.names.now c.args.met.now) (arguments (raw_at c.args.names.now c.args.forms.now c.args.at.0)) in
+    let l : c.len.result ≡ length c.arguments.args.items = omega (arith, c.len.ensures, c.arguments.args.ok.0) in
+    let raw = raw_at c.args.names.now c.args.forms.now c.args.at.0 in
+    (args_end s target c.args.bank.now c.args.at.0 c.arguments.bank c.arguments.args.items (met_of c.args.names.now c.arguments.met) c.arguments.invariant
+    (subst (λ (k : ℕ). raws_past k (arguments raw) ≡ none) l (c.in_default.ensures c.args.names.now))).0
+
+pub returns-clause-met : goal.returns-clause-met
+returns-clause-met c =
+    let a = around c.args.place c.args.binders.now.scope in
+    let s : Site = record { texts = c.args.names.now; forms = c.args.forms.now; around = a } in
+    let target : Read (List Term) = built_terms a (met_of c.args.names.now c.args.met.now) (arguments (raw_at c.args.names.now c.args.forms.now c.args.at.0)) in
+    let l : c.len.result ≡ length c.arguments.args.items = omega (arith, c.len.ensures, c.arguments.args.ok.0) in
+    let raw = raw_at c.args.names.now c.args.forms.now c.args.at.0 in
+    (args_end s target c.args.bank.now c.args.at.0 c.arguments.bank c.arguments.args.items (met_of c.args.names.now c.arguments.met) c.arguments.invariant
+    (subst (λ (k : ℕ). raws_past k (arguments raw) ≡ none) l (c.in_default.ensures c.args.names.now))).1

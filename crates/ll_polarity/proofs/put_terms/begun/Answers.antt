@@ -1,11 +1,13 @@
-use Rattle.std.proofs.Common.{subst}
+use Rattle.std.proofs.Common.{refl, subst, arith}
 use Rattle.std.proofs.lemmas.Result.{IfOk-from_err}
 use Rattle.ll_bank.proofs.CallerLemmas.{Extends-refl}
 use Rattle.ll_parser.specs.Nodes.{identifier, raws_in, raw_trees}
 use Rattle.ll_parser.specs.Seen.{places}
+use Rattle.ll_polarity.specs.Named.{IsNamed}
 use Rattle.ll_polarity.specs.Built.{built_term}
 use Rattle.ll_polarity.specs.Standing.{met_of, around, HasRoom}
-use Rattle.ll_polarity.proofs.putting.Calling.{room_head}
+use Rattle.ll_polarity.proofs.naming.Named.{number-within}
+use Rattle.ll_polarity.proofs.putting.Calling.{room_head, begun_head}
 use Rattle.ll_polarity.proofs.put_terms.begun.Goals as goal
 
 pub front_of-requires-clause-room : goal.front_of-requires-clause-room
@@ -59,3 +61,54 @@ returns-in_err-term-in-Int-clause-fits c = IfOk-from_err c.from_residual-in_err-
 
 pub returns-in_err-term-in-Int-clause-next : goal.returns-in_err-term-in-Int-clause-next
 returns-in_err-term-in-Int-clause-next c = IfOk-from_err c.from_residual-in_err-term-in-Int.result _ c.from_residual-in_err-term-in-Int.ensures.0
+
+pub node-requires : goal.node-requires
+node-requires c = c.requires.ready.inside
+
+pub front_of-requires-clause-stands : goal.front_of-requires-clause-stands
+front_of-requires-clause-stands c = c.requires.stands
+
+pub front_of-requires-clause-name : goal.front_of-requires-clause-name
+front_of-requires-clause-name c =
+    number-within c.args.names.now c.in-Head.name (subst IsNamed (c.in-Head.ensures.tree c.args.names.now) c.requires.ready.named).0
+
+pub front_of-requires-clause-text : goal.front_of-requires-clause-text
+front_of-requires-clause-text c = (subst IsNamed (c.in-Head.ensures.tree c.args.names.now) c.requires.ready.named).0
+
+pub variable-requires : goal.variable-requires
+variable-requires c = omega (arith, c.requires.stands.depth, c.requires.stands.room)
+
+pub returns-in_err-term-in-Any-clause-keeps : goal.returns-in_err-term-in-Any-clause-keeps
+returns-in_err-term-in-Any-clause-keeps c = c.with_arguments.ensures.keeps
+
+pub returns-in_ok-term-in-Any-clause-keeps : goal.returns-in_ok-term-in-Any-clause-keeps
+returns-in_ok-term-in-Any-clause-keeps c = c.with_arguments.ensures.keeps
+
+pub returns-in_err-term-in-Int-clause-keeps : goal.returns-in_err-term-in-Int-clause-keeps
+returns-in_err-term-in-Int-clause-keeps c = c.int.ensures.keeps
+
+pub returns-in_ok-term-in-Int-clause-keeps : goal.returns-in_ok-term-in-Int-clause-keeps
+returns-in_ok-term-in-Int-clause-keeps c = c.int.ensures.keeps
+
+pub returns-in_ok-front-in-Head-clause-begun : goal.returns-in_ok-front-in-Head-clause-begun
+returns-in_ok-front-in-Head-clause-begun c =
+    let a = around c.args.place c.args.binders.now.scope in
+    begun_head (record { texts = c.args.names.now; forms = c.args.forms.now; around = a }) c.args.bank.now
+    (record { front = c.in_ok-front-in-Head.front; at = c.args.at; args = c.new-args.result }) (met_of c.args.names.now c.args.met.now)
+    (met_of c.args.names.now c.front_of.new.met) (identifier c.args.names.now c.in-Head.name)
+    (raws_in (raw_trees c.args.names.now c.args.forms.now) (places c.in-Head.field-1.now)) (c.in-Head.ensures.tree c.args.names.now) c.new-args.ensures.items
+    c.in_ok-front-in-Head.ensures.front c.in_ok-front-in-Head.ensures.met
+
+pub returns-in_ok-front-in-Head-clause-fits : goal.returns-in_ok-front-in-Head-clause-fits
+returns-in_ok-front-in-Head-clause-fits c = record { ready = c.requires.ready; args = rw c.new-args.ensures.items (λ k d l. absurd (omega arith)) }
+
+pub returns-in_ok-front-in-Head-clause-next : goal.returns-in_ok-front-in-Head-clause-next
+returns-in_ok-front-in-Head-clause-next c = (refl, c.new-args.ensures.items)
+
+pub returns-in_err-term-in-True : goal.returns-in_err-term-in-True
+returns-in_err-term-in-True c = record {
+  begun = IfOk-from_err c.from_residual-in_err-term-in-True.result _ c.from_residual-in_err-term-in-True.ensures.0;
+  fits = IfOk-from_err c.from_residual-in_err-term-in-True.result _ c.from_residual-in_err-term-in-True.ensures.0;
+  next = IfOk-from_err c.from_residual-in_err-term-in-True.result _ c.from_residual-in_err-term-in-True.ensures.0;
+  keeps = c.int-in-True.ensures.keeps;
+}

@@ -1,8 +1,9 @@
 use Rattle.std.proofs.Common.{◌+◌, ◌<◌, refl, sym, subst, arith}
 use Rattle.std.proofs.lemmas.Result.{IfOk-from_err}
-use Rattle.ll_bank.proofs.CallerLemmas.{Extends-refl}
+use Rattle.std.proofs.lemmas.List.{nil_from_length}
+use Rattle.ll_bank.proofs.CallerLemmas.{Extends-refl, Extends-trans}
 use Rattle.ll_polarity.specs.declared.put_terms.Turn.{Turn}
-use Rattle.ll_polarity.proofs.putting.Calling.{calls_left, turn_left, at_turn, room_on_the_way, way_begun, way_resumed, way_given}
+use Rattle.ll_polarity.proofs.putting.Calling.{calls_left, turn_left, at_turn, room_on_the_way, way_begun, way_resumed, way_given, way_ends}
 use Rattle.ll_polarity.proofs.putting.Calling.{less_begun, less_resumed, less_given}
 use Rattle.ll_polarity.proofs.put_terms.term.Goals as goal
 
@@ -70,3 +71,35 @@ returns-in_err-turn-in-Some-clause-met c = IfOk-from_err c.from_residual-in_err-
 
 pub returns-in_err-turn-in-Some-clause-shows : goal.returns-in_err-turn-in-Some-clause-shows
 returns-in_err-turn-in-Some-clause-shows c = IfOk-from_err c.from_residual-in_err-turn-in-Some.result _ c.from_residual-in_err-turn-in-Some.ensures.0
+
+pub begun-requires-clause-stands : goal.begun-requires-clause-stands
+begun-requires-clause-stands c = c.requires.stands
+
+pub begun-requires-clause-ready : goal.begun-requires-clause-ready
+begun-requires-clause-ready c = (at_turn c.in-Read.is c.turns.invariant).turn
+
+pub resumed-requires-clause-inside : goal.resumed-requires-clause-inside
+resumed-requires-clause-inside c = (at_turn c.in-Resume.is c.turns.invariant).turn.ready.inside
+
+pub resumed-requires-clause-args : goal.resumed-requires-clause-args
+resumed-requires-clause-args c = (at_turn c.in-Resume.is c.turns.invariant).turn.args
+
+pub returns-in_err-turn-in-Read-clause-keeps : goal.returns-in_err-turn-in-Read-clause-keeps
+returns-in_err-turn-in-Read-clause-keeps c = Extends-trans c.turns.invariant.keeps c.begun.ensures.keeps
+
+pub returns-in_err-turn-in-Resume-clause-keeps : goal.returns-in_err-turn-in-Resume-clause-keeps
+returns-in_err-turn-in-Resume-clause-keeps c = Extends-trans c.turns.invariant.keeps c.resumed.ensures.keeps
+
+pub returns-in_err-turn-in-Some-clause-keeps : goal.returns-in_err-turn-in-Some-clause-keeps
+returns-in_err-turn-in-Some-clause-keeps c = c.turns.invariant.keeps
+
+pub returns-in-None-clause-keeps : goal.returns-in-None-clause-keeps
+returns-in-None-clause-keeps c = c.turns.invariant.keeps
+
+pub returns-in-None-clause-shows : goal.returns-in-None-clause-shows
+returns-in-None-clause-shows c =
+    (way_ends (at_turn c.in-Give.is c.turns.invariant) (nil_from_length c.turns.calls.items (omega (arith, c.in-None.ensures.cases.0)))).0
+
+pub returns-in-None-clause-met : goal.returns-in-None-clause-met
+returns-in-None-clause-met c =
+    (way_ends (at_turn c.in-Give.is c.turns.invariant) (nil_from_length c.turns.calls.items (omega (arith, c.in-None.ensures.cases.0)))).1

@@ -1,6 +1,6 @@
-use Rattle.std.proofs.Common.{◌∷◌, sym, ap, ◌∙◌}
+use Rattle.std.proofs.Common.{◌∷◌, sym, subst, ap, ◌∙◌}
 use Rattle.std.proofs.lemmas.Result.{IfOk-from_err}
-use Rattle.ll_polarity.specs.Pending.{pending_faults}
+use Rattle.ll_polarity.specs.Pending.{pending_faults, AreReady}
 use Rattle.ll_polarity.proofs.walk.first_fault.Goals as goal
 
 -- the part that stands next is the fault
@@ -30,3 +30,22 @@ returns-in_err-push-clause-binders c = IfOk-from_err c.from_residual.result _ c.
 
 pub returns-in_err-push-clause-first : goal.returns-in_err-push-clause-first
 returns-in_err-push-clause-first c = IfOk-from_err c.from_residual.result _ c.from_residual.ensures.0
+
+pub open_form-requires-clause-ready : goal.open_form-requires-clause-ready
+open_form-requires-clause-ready c =
+    (subst (AreReady c.args.source.now.names.now c.args.source.now.forms.now) (c.in-Some.ensures ∙ ap (λ p. p ∷ c.pop.new.self) c.in-Form.is)
+    c.loop-part.invariant.ready).0
+
+pub open_form-requires-clause-texts : goal.open_form-requires-clause-texts
+open_form-requires-clause-texts c = c.loop-part.invariant.texts
+
+pub open_term-requires-clause-ready : goal.open_term-requires-clause-ready
+open_term-requires-clause-ready c =
+    (subst (AreReady c.args.source.now.names.now c.args.source.now.forms.now) (c.in-Some.ensures ∙ ap (λ p. p ∷ c.pop.new.self) c.in-Term.is)
+    c.loop-part.invariant.ready).0
+
+pub open_term-requires-clause-texts : goal.open_term-requires-clause-texts
+open_term-requires-clause-texts c = c.loop-part.invariant.texts
+
+pub returns-in-Found-clause-binders : goal.returns-in-Found-clause-binders
+returns-in-Found-clause-binders c = tt

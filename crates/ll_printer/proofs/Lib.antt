@@ -3,3 +3,4 @@ pub mod Parts
 pub mod Lines
 pub mod AnswerLines
 pub mod CallerLemmas
+mod Signs

@@ -21,17 +21,7 @@ pub(crate) fn push_expression(
     match source.forms.node(at) {
         RawNode::Head(name, args) => push_head(source, name, args, parts),
         RawNode::Int(value) => push_part(Part::Number(value), parts),
-        RawNode::True => push_part(Part::Word(Word::Any), parts),
-        RawNode::Erase => push_part(Part::Word(Word::Any), parts),
-        RawNode::Braces(_) => push_part(Part::Word(Word::Any), parts),
-        RawNode::Forall(_, _) => push_part(Part::Word(Word::Any), parts),
-        RawNode::Exists(_, _) => push_part(Part::Word(Word::Any), parts),
-        RawNode::Load(_, _, _) => push_part(Part::Word(Word::Any), parts),
-        RawNode::Binary(_, _, _) => push_part(Part::Word(Word::Any), parts),
-        RawNode::Any => push_part(Part::Word(Word::Any), parts),
-        RawNode::Is(_, _) => push_part(Part::Word(Word::Any), parts),
-        RawNode::Less(_, _) => push_part(Part::Word(Word::Any), parts),
-        RawNode::Most(_, _) => push_part(Part::Word(Word::Any), parts),
+        _ => push_part(Part::Word(Word::Any), parts),
     }
 }
 
@@ -113,18 +103,7 @@ fn operator_of<'a>(source: &Source<'a>, at: RawAt) -> &'a str
                 ""
             }
         }
-        RawNode::True
-        | RawNode::Erase
-        | RawNode::Braces(_)
-        | RawNode::Forall(_, _)
-        | RawNode::Exists(_, _)
-        | RawNode::Load(_, _, _)
-        | RawNode::Binary(_, _, _)
-        | RawNode::Any
-        | RawNode::Int(_)
-        | RawNode::Is(_, _)
-        | RawNode::Less(_, _)
-        | RawNode::Most(_, _) => "",
+        _ => "",
     }
 }
 

@@ -262,17 +262,11 @@ fn has_brackets(source: &Source<'_>, at: RawAt, level: Level, followed: bool) ->
     ensures { result ≡ needs_brackets (rank_of level) followed (raw_at source.now.names.now source.now.forms.now at.0) }
 {
     match source.forms.node(at) {
-        RawNode::True => false,
-        RawNode::Erase => false,
-        RawNode::Braces(_) => false,
         RawNode::Forall(_, _) => followed,
         RawNode::Exists(_, _) => followed,
         RawNode::Load(_, _, _) => is_looser(Level::Arrows, level),
         RawNode::Binary(op, _, _) => is_looser(level_of(op), level),
-        RawNode::Head(_, _) => false,
-        RawNode::Any => false,
-        RawNode::Int(_) => false,
-        RawNode::Is(_, _) | RawNode::Less(_, _) | RawNode::Most(_, _) => false,
+        _ => false,
     }
 }
 
@@ -441,17 +435,7 @@ fn push_term(source: &Source<'_>, at: RawAt, parts: &mut Vec<Part>) -> Result<()
     match source.forms.node(at) {
         RawNode::Head(name, args) => push_applied(source.names, name, args, parts),
         RawNode::Int(value) => push_part(Part::Number(value), parts),
-        RawNode::True => push_part(Part::Word(Word::Any), parts),
-        RawNode::Erase => push_part(Part::Word(Word::Any), parts),
-        RawNode::Braces(_) => push_part(Part::Word(Word::Any), parts),
-        RawNode::Forall(_, _) => push_part(Part::Word(Word::Any), parts),
-        RawNode::Exists(_, _) => push_part(Part::Word(Word::Any), parts),
-        RawNode::Load(_, _, _) => push_part(Part::Word(Word::Any), parts),
-        RawNode::Binary(_, _, _) => push_part(Part::Word(Word::Any), parts),
-        RawNode::Any => push_part(Part::Word(Word::Any), parts),
-        RawNode::Is(_, _) => push_part(Part::Word(Word::Any), parts),
-        RawNode::Less(_, _) => push_part(Part::Word(Word::Any), parts),
-        RawNode::Most(_, _) => push_part(Part::Word(Word::Any), parts),
+        _ => push_part(Part::Word(Word::Any), parts),
     }
 }
 
@@ -533,16 +517,7 @@ fn has_any_arguments(source: &Source<'_>, at: RawAt) -> bool
 {
     match source.forms.node(at) {
         RawNode::Head(_, args) => !args.is_empty(),
-        RawNode::True => false,
-        RawNode::Erase => false,
-        RawNode::Braces(_) => false,
-        RawNode::Forall(_, _) => false,
-        RawNode::Exists(_, _) => false,
-        RawNode::Load(_, _, _) => false,
-        RawNode::Binary(_, _, _) => false,
-        RawNode::Any => false,
-        RawNode::Int(_) => false,
-        RawNode::Is(_, _) | RawNode::Less(_, _) | RawNode::Most(_, _) => false,
+        _ => false,
     }
 }
 
@@ -553,16 +528,7 @@ fn is_pair_at(source: &Source<'_>, at: RawAt) -> bool
 {
     match source.forms.node(at) {
         RawNode::Head(name, args) => is_pair_of(source.names, name, args),
-        RawNode::True => false,
-        RawNode::Erase => false,
-        RawNode::Braces(_) => false,
-        RawNode::Forall(_, _) => false,
-        RawNode::Exists(_, _) => false,
-        RawNode::Load(_, _, _) => false,
-        RawNode::Binary(_, _, _) => false,
-        RawNode::Any => false,
-        RawNode::Int(_) => false,
-        RawNode::Is(_, _) | RawNode::Less(_, _) | RawNode::Most(_, _) => false,
+        _ => false,
     }
 }
 

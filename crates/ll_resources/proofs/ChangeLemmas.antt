@@ -75,6 +75,20 @@ module _ {C : Type 0} where
       → before (drop i cs) r ≡ taken_back (get_or cs i d) (before (drop (i + 1) cs) r)
   one-back cs i d r l = ap (λ ds. before ds r) (drop_more cs i d l)
 
+  -- the last change but those that were taken back already
+  pub back-next : (cs : List (Change C)) (m n : ℕ) (x : Change C) (r s : Raw C) → m < n → n ≤ length cs → x ≡ get_or cs (n - 1) x
+      → s ≡ before (drop n cs) r
+      → taken_back x s ≡ before (drop (n - 1) cs) r
+  back-next cs m n x r s l w e h =
+      let up : n ≡ (n - 1) + 1 = omega (arith, l) in
+      let low : n - 1 < length cs = omega (arith, l, w) in
+      ap (taken_back x) (h ∙ ap (λ k. before (drop k cs) r) up)
+      ∙ (ap (λ c. taken_back c (before (drop ((n - 1) + 1) cs) r)) e ∙ sym (one-back cs (n - 1) x r low))
+
+  -- room that is no less than room that is no less
+  pub less-trans : (r s t : State C) → HasNoLess r s → HasNoLess s t → HasNoLess r t
+  less-trans r s t a b = record { entries = le-trans a.entries b.entries; live = le-trans a.live b.live }
+
   -- ---- sound states
 
   -- with more room
@@ -85,6 +99,13 @@ module _ {C : Type 0} where
     within =
         s.within;
   }
+
+  -- before the last change but those that were taken back already
+  pub sound-next : (cs : List (Change C)) (m n : ℕ) (x : Change C) (r s : Raw C) (i j k l : ℕ) → m < n → n ≤ length cs → x ≡ get_or cs (n - 1) x
+      → s ≡ before (drop n cs) r → i ≤ k → j ≤ l → AreSound cs r i j
+      → IsSound k l (taken_back x s)
+  sound-next cs m n x r s i j k l low w e h a b sound =
+      subst (λ t. IsSound k l t) (sym (back-next cs m n x r s low w e h)) (sound-wider (before (drop (n - 1) cs) r) i j k l a b (sound (n - 1)))
 
   -- with no change, for the state alone
   pub sound-none : (r : Raw C) (n m : ℕ) → IsSound n m r → AreSound [] r n m

@@ -1,5 +1,6 @@
 -- Copies of the terms of a derivation, in a bank that grows.
 use Rattle.std.proofs.Common.{◌≡◌, ℕ, suc, ◌<◌, ◌≤◌, refl, sym, subst, List, [], ◌∷◌, ◌++◌, map, length, get_or, All, inl, inr, ap, ◌∙◌, arith}
+use Rattle.std.proofs.Common.{Vec, Global}
 use Rattle.std.proofs.Math.ListN.{get_or-append}
 use Rattle.std.proofs.lemmas.Bool.{cases_lt}
 use Rattle.std.proofs.lemmas.List.{length_push, get_or_push}
@@ -7,6 +8,7 @@ use Rattle.std.proofs.lemmas.List.Elements.{All-map, All-weaker}
 use Rattle.ll_bank.specs.declared.At.{At}
 use Rattle.ll_bank.specs.Nodes.{Nodes, term_tree, term_trees, HasTerm, AllInTerms, ShowsTerm, Extends}
 use Rattle.ll_bank.proofs.CallerLemmas.{term_tree-extends, term_trees-extends, ShowsTerm-extends}
+use Rattle.ll_laws.specs.declared.Part.{Part}
 use Rattle.ll_laws.specs.declared.Rule.{Rule}
 use Rattle.ll_laws.specs.declared.Rule.TheVariants.{One, Erase, Tensor, With, Left, Right, Bang, Lolli, Imp, Forall, Exists, Use, Clause, Num}
 use Rattle.ll_laws.specs.Line.{ExistsLine, ClauseLine}
@@ -33,6 +35,24 @@ line_below_more n m l (Imp k) h = tt
 line_below_more n m l (Forall k) h = tt
 line_below_more n m l Use h = tt
 line_below_more n m l Num h = tt
+
+-- a rule that has no terms
+pub line_free : (n : ℕ) (r : Rule) → ((t : At) → r ≡ Exists t → ⊥)
+    → ((k i : ℕ) (ts : Vec At Global) (ps : Vec Part Global) → r ≡ Clause k i ts ps → ⊥) → IsLineBelow n r
+line_free n (Exists t) a b = absurd (a t refl)
+line_free n (Clause k i ts ps) a b = absurd (b k i ts ps refl)
+line_free n One a b = tt
+line_free n Erase a b = tt
+line_free n (Tensor s t) a b = tt
+line_free n With a b = tt
+line_free n Left a b = tt
+line_free n Right a b = tt
+line_free n Bang a b = tt
+line_free n (Lolli k) a b = tt
+line_free n (Imp k) a b = tt
+line_free n (Forall k) a b = tt
+line_free n Use a b = tt
+line_free n Num a b = tt
 
 pub lines_below_more : (n m : ℕ) → n ≤ m → (rs : List Rule) → All (IsLineBelow n) rs → All (IsLineBelow m) rs
 lines_below_more n m l rs h = All-weaker (IsLineBelow n) (IsLineBelow m) (line_below_more n m l) rs h

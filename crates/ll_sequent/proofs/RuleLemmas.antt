@@ -9,13 +9,13 @@ use Rattle.std.proofs.lemmas.List.Elements.{All-nil, All-cons, All-push}
 use Rattle.ll_lists.proofs.CallerLemmas.{IfOk-each}
 use Rattle.ll_bank.specs.declared.FormAt.{FormAt}
 use Rattle.ll_bank.specs.declared.FormNode.{FormNode}
-use Rattle.ll_bank.specs.declared.FormNode.TheVariants.{Tensor as TensorView, Lolli as LolliView, Imp as ImpView}
-use Rattle.ll_bank.specs.Form.{Form, Tensor, Lolli, Imp}
+use Rattle.ll_bank.specs.declared.FormNode.TheVariants.{Tensor as TensorView, With as WithView, Plus as PlusView, Lolli as LolliView, Imp as ImpView}
+use Rattle.ll_bank.specs.Form.{Form, Tensor, With, Plus, Lolli, Imp}
 use Rattle.ll_bank.specs.Nodes.{Nodes, form_tree, form_of, IsFormView}
 use Rattle.ll_laws.specs.Number.{Operators}
 use Rattle.ll_laws.specs.Module.{Setting, ModuleTree}
 use Rattle.ll_laws.specs.Shows.{Labelled, has, has_label, one_of, all_in, part, splits}
-use Rattle.ll_laws.specs.Line.{Line, TensorLine, LolliLine, ImpLine}
+use Rattle.ll_laws.specs.Line.{Line, TensorLine, WithLine, LeftLine, RightLine, LolliLine, ImpLine}
 use Rattle.ll_laws.specs.Valid.{Side, GoalSide, ClauseSide, free_below, has_heads, loads_fit}
 use Rattle.ll_sequent.specs.declared.sequents.Resource.{Resource}
 use Rattle.ll_sequent.specs.declared.sequents.Sequent.{Sequent}
@@ -179,6 +179,47 @@ module _ (bank : Nodes) (s : Sequent) where
       (held_at modules f seen.parts.0 h both.0))
       (after_is modules (filter (λ (r : Resource). has y r.label) s.bounded.items) g q aq (part_held modules bank y s.bounded.items h.bounded)
       (held_at modules g seen.parts.1 h both.1)))
+
+  -- a rule that leaves the bounded clauses as they are, and one goal
+  pub same_makes : (line : Line) (view : FormNode) (f : FormAt) (p : Sequent) (step : Step) → IsFormView bank s.goal.0 view → f.0 < s.goal.0
+      → IsAfter s.bounded.items f p
+      → ((b : Setting) (c : List Labelled) → made b line c (bounded_in bank s.bounded.items) (form_of bank view)
+      ≡ Asks (record { free = c; bounded = bounded_in bank s.bounded.items; goal = form_tree bank f.0 } ∷ []))
+      → ((modules : List ModuleTree) → IsSound modules GoalSide [] (form_of bank view) → IsSound modules GoalSide [] (form_tree bank f.0))
+      → IsLeaving (p ∷ []) step
+      → Makes bank line s step
+  same_makes line view f p step seen low after asks sound leaving = leaves_makes bank line s step (p ∷ []) view seen leaving
+      (λ b free. asks b (free_in bank (take s.free free)) ∙ (λ i. Asks (shown_after s.bounded.items f p after free i ∷ [])))
+      (λ modules h.
+      one_left modules bank s.free p after.same
+      (after_is modules s.bounded.items f p after h.bounded (held_at modules f low h (sound modules (goal_sound modules view seen h)))))
+
+  pub left_makes : (f g : FormAt) (p : Sequent) (step : Step) → IsFormView bank s.goal.0 (PlusView f g) → IsAfter s.bounded.items f p
+      → IsLeaving (p ∷ []) step
+      → Makes bank LeftLine s step
+  left_makes f g p step seen after = same_makes LeftLine (PlusView f g) f p step seen seen.parts.0 after (λ b c. refl)
+      (λ modules h.
+      (both_sound modules GoalSide GoalSide (form_tree bank f.0) (form_tree bank g.0) (Plus (form_tree bank f.0) (form_tree bank g.0)) refl refl refl h).0)
+
+  pub right_makes : (f g : FormAt) (p : Sequent) (step : Step) → IsFormView bank s.goal.0 (PlusView f g) → IsAfter s.bounded.items g p
+      → IsLeaving (p ∷ []) step
+      → Makes bank RightLine s step
+  right_makes f g p step seen after = same_makes RightLine (PlusView f g) g p step seen seen.parts.1 after (λ b c. refl)
+      (λ modules h.
+      (both_sound modules GoalSide GoalSide (form_tree bank f.0) (form_tree bank g.0) (Plus (form_tree bank f.0) (form_tree bank g.0)) refl refl refl h).1)
+
+  pub with_makes : (f g : FormAt) (p q : Sequent) (step : Step) → IsFormView bank s.goal.0 (WithView f g) → IsAfter s.bounded.items f p
+      → IsAfter s.bounded.items g q
+      → IsLeaving (p ∷ q ∷ []) step
+      → Makes bank WithLine s step
+  with_makes f g p q step seen ap_ aq leaving = leaves_makes bank WithLine s step (p ∷ q ∷ []) (WithView f g) seen leaving
+      (λ b free. λ i. Asks (shown_after s.bounded.items f p ap_ free i ∷ shown_after s.bounded.items g q aq free i ∷ []))
+      (λ modules h.
+      let both = both_sound modules GoalSide GoalSide (form_tree bank f.0) (form_tree bank g.0) (With (form_tree bank f.0) (form_tree bank g.0)) refl refl
+      refl (goal_sound modules (WithView f g) seen h) in
+      two_left modules bank s.free p q ap_.same aq.same
+      (after_is modules s.bounded.items f p ap_ h.bounded (held_at modules f seen.parts.0 h both.0))
+      (after_is modules s.bounded.items g q aq h.bounded (held_at modules g seen.parts.1 h both.1)))
 
 -- ---- steps, with the unbounded clauses
 

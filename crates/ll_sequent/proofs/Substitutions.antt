@@ -82,25 +82,6 @@ module _ (bank : Nodes) (ts : List Term) (forms : List FormAt) (h : AreFormImage
   pub part : (f : FormAt) → f.0 < form.0 → ShowsForm bank (get_or forms f.0 (record { 0 = 0 })).0 (sub_form (values ts) (form_tree bank f.0))
   part f l = (h f.0 (record { 0 = 0 }) (part_of f l)).shows
 
-  module _ {E : Type 0} (new : Nodes) (r : Result FormAt E) where
-    pub over_one : (B : Form → Form) → ((a : Form) → B (sub_form (values ts) a) ≡ sub_form (values ts) (B a)) → (f : FormAt) → f.0 < form.0
-        → form_tree bank form.0 ≡ B (form_tree bank f.0)
-        → IfOk r (λ at. ShowsForm new at.0 (B (form_tree bank (get_or forms f.0 (record { 0 = 0 })).0)))
-        → IfOk r (λ at. ShowsForm new at.0 (sub_form (values ts) (form_tree bank form.0)))
-    over_one B same f l e made =
-        shown_as new r (B (form_tree bank (get_or forms f.0 (record { 0 = 0 })).0)) (sub_form (values ts) (form_tree bank form.0))
-        (ap B (part f l).tree ∙ (same (form_tree bank f.0) ∙ ap (sub_form (values ts)) (sym e))) made
-
-    pub over_two : (B : Form → Form → Form) → ((a b : Form) → B (sub_form (values ts) a) (sub_form (values ts) b) ≡ sub_form (values ts) (B a b))
-        → (f g : FormAt) → (f.0 < form.0) × (g.0 < form.0) → form_tree bank form.0 ≡ B (form_tree bank f.0) (form_tree bank g.0)
-        → IfOk r (λ at. ShowsForm new at.0 (B (form_tree bank (get_or forms f.0 (record { 0 = 0 })).0)
-        (form_tree bank (get_or forms g.0 (record { 0 = 0 })).0)))
-        → IfOk r (λ at. ShowsForm new at.0 (sub_form (values ts) (form_tree bank form.0)))
-    over_two B same f g l e made =
-        shown_as new r (B (form_tree bank (get_or forms f.0 (record { 0 = 0 })).0) (form_tree bank (get_or forms g.0 (record { 0 = 0 })).0))
-        (sub_form (values ts) (form_tree bank form.0))
-        ((λ i. B ((part f l.0).tree i) ((part g l.1).tree i)) ∙ (same (form_tree bank f.0) (form_tree bank g.0) ∙ ap (sub_form (values ts)) (sym e))) made
-
 -- images over the same values, seen in a later bank
 pub terms_later : (bank : Nodes) (ts us : List Term) (images : List At) → us ≡ ts → AreTermImages bank ts images → AreTermImages bank us images
 terms_later bank ts us images e h = let P : List Term → Type 0 = λ vs. AreTermImages bank vs images in subst P (sym e) h

@@ -31,8 +31,7 @@ pub(crate) fn stands(
     gather(alloc, bank, goal, &mut terms)?;
     gather_all(alloc, bank, free, &mut terms)?;
     gather_all(alloc, bank, bounded, &mut terms)?;
-    let found = is_in_terms(bank, constant, terms)?;
-    Ok(found)
+    is_in_terms(bank, constant, terms)
 }
 
 // Puts the terms of clauses among those that are to be looked at. After a refusal some of them may be there.
@@ -86,24 +85,14 @@ fn look_into(
         FormNode::With(f, g) => wait_for(f, g, waiting),
         FormNode::Tensor(f, g) => wait_for(f, g, waiting),
         FormNode::Plus(f, g) => wait_for(f, g, waiting),
-        FormNode::Bang(f) => {
-            waiting.push(f)?;
-            Ok(())
-        }
+        FormNode::Bang(f) => wait_for_one(f, waiting),
         FormNode::Lolli(f, g) => wait_for(f, g, waiting),
         FormNode::Imp(f, g) => wait_for(f, g, waiting),
-        FormNode::Forall(f) => {
-            waiting.push(f)?;
-            Ok(())
-        }
-        FormNode::Exists(f) => {
-            waiting.push(f)?;
-            Ok(())
-        }
+        FormNode::Forall(f) => wait_for_one(f, waiting),
+        FormNode::Exists(f) => wait_for_one(f, waiting),
         FormNode::Use(_, args, f) => {
             insert_all(terms, args)?;
-            waiting.push(f)?;
-            Ok(())
+            wait_for_one(f, waiting)
         }
         FormNode::Is(left, right) => insert_all(terms, &[left, right]),
         FormNode::Less(left, right) => insert_all(terms, &[left, right]),
@@ -115,9 +104,14 @@ fn look_into(
 fn wait_for(left: FormAt, right: FormAt, waiting: &mut Vec<FormAt>) -> Result<(), OutOfMemory>
     ensures { OnOk result (waiting.new.items ≡ waiting.old.items ++ left ∷ right ∷ []) }
 {
-    waiting.push(left)?;
-    waiting.push(right)?;
-    Ok(())
+    waiting.extend_from_slice(&[left, right])
+}
+
+// Puts a formula behind those that wait.
+fn wait_for_one(form: FormAt, waiting: &mut Vec<FormAt>) -> Result<(), OutOfMemory>
+    ensures { OnOk result (waiting.new.items ≡ waiting.old.items ++ form ∷ []) }
+{
+    waiting.extend_from_slice(&[form])
 }
 
 // Puts places among others. After a refusal some of them may be there.

@@ -53,18 +53,7 @@ fn copy_line(
     match rule {
         Rule::Exists(term) => copy_up_to(terms, *term, copies, args, bank),
         Rule::Clause { terms: places, .. } => copy_all(terms, places, copies, args, bank),
-        Rule::One
-        | Rule::Erase
-        | Rule::Tensor(_, _)
-        | Rule::With
-        | Rule::Left
-        | Rule::Right
-        | Rule::Bang
-        | Rule::Lolli(_)
-        | Rule::Imp(_)
-        | Rule::Forall(_)
-        | Rule::Use
-        | Rule::Num => Ok(()),
+        _ => Ok(()),
     }
 }
 

@@ -39,8 +39,7 @@ pub(crate) fn lolli(
                 bounded,
                 goal,
             };
-            let step = leave_one(alloc, premise)?;
-            Ok(step)
+            leave_one(alloc, premise)
         }
         _ => Ok(Step::Refused(OTHER_FORM)),
     }
@@ -71,8 +70,7 @@ pub(crate) fn imp(
                 bounded: sequent.bounded,
                 goal,
             };
-            let step = leave_one(alloc, premise)?;
-            Ok(step)
+            leave_one(alloc, premise)
         }
         _ => Ok(Step::Refused(OTHER_FORM)),
     }

@@ -50,8 +50,7 @@ pub(crate) fn forall(
                 bounded: sequent.bounded,
                 goal,
             };
-            let step = leave_one(alloc, premise)?;
-            Ok(step)
+            leave_one(alloc, premise)
         }
         _ => Ok(Step::Refused(OTHER_FORM)),
     }
@@ -79,8 +78,7 @@ pub(crate) fn exists(
                 bounded: sequent.bounded,
                 goal,
             };
-            let step = leave_one(alloc, premise)?;
-            Ok(step)
+            leave_one(alloc, premise)
         }
         _ => Ok(Step::Refused(OTHER_FORM)),
     }
@@ -112,8 +110,7 @@ pub(crate) fn load(
                 bounded: sequent.bounded,
                 goal,
             };
-            let step = leave_one(alloc, premise)?;
-            Ok(step)
+            leave_one(alloc, premise)
         }
         _ => Ok(Step::Refused(OTHER_FORM)),
     }

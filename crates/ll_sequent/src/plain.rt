@@ -72,8 +72,7 @@ pub(crate) fn tensor(
                 bounded: part_of(alloc, right, &sequent.bounded)?,
                 goal: h,
             };
-            let step = leave_two(alloc, first, second)?;
-            Ok(step)
+            leave_two(alloc, first, second)
         }
         _ => Ok(Step::Refused(OTHER_FORM)),
     }
@@ -92,8 +91,7 @@ pub(crate) fn with(alloc: Global, bank: &Bank, sequent: Sequent) -> Result<Step,
                 goal: g,
             };
             let second = Sequent { goal: h, ..sequent };
-            let step = leave_two(alloc, first, second)?;
-            Ok(step)
+            leave_two(alloc, first, second)
         }
         _ => Ok(Step::Refused(OTHER_FORM)),
     }
@@ -105,10 +103,7 @@ pub(crate) fn left(alloc: Global, bank: &Bank, sequent: Sequent) -> Result<Step,
     ensures { IfOk result (Makes bank.now LeftLine sequent) }
 {
     match bank.form_at(sequent.goal) {
-        FormNode::Plus(g, _) => {
-            let step = leave_one(alloc, Sequent { goal: g, ..sequent })?;
-            Ok(step)
-        }
+        FormNode::Plus(g, _) => { leave_one(alloc, Sequent { goal: g, ..sequent }) }
         _ => Ok(Step::Refused(OTHER_FORM)),
     }
 }
@@ -119,10 +114,7 @@ pub(crate) fn right(alloc: Global, bank: &Bank, sequent: Sequent) -> Result<Step
     ensures { IfOk result (Makes bank.now RightLine sequent) }
 {
     match bank.form_at(sequent.goal) {
-        FormNode::Plus(_, h) => {
-            let step = leave_one(alloc, Sequent { goal: h, ..sequent })?;
-            Ok(step)
-        }
+        FormNode::Plus(_, h) => { leave_one(alloc, Sequent { goal: h, ..sequent }) }
         _ => Ok(Step::Refused(OTHER_FORM)),
     }
 }
@@ -137,8 +129,7 @@ pub(crate) fn bang(alloc: Global, bank: &Bank, sequent: Sequent) -> Result<Step,
             if !sequent.bounded.is_empty() {
                 return Ok(Step::Refused(BOUNDED_LEFT));
             }
-            let step = leave_one(alloc, Sequent { goal: g, ..sequent })?;
-            Ok(step)
+            leave_one(alloc, Sequent { goal: g, ..sequent })
         }
         _ => Ok(Step::Refused(OTHER_FORM)),
     }

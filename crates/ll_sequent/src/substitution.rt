@@ -2,10 +2,11 @@
 //!
 //! A bank has the parts of a term or formula at lower places than the whole. So each place gets its image in turn, over those of its
 //! parts, as far as the formula goes.
-ghost use Rattle.std.specs.Prelude.{◌≡◌, ◌≤◌, ◌<◌, length, map, slice_index_or, All, IfOk, OnOk};
+ghost use Rattle.std.specs.Prelude.{◌≡◌, ℕ, ◌≤◌, ◌<◌, List, length, map, slice_index_or, All, IfOk, OnOk};
 ghost use Rattle.ll_bank.specs.declared.At.{At};
-ghost use Rattle.ll_bank.specs.Term.{sub};
+ghost use Rattle.ll_bank.specs.Term.{Term, sub};
 ghost use Rattle.ll_bank.specs.Form.{Use, sub_form};
+ghost use Rattle.ll_bank.specs.Nodes.{Nodes, UseNode, node_of, form_of, HasPartsBelow, HasParts};
 ghost use Rattle.ll_bank.specs.Nodes.{term_tree, form_tree, term_trees, HasForm, HasTerm, AllInTerms, ShowsForm, ShowsTerm, Extends};
 ghost use Rattle.ll_sequent.specs.Starting.{values as values_of};
 ghost use Rattle.ll_sequent.specs.Substituted.{AreTermImages, AreFormImages};
@@ -54,20 +55,10 @@ fn form_image(
     ensures keeps { Extends bank.old bank.new }
 {
     match bank.form_at(form) {
-        FormNode::Top => Ok(form),
-        FormNode::One => Ok(form),
         FormNode::Atom(atom) => {
             let image = term_image(alloc, bank, atom, values, terms)?;
             bank.form(FormNode::Atom(image))
         }
-        FormNode::With(f, g) => bank.form(FormNode::With(forms[f.0], forms[g.0])),
-        FormNode::Tensor(f, g) => bank.form(FormNode::Tensor(forms[f.0], forms[g.0])),
-        FormNode::Plus(f, g) => bank.form(FormNode::Plus(forms[f.0], forms[g.0])),
-        FormNode::Bang(f) => bank.form(FormNode::Bang(forms[f.0])),
-        FormNode::Lolli(f, g) => bank.form(FormNode::Lolli(forms[f.0], forms[g.0])),
-        FormNode::Imp(f, g) => bank.form(FormNode::Imp(forms[f.0], forms[g.0])),
-        FormNode::Forall(f) => bank.form(FormNode::Forall(forms[f.0])),
-        FormNode::Exists(f) => bank.form(FormNode::Exists(forms[f.0])),
         FormNode::Use(module, args, f) => {
             let args = Vec::from_slice(alloc, args)?;
             load_image(alloc, bank, module, &args, forms[f.0], values, terms)
@@ -84,6 +75,32 @@ fn form_image(
             let (left, right) = two_images(alloc, bank, left, right, values, terms)?;
             bank.form(FormNode::Most(left, right))
         }
+        node => {
+            let image = over_images(node, forms);
+            bank.form(image)
+        }
+    }
+}
+
+/// The node over the images of the formulas under it. It is one without terms.
+fn over_images(node: FormNode<'_>, forms: &[FormAt]) -> FormNode<'static>
+    requires plain { HasPartsBelow 0 (length forms.now) node }
+    requires no_load { (m : ℕ) (args : List ℕ) (f : ℕ) → node_of node ≡ UseNode m args f → ⊥ }
+    ensures { (bank : Nodes) (ts : List Term) → AreFormImages bank ts forms.now
+        → HasParts bank result × (form_of bank result ≡ sub_form (values_of ts) (form_of bank node.entry)) }
+{
+    match node {
+        FormNode::Top => FormNode::Top,
+        FormNode::One => FormNode::One,
+        FormNode::With(f, g) => FormNode::With(forms[f.0], forms[g.0]),
+        FormNode::Tensor(f, g) => FormNode::Tensor(forms[f.0], forms[g.0]),
+        FormNode::Plus(f, g) => FormNode::Plus(forms[f.0], forms[g.0]),
+        FormNode::Bang(f) => FormNode::Bang(forms[f.0]),
+        FormNode::Lolli(f, g) => FormNode::Lolli(forms[f.0], forms[g.0]),
+        FormNode::Imp(f, g) => FormNode::Imp(forms[f.0], forms[g.0]),
+        FormNode::Forall(f) => FormNode::Forall(forms[f.0]),
+        FormNode::Exists(f) => FormNode::Exists(forms[f.0]),
+        _ => unreachable!(),
     }
 }
 

@@ -7,10 +7,15 @@ use Rattle.std.proofs.lemmas.List.{reverse-append, append-nil}
 use Rattle.std.proofs.lemmas.List.Elements.{All-nil, All-append, All-pop, All-push}
 use Rattle.std.proofs.lemmas.List.Sums.{sum_by-append}
 use Rattle.ll_lists.proofs.CallerLemmas.{length-map_suc as length-suc, lt_false as not_below, slice_index-append as index_left}
+use Rattle.ll_bank.specs.declared.At.{At}
 use Rattle.ll_bank.specs.declared.FormAt.{FormAt}
+use Rattle.ll_bank.specs.declared.FormNode.{FormNode}
+use Rattle.ll_bank.specs.declared.FormNode.TheVariants.{Top as TopView, One as OneView, Atom as AtomView, With as WithView, Tensor as TensorView}
+use Rattle.ll_bank.specs.declared.FormNode.TheVariants.{Plus as PlusView, Bang as BangView, Lolli as LolliView, Imp as ImpView, Forall as ForallView}
+use Rattle.ll_bank.specs.declared.FormNode.TheVariants.{Exists as ExistsView, Use as UseView, Is as IsView, Less as LessView, Most as MostView}
 use Rattle.ll_bank.specs.Term.{Term, Var}
 use Rattle.ll_bank.specs.Form.{Form, Top, One, Atom, With, Tensor, Plus, Bang, Lolli, Imp, Forall, Exists, Use, Num}
-use Rattle.ll_bank.specs.Nodes.{Nodes, HasForm, form_tree}
+use Rattle.ll_bank.specs.Nodes.{Nodes, HasForm, form_tree, form_of}
 use Rattle.ll_laws.specs.declared.Part.{Part}
 use Rattle.ll_laws.specs.Leaf.{Premise, Needs, NeedsFree, premise_goal, ways}
 use Rattle.ll_laws.specs.Line.{part_line}
@@ -21,7 +26,7 @@ use Rattle.ll_trace.specs.declared.walk.Goal.{Goal}
 use Rattle.ll_trace.specs.Bare.{bare, and_premise, premises_at}
 use Rattle.ll_trace.specs.Goals.{stacked, shown_goal, HasGoal}
 use Rattle.ll_laws.proofs.CallerLemmas.{waiting_ways}
-use Rattle.ll_trace.specs.Opening.{IsOnWay, Opens}
+use Rattle.ll_trace.specs.Opening.{IsOnWay, Opens, way_size, waiting_size}
 use Rattle.ll_trace.proofs.BareLemmas.{ways-bare}
 
 -- ---- counting
@@ -48,6 +53,54 @@ count_step forms old rest pushed new f n goal o w all more same h =
       inside = subst (All P) (sym w) (All-append P rest pushed split.0 (more split.1));
       so_far = omega (arith, a, b, same, h);
     }
+
+-- what is no clause has no leaves
+pub other_ways : (forms : Nodes) (view : FormNode) → ((a : At) → view ≡ AtomView a → ⊥) → ((f g : FormAt) → view ≡ WithView f g → ⊥)
+    → ((f g : FormAt) → view ≡ LolliView f g → ⊥) → ((f g : FormAt) → view ≡ ImpView f g → ⊥) → ((f : FormAt) → view ≡ ForallView f → ⊥)
+    → length (ways (form_of forms view)) ≡ 0
+other_ways forms (AtomView a) none _ _ _ _ = absurd (none a refl)
+other_ways forms (WithView f g) _ none _ _ _ = absurd (none f g refl)
+other_ways forms (LolliView f g) _ _ none _ _ = absurd (none f g refl)
+other_ways forms (ImpView f g) _ _ _ none _ = absurd (none f g refl)
+other_ways forms (ForallView f) _ _ _ _ none = absurd (none f refl)
+other_ways forms TopView _ _ _ _ _ = refl
+other_ways forms OneView _ _ _ _ _ = refl
+other_ways forms (TensorView f g) _ _ _ _ _ = refl
+other_ways forms (PlusView f g) _ _ _ _ _ = refl
+other_ways forms (BangView f) _ _ _ _ _ = refl
+other_ways forms (ExistsView f) _ _ _ _ _ = refl
+other_ways forms (UseView m args f) _ _ _ _ _ = refl
+other_ways forms (IsView t u) _ _ _ _ _ = refl
+other_ways forms (LessView t u) _ _ _ _ _ = refl
+other_ways forms (MostView t u) _ _ _ _ _ = refl
+
+-- less waits when some clauses, together smaller, take the place of the one that was taken off
+pub size_step : (forms : Nodes) (old rest pushed new : List FormAt) (f : FormAt) → old ≡ rest ++ f ∷ [] → new ≡ rest ++ pushed
+    → waiting_size forms pushed < way_size (form_tree forms f.0) → waiting_size forms new < waiting_size forms old
+size_step forms old rest pushed new f o w less =
+    let size : FormAt → ℕ = λ g. way_size (form_tree forms g.0) in
+    let a = ap (waiting_size forms) o ∙ sum_by-append size rest (f ∷ []) in
+    let b = ap (waiting_size forms) w ∙ sum_by-append size rest pushed in
+    omega (arith, a, b, less)
+
+some_size : (r : Form) → 0 < way_size r
+some_size (Atom a) = omega arith
+some_size (With q r) = omega arith
+some_size (Lolli g r) = omega arith
+some_size (Imp g r) = omega arith
+some_size (Forall r) = omega arith
+some_size Top = omega arith
+some_size One = omega arith
+some_size (Tensor q r) = omega arith
+some_size (Plus q r) = omega arith
+some_size (Bang r) = omega arith
+some_size (Exists r) = omega arith
+some_size (Use m ts r) = omega arith
+some_size (Num r t u) = omega arith
+
+-- and when nothing does
+pub size_rest : (forms : Nodes) (old rest : List FormAt) (f : FormAt) → old ≡ rest ++ f ∷ [] → waiting_size forms rest < waiting_size forms old
+size_rest forms old rest f o = size_step forms old rest [] rest f o (sym (append-nil rest)) (some_size (form_tree forms f.0))
 
 -- ---- lists
 

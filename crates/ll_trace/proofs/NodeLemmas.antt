@@ -39,13 +39,13 @@ module _ (forms : Nodes) (modules : List Module) (terms : List At) (steps : List
     places = λ bank h. subst (HasLines bank) (sym e) (All-nil (HasLine bank));
   }
 
-  pub part_may : (k : ℕ) (w : Walker) (rules : List Rule) (c : Step) → IsPartWay forms modules terms steps first k w rules → k < length steps
-      → c ≡ slice_index_or steps k c → MayStep forms modules terms w c
-  part_may k w rules c p l e =
-      let d : drop k steps ≡ c ∷ drop (k + 1) steps = drop-next steps k c l ∙ ap (λ x. x ∷ drop (k + 1) steps) (sym e) in
+  pub part_may : (k : ℕ) (w : Walker) (rules : List Rule) (x : Step) → IsPartWay forms modules terms steps first k w rules → k < length steps
+      → MayStep forms modules terms w (slice_index_or steps k x)
+  part_may k w rules x p l =
+      let c = slice_index_or steps k x in
       tells-now (tell (trees forms modules) (term_trees no_nodes terms) (walk_of forms (trees forms modules) w) c)
       (told (trees forms modules) (term_trees no_nodes terms) (drop (k + 1) steps)) (length (drop (k + 1) steps))
-      (subst (λ (cs : List Step). length (ahead no_nodes cs w) ≡ length cs) d p.more)
+      (subst (λ (cs : List Step). length (ahead no_nodes cs w) ≡ length cs) (drop-next steps k x l) p.more)
 
   pub part_more : (k next : ℕ) (w new : Walker) (rules more : List Rule) (d : Step) (rule : Rule) → IsPartWay forms modules terms steps first k w rules
       → k < length steps

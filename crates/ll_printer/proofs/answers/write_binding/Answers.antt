@@ -1,6 +1,7 @@
 use Rattle.std.proofs.Common.{◌++◌, ◌∷◌, [], ap, ◌∙◌, codes}
 use Rattle.std.proofs.lemmas.Grind.{common_steps}
 use Rattle.std.proofs.Common.{arith, Some}
+use Rattle.std.proofs.lemmas.Result.{IfOk-from_err}
 use Rattle.ll_bank.specs.Nodes.{term_tree}
 use Rattle.ll_laws.specs.Output.{name_text, term_text}
 use Rattle.ll_printer.specs.Answers.{one_line}
@@ -24,3 +25,16 @@ pub returns-in_ok-push-in-Some-clause-begun : goal.returns-in_ok-push-in-Some-cl
 returns-in_ok-push-in-Some-clause-begun c =
     rw c.in-Some.is (begins_all (one_line c.args.names.now (Some c.in-Some.name) (term_tree c.args.bank.now c.args.at.0)) c.args.out.now.items
     c.push.new.self.items (grind (arith, common_steps)))
+
+pub returns-in_err-extend_from_slice-in-Some-2-clause-text : goal.returns-in_err-extend_from_slice-in-Some-2-clause-text
+returns-in_err-extend_from_slice-in-Some-2-clause-text c =
+    IfOk-from_err c.from_residual-in_err-extend_from_slice-in-Some-2.result _ c.from_residual-in_err-extend_from_slice-in-Some-2.ensures.0
+
+pub returns-in_err-extend_from_slice-in-Some-clause-text : goal.returns-in_err-extend_from_slice-in-Some-clause-text
+returns-in_err-extend_from_slice-in-Some-clause-text c = IfOk-from_err c.from_residual.result _ c.from_residual.ensures.0
+
+pub returns-in_err-push-in-Some-clause-text : goal.returns-in_err-push-in-Some-clause-text
+returns-in_err-push-in-Some-clause-text c = IfOk-from_err c.from_residual-in_err-push-in-Some.result _ c.from_residual-in_err-push-in-Some.ensures.0
+
+pub returns-in_err-term-in-Some-clause-text : goal.returns-in_err-term-in-Some-clause-text
+returns-in_err-term-in-Some-clause-text c = IfOk-from_err c.from_residual-in_err-term-in-Some.result _ c.from_residual-in_err-term-in-Some.ensures.0

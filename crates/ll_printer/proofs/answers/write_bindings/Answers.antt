@@ -1,6 +1,7 @@
 use Rattle.std.proofs.Common.{◌≡◌, ◌++◌, get_or, refl, subst, arith}
 use Rattle.std.proofs.Math.ListN.{get_or-map}
 use Rattle.std.proofs.lemmas.List.{length-map, take_all}
+use Rattle.std.proofs.lemmas.Result.{IfOk-from_err}
 use Rattle.ll_bank.specs.declared.At.{At}
 use Rattle.ll_bank.specs.Nodes.{term_tree, term_trees}
 use Rattle.ll_laws.specs.Output.{binding_lines}
@@ -30,3 +31,6 @@ returns-clause-begun c =
     begins_all (binding_lines c.args.names.now c.args.asked.now (term_trees c.args.bank.now c.args.terms.now)) c.args.out.now.items c.loop-i.out.items
     (subst (λ xs. c.loop-i.out.items ≡ c.args.out.now.items ++ binding_lines c.args.names.now xs (term_trees c.args.bank.now c.args.terms.now))
     (take_all c.loop-i.i c.args.asked.now (omega arith)) c.loop-i.invariant)
+
+pub returns-in_err-write_binding-clause-text : goal.returns-in_err-write_binding-clause-text
+returns-in_err-write_binding-clause-text c = IfOk-from_err c.from_residual.result _ c.from_residual.ensures.0

@@ -1,4 +1,5 @@
 use Rattle.std.proofs.Common.{[], false}
+use Rattle.std.proofs.lemmas.Result.{IfOk-from_err}
 use Rattle.ll_lists.proofs.CallerLemmas.{OnErr-always as on_err}
 use Rattle.ll_parser.specs.Nodes.{raw_at}
 use Rattle.ll_parser.specs.Printed.{clauses, formula_text}
@@ -28,3 +29,9 @@ pub print_part-requires : goal.print_part-requires
 print_part-requires c =
     printing-part c.args.source.now.names.now c.args.source.now.forms.now c.loop-part.parts.items c.pop.new.self.items c.in-Some.part c.loop-part.invariant.1
     c.in-Some.ensures.items
+
+pub returns-in_err-print_part-clause-text : goal.returns-in_err-print_part-clause-text
+returns-in_err-print_part-clause-text c = IfOk-from_err c.from_residual-in_err-print_part.result _ c.from_residual-in_err-print_part.ensures.0
+
+pub returns-in_err-push-clause-text : goal.returns-in_err-push-clause-text
+returns-in_err-push-clause-text c = IfOk-from_err c.from_residual.result _ c.from_residual.ensures.0

@@ -1,4 +1,5 @@
 use Rattle.std.proofs.Common.{sym, ◌∙◌, arith, codes, true, false}
+use Rattle.std.proofs.lemmas.Result.{IfOk-from_err}
 use Rattle.ll_bank.specs.Nodes.{term_tree}
 use Rattle.ll_laws.specs.Output.{term_text}
 use Rattle.ll_printer.proofs.Printing.{moved_term, moved_bracket, argument_is}
@@ -19,3 +20,18 @@ returns-in_ok-push-3-clause-moves c =
     c.write_all-else-has_any_arguments.new.out.items
     c.requires.pieces (codes " ") c.in_ok-write_all-2.ensures.text c.args.at c.requires.at c.in_ok-push-3.ensures.items
     (argument_is tree (term_text c.args.names.now tree) false (sym c.has_any_arguments.ensures ∙ c.if-has_any_arguments.false)) (omega arith)
+
+pub returns-in_err-push-2-clause-moves : goal.returns-in_err-push-2-clause-moves
+returns-in_err-push-2-clause-moves c = IfOk-from_err c.from_residual-in_err-push-2.result _ c.from_residual-in_err-push-2.ensures.0
+
+pub returns-in_err-push-3-clause-moves : goal.returns-in_err-push-3-clause-moves
+returns-in_err-push-3-clause-moves c = IfOk-from_err c.from_residual-in_err-push-3.result _ c.from_residual-in_err-push-3.ensures.0
+
+pub returns-in_err-push-clause-moves : goal.returns-in_err-push-clause-moves
+returns-in_err-push-clause-moves c = IfOk-from_err c.from_residual-in_err-push.result _ c.from_residual-in_err-push.ensures.0
+
+pub returns-in_err-write_all-2-clause-moves : goal.returns-in_err-write_all-2-clause-moves
+returns-in_err-write_all-2-clause-moves c = IfOk-from_err c.from_residual-in_err-write_all-2.result _ c.from_residual-in_err-write_all-2.ensures.0
+
+pub returns-in_err-write_all-clause-moves : goal.returns-in_err-write_all-clause-moves
+returns-in_err-write_all-clause-moves c = IfOk-from_err c.from_residual.result _ c.from_residual.ensures.0

@@ -1,5 +1,6 @@
 use Rattle.std.proofs.Common.{sym, ◌∙◌, arith, codes, true, false, []}
 use Rattle.std.proofs.lemmas.List.{append-nil}
+use Rattle.std.proofs.lemmas.Result.{IfOk-from_err}
 use Rattle.ll_bank.specs.Nodes.{term_tree}
 use Rattle.ll_laws.specs.Output.{term_text}
 use Rattle.ll_printer.proofs.Printing.{moved_term, moved_bracket, item_is}
@@ -19,3 +20,15 @@ returns-in_ok-push-3-clause-moves c =
     moved_term c.args.names.now c.args.bank.now _ _ c.args.pieces.now.items c.push-else-is_cons_at.new.self.items c.args.out.now.items c.args.out.now.items
     c.requires.pieces [] (sym (append-nil c.args.out.now.items)) c.args.at c.requires.at c.in_ok-push-3.ensures.items
     (item_is c.args.names.now tree (term_text c.args.names.now tree) false (sym c.is_cons_at.ensures ∙ c.if-is_cons_at.false)) (omega arith)
+
+pub returns-in_err-push-2-clause-moves : goal.returns-in_err-push-2-clause-moves
+returns-in_err-push-2-clause-moves c = IfOk-from_err c.from_residual-in_err-push-2.result _ c.from_residual-in_err-push-2.ensures.0
+
+pub returns-in_err-push-3-clause-moves : goal.returns-in_err-push-3-clause-moves
+returns-in_err-push-3-clause-moves c = IfOk-from_err c.from_residual-in_err-push-3.result _ c.from_residual-in_err-push-3.ensures.0
+
+pub returns-in_err-push-clause-moves : goal.returns-in_err-push-clause-moves
+returns-in_err-push-clause-moves c = IfOk-from_err c.from_residual-in_err-push.result _ c.from_residual-in_err-push.ensures.0
+
+pub returns-in_err-write_all-clause-moves : goal.returns-in_err-write_all-clause-moves
+returns-in_err-write_all-clause-moves c = IfOk-from_err c.from_residual.result _ c.from_residual.ensures.0

@@ -1,4 +1,5 @@
 use Rattle.std.proofs.Common.{sym, ◌∙◌}
+use Rattle.std.proofs.lemmas.Result.{IfOk-from_err}
 use Rattle.ll_lists.proofs.CallerLemmas.{OnErr-always as on_err}
 use Rattle.ll_bank.specs.Nodes.{term_tree}
 use Rattle.ll_bank.proofs.CallerLemmas.{AllInTerms-below}
@@ -34,3 +35,14 @@ returns-in_ok-push_arguments-in-App-clause-moves c =
     c.write_head.new.out.items c.requires.pieces (AllInTerms-below c.args.bank.now c.args.at.0 c.in-App.args.now c.requires.at c.in-App.ensures.shown.1)
     c.in-App.ensures.shown.0
     (sym c.is_cons_of.ensures ∙ c.if-is_cons_of.false) c.in_ok-write_head-in-App.ensures.text c.in_ok-push_arguments-in-App.ensures
+
+pub returns-in_err-push_arguments-in-App-clause-moves : goal.returns-in_err-push_arguments-in-App-clause-moves
+returns-in_err-push_arguments-in-App-clause-moves c =
+    IfOk-from_err c.from_residual-in_err-push_arguments-in-App.result _ c.from_residual-in_err-push_arguments-in-App.ensures.0
+
+pub returns-in_err-push_cons-in-App-clause-moves : goal.returns-in_err-push_cons-in-App-clause-moves
+returns-in_err-push_cons-in-App-clause-moves c = IfOk-from_err c.from_residual.result _ c.from_residual.ensures.0
+
+pub returns-in_err-write_head-in-App-clause-moves : goal.returns-in_err-write_head-in-App-clause-moves
+returns-in_err-write_head-in-App-clause-moves c =
+    IfOk-from_err c.from_residual-in_err-write_head-in-App.result _ c.from_residual-in_err-write_head-in-App.ensures.0

@@ -1,4 +1,5 @@
 use Rattle.std.proofs.Common.{◌++◌, ap, sym, ◌∙◌}
+use Rattle.std.proofs.lemmas.Result.{IfOk-from_err}
 use Rattle.ll_printer.proofs.programs.program.Goals as goal
 
 pub returns-clause-again : goal.returns-clause-again
@@ -12,3 +13,6 @@ returns-clause-again c = λ whole.
       reads = read.4;
       same = read.5;
     }
+
+pub returns-in_err-write_program-clause-text : goal.returns-in_err-write_program-clause-text
+returns-in_err-write_program-clause-text c = IfOk-from_err c.from_residual.result _ c.from_residual.ensures.0

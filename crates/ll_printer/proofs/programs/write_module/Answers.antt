@@ -1,3 +1,4 @@
+use Rattle.std.proofs.lemmas.Result.{IfOk-from_err}
 use Rattle.ll_printer.proofs.Lines.{module-word, module-name, module-params, module-locals, name-refused, params-refused, locals-refused, last-refused}
 use Rattle.ll_printer.proofs.programs.write_module.Goals as goal
 use Rattle.ll_lists.proofs.CallerLemmas.{OnErr-always as on_err, OnErr-weaker as on_refused}
@@ -40,3 +41,15 @@ returns-clause-begun c =
     c.write_name.new.out.items (module-word c.args.source.now.names.now c.args.source.now.forms.now c.args.module.now c.args.out.now.items
     c.extend_from_slice.new.self.items c.in_ok-extend_from_slice.ensures.items) c.in_ok-write_name.ensures.text) c.in_ok-write_names.ensures.text)
     c.in_ok-write_locals.ensures.text)) c.write_clauses.ensures.begun
+
+pub returns-in_err-extend_from_slice-clause-text : goal.returns-in_err-extend_from_slice-clause-text
+returns-in_err-extend_from_slice-clause-text c = IfOk-from_err c.from_residual.result _ c.from_residual.ensures.0
+
+pub returns-in_err-write_locals-clause-text : goal.returns-in_err-write_locals-clause-text
+returns-in_err-write_locals-clause-text c = IfOk-from_err c.from_residual-in_err-write_locals.result _ c.from_residual-in_err-write_locals.ensures.0
+
+pub returns-in_err-write_name-clause-text : goal.returns-in_err-write_name-clause-text
+returns-in_err-write_name-clause-text c = IfOk-from_err c.from_residual-in_err-write_name.result _ c.from_residual-in_err-write_name.ensures.0
+
+pub returns-in_err-write_names-clause-text : goal.returns-in_err-write_names-clause-text
+returns-in_err-write_names-clause-text c = IfOk-from_err c.from_residual-in_err-write_names.result _ c.from_residual-in_err-write_names.ensures.0

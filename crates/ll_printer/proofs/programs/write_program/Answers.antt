@@ -1,4 +1,5 @@
 use Rattle.std.proofs.Common.{◌≡◌, ◌++◌, arith, subst}
+use Rattle.std.proofs.lemmas.Result.{IfOk-from_err}
 use Rattle.ll_lists.proofs.CallerLemmas.{OnErr-always as on_err}
 use Rattle.ll_parser.specs.Nodes.{shown_program}
 use Rattle.ll_parser.specs.Printed.{program_text}
@@ -34,3 +35,9 @@ returns-clause-text c =
     subst (λ tree. c.loop-i.out.items ≡ c.args.out.now.items ++ program_text tree) c.program.view_is
     (modules-end p.names p.forms (program_text (shown_program p.names p.forms p.clauses.items p.modules.items)) p.modules.items c.loop-i.i c.args.out.now.items
     c.loop-i.out.items (omega (arith, c.loop-i-test.false, c.len-i-end.ensures)) c.loop-i.invariant)
+
+pub returns-in_err-write_clauses-clause-text : goal.returns-in_err-write_clauses-clause-text
+returns-in_err-write_clauses-clause-text c = IfOk-from_err c.from_residual.result _ c.from_residual.ensures.0
+
+pub returns-in_err-write_module-clause-text : goal.returns-in_err-write_module-clause-text
+returns-in_err-write_module-clause-text c = IfOk-from_err c.from_residual-in_err-write_module.result _ c.from_residual-in_err-write_module.ensures.0

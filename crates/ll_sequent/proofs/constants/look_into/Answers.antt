@@ -72,40 +72,48 @@ returns-in-Imp c =
     (ap form_size c.in-Imp.ensures.shown.tree) e)
     c.wait_for-in-Imp.ensures
 
-pub returns-in_ok-push-in-Bang : goal.returns-in_ok-push-in-Bang
-returns-in_ok-push-in-Bang c =
-    one_inside c.args.bank.now c.args.form.0 c.args.waiting.now.items c.push.new.self.items (contains nat_cmp c.args.terms.now)
+pub returns-in-Bang : goal.returns-in-Bang
+returns-in-Bang c =
+    on_ok c.wait_for_one.result (λ e.
+    one_inside c.args.bank.now c.args.form.0 c.args.waiting.now.items c.wait_for_one.new.waiting.items (contains nat_cmp c.args.terms.now)
     (contains nat_cmp c.args.terms.now) (λ k. false)
     c.in-Bang.f c.requires c.in-Bang.ensures.shown.parts (gathers_nothing c.args.bank.now (contains nat_cmp c.args.terms.now))
     (λ k. ap (form_has_eigen k) c.in-Bang.ensures.shown.tree)
-    (ap form_size c.in-Bang.ensures.shown.tree) c.in_ok-push-in-Bang.ensures.items
+    (ap form_size c.in-Bang.ensures.shown.tree) e)
+    c.wait_for_one.ensures
 
-pub returns-in_ok-push-in-Forall : goal.returns-in_ok-push-in-Forall
-returns-in_ok-push-in-Forall c =
-    one_inside c.args.bank.now c.args.form.0 c.args.waiting.now.items c.push-in-Forall.new.self.items (contains nat_cmp c.args.terms.now)
+pub returns-in-Forall : goal.returns-in-Forall
+returns-in-Forall c =
+    on_ok c.wait_for_one-in-Forall.result (λ e.
+    one_inside c.args.bank.now c.args.form.0 c.args.waiting.now.items c.wait_for_one-in-Forall.new.waiting.items (contains nat_cmp c.args.terms.now)
     (contains nat_cmp c.args.terms.now) (λ k. false)
     c.in-Forall.f c.requires c.in-Forall.ensures.shown.parts (gathers_nothing c.args.bank.now (contains nat_cmp c.args.terms.now))
     (λ k. ap (form_has_eigen k) c.in-Forall.ensures.shown.tree)
-    (ap form_size c.in-Forall.ensures.shown.tree) c.in_ok-push-in-Forall.ensures.items
+    (ap form_size c.in-Forall.ensures.shown.tree) e)
+    c.wait_for_one-in-Forall.ensures
 
-pub returns-in_ok-push-in-Exists : goal.returns-in_ok-push-in-Exists
-returns-in_ok-push-in-Exists c =
-    one_inside c.args.bank.now c.args.form.0 c.args.waiting.now.items c.push-in-Exists.new.self.items (contains nat_cmp c.args.terms.now)
+pub returns-in-Exists : goal.returns-in-Exists
+returns-in-Exists c =
+    on_ok c.wait_for_one-in-Exists.result (λ e.
+    one_inside c.args.bank.now c.args.form.0 c.args.waiting.now.items c.wait_for_one-in-Exists.new.waiting.items (contains nat_cmp c.args.terms.now)
     (contains nat_cmp c.args.terms.now) (λ k. false)
     c.in-Exists.f c.requires c.in-Exists.ensures.shown.parts (gathers_nothing c.args.bank.now (contains nat_cmp c.args.terms.now))
     (λ k. ap (form_has_eigen k) c.in-Exists.ensures.shown.tree)
-    (ap form_size c.in-Exists.ensures.shown.tree) c.in_ok-push-in-Exists.ensures.items
+    (ap form_size c.in-Exists.ensures.shown.tree) e)
+    c.wait_for_one-in-Exists.ensures
 
-pub returns-in_ok-push-in-Use : goal.returns-in_ok-push-in-Use
-returns-in_ok-push-in-Use c =
-    one_inside c.args.bank.now c.args.form.0 c.args.waiting.now.items c.push-in-Use.new.self.items (contains nat_cmp c.args.terms.now)
+pub returns-in_ok-insert_all-in-Use : goal.returns-in_ok-insert_all-in-Use
+returns-in_ok-insert_all-in-Use c =
+    on_ok c.wait_for_one-in-Use.result (λ e.
+    one_inside c.args.bank.now c.args.form.0 c.args.waiting.now.items c.wait_for_one-in-Use.new.waiting.items (contains nat_cmp c.args.terms.now)
     (contains nat_cmp c.insert_all-in-Use.new.terms)
     (λ k. is_in k c.args.bank.now c.in-Use.args.now) c.in-Use.f c.requires c.in-Use.ensures.shown.parts.1
     (gathers_terms c.args.bank.now (contains nat_cmp c.args.terms.now) (contains nat_cmp c.insert_all-in-Use.new.terms) c.in-Use.args.now
     c.in-Use.ensures.shown.parts.0 c.in_ok-insert_all-in-Use.ensures)
     (λ k. ap (form_has_eigen k) c.in-Use.ensures.shown.tree ∙ ap (λ b. b || form_has_eigen k (form_tree c.args.bank.now c.in-Use.f.0))
     (eigen_trees k c.args.bank.now c.in-Use.args.now))
-    (ap form_size c.in-Use.ensures.shown.tree) c.in_ok-push-in-Use.ensures.items
+    (ap form_size c.in-Use.ensures.shown.tree) e)
+    c.wait_for_one-in-Use.ensures
 
 pub returns-in-Atom : goal.returns-in-Atom
 returns-in-Atom c =
@@ -156,17 +164,5 @@ returns-in-Most c =
     ap form_size c.in-Most.ensures.shown.tree in omega (arith, s)))
     c.insert_all-in-Most.ensures
 
-pub returns-in_err-push-in-Bang : goal.returns-in_err-push-in-Bang
-returns-in_err-push-in-Bang c = IfOk-from_err c.from_residual.result _ c.from_residual.ensures.0
-
-pub returns-in_err-push-in-Forall : goal.returns-in_err-push-in-Forall
-returns-in_err-push-in-Forall c = IfOk-from_err c.from_residual-in_err-push-in-Forall.result _ c.from_residual-in_err-push-in-Forall.ensures.0
-
-pub returns-in_err-push-in-Exists : goal.returns-in_err-push-in-Exists
-returns-in_err-push-in-Exists c = IfOk-from_err c.from_residual-in_err-push-in-Exists.result _ c.from_residual-in_err-push-in-Exists.ensures.0
-
 pub returns-in_err-insert_all-in-Use : goal.returns-in_err-insert_all-in-Use
-returns-in_err-insert_all-in-Use c = IfOk-from_err c.from_residual-in_err-insert_all-in-Use.result _ c.from_residual-in_err-insert_all-in-Use.ensures.0
-
-pub returns-in_err-push-in-Use : goal.returns-in_err-push-in-Use
-returns-in_err-push-in-Use c = IfOk-from_err c.from_residual-in_err-push-in-Use.result _ c.from_residual-in_err-push-in-Use.ensures.0
+returns-in_err-insert_all-in-Use c = IfOk-from_err c.from_residual.result _ c.from_residual.ensures.0

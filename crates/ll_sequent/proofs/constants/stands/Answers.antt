@@ -1,5 +1,6 @@
 use Rattle.std.proofs.Common.{ℕ, Bool, ◌||◌}
 use Rattle.std.proofs.lemmas.Result.{IfOk-from_err}
+use Rattle.ll_lists.proofs.CallerLemmas.{IfOk-each}
 use Rattle.std.specs.Ordering.{nat_cmp}
 use Rattle.std.specs.BTreeSet.{contains}
 use Rattle.ll_bank.specs.Nodes.{form_tree}
@@ -26,8 +27,9 @@ returns c =
     let bounded_has : ℕ → Bool = λ k. is_in_each k bank (forms_of c.args.bounded.now) in
     let g = gathers_both bank old one three goal_has (λ k. free_has k || bounded_has k) c.in_ok-gather.ensures
     (gathers_both bank one two three free_has bounded_has c.in_ok-gather_all.ensures c.in_ok-gather_all-2.ensures) in
-    found_in c.args.constant bank old three (λ k. goal_has k || (free_has k || bounded_has k)) c.in_ok-found.found g
-    (λ k e. none_in c.new-terms.result.keys c.new-terms.ensures.len k e) c.in_ok-found.ensures
+    IfOk-each c.is_in_terms.result _ _ (λ found among.
+    found_in c.args.constant bank old three (λ k. goal_has k || (free_has k || bounded_has k)) found g
+    (λ k e. none_in c.new-terms.result.keys c.new-terms.ensures.len k e) among) c.is_in_terms.ensures
 
 pub returns-in_err-gather : goal.returns-in_err-gather
 returns-in_err-gather c = IfOk-from_err c.from_residual.result _ c.from_residual.ensures.0
@@ -37,6 +39,3 @@ returns-in_err-gather_all c = IfOk-from_err c.from_residual-in_err-gather_all.re
 
 pub returns-in_err-gather_all-2 : goal.returns-in_err-gather_all-2
 returns-in_err-gather_all-2 c = IfOk-from_err c.from_residual-in_err-gather_all-2.result _ c.from_residual-in_err-gather_all-2.ensures.0
-
-pub returns-in_err-found : goal.returns-in_err-found
-returns-in_err-found c = IfOk-from_err c.from_residual-in_err-found.result _ c.from_residual-in_err-found.ensures.0

@@ -1,5 +1,6 @@
 use Rattle.std.proofs.Common.{ℕ, ◌<◌, refl, ap, sym, subst, ◌∙◌, length, List, arith}
 use Rattle.std.proofs.lemmas.Result.{IfOk-from_err}
+use Rattle.ll_lists.proofs.CallerLemmas.{IfOk-each}
 use Rattle.ll_bank.specs.declared.Head.TheVariants.{Eigen}
 use Rattle.ll_bank.specs.Term.{Con}
 use Rattle.ll_bank.specs.Form.{instantiate, form_applies_heads}
@@ -34,8 +35,8 @@ instantiate-requires-clause-heads c =
     (λ i. form_applies_heads (instantiate (same i) (c.in_ok-value-in-Forall.ensures.shows.tree i)))
     ∙ forall_heads c.args.bank.now c.args.free.now c.args.sequent c.args.constant c.in-Forall.body c.in-Forall.ensures.shown c.requires.heads
 
-pub returns-in_ok-step-in-Forall-clause-is : goal.returns-in_ok-step-in-Forall-clause-is
-returns-in_ok-step-in-Forall-clause-is c =
+pub returns-in_ok-goal-in-Forall-clause-is : goal.returns-in_ok-goal-in-Forall-clause-is
+returns-in_ok-goal-in-Forall-clause-is c =
     let inside : HasForm c.args.bank.now c.in-Forall.body.0 =
     part_low c.in-Forall.body.0 c.args.sequent.goal.0 (length c.args.bank.now.forms) c.in-Forall.ensures.shown.parts c.requires.goal in
     let same = form_tree-extends c.in_ok-value-in-Forall.ensures.keeps c.in-Forall.body.0 inside in
@@ -45,11 +46,12 @@ returns-in_ok-step-in-Forall-clause-is c =
       inside = c.in_ok-goal-in-Forall.ensures.shows.inside;
       tree = c.in_ok-goal-in-Forall.ensures.shows.tree ∙ (λ i. instantiate (same i) (c.in_ok-value-in-Forall.ensures.shows.tree i));
     } in
+    IfOk-each c.leave_one.result _ _ (λ step leaving.
     forall_steps c.args.bank.now c.args.free.now c.args.sequent c.args.constant c.in-Forall.body c.in-Forall.ensures.shown c.instantiate.new.bank
-    (record { free = c.args.sequent.free; bounded = c.args.sequent.bounded; goal = c.in_ok-goal-in-Forall.goal }) c.in_ok-step-in-Forall.step
+    (record { free = c.args.sequent.free; bounded = c.args.sequent.bounded; goal = c.in_ok-goal-in-Forall.goal }) step
     (ap (stands_in c.args.constant c.args.bank.now c.in-Forall.body c.args.free.now) (sym c.deref.ensures.value)
     ∙ (sym c.in_ok-stands-in-Forall.ensures ∙ c.if-branch.false))
-    (Extends-trans c.in_ok-value-in-Forall.ensures.keeps c.in_ok-goal-in-Forall.ensures.keeps) shows refl refl c.in_ok-step-in-Forall.ensures
+    (Extends-trans c.in_ok-value-in-Forall.ensures.keeps c.in_ok-goal-in-Forall.ensures.keeps) shows refl refl leaving) c.leave_one.ensures
 
 pub returns-in_default : goal.returns-in_default
 returns-in_default c = record {
@@ -86,11 +88,8 @@ instantiate-requires-clause-value c = c.in_ok-value-in-Forall.ensures.shows.insi
 pub returns-in_err-goal-in-Forall-clause-keeps : goal.returns-in_err-goal-in-Forall-clause-keeps
 returns-in_err-goal-in-Forall-clause-keeps c = Extends-trans c.in_ok-value-in-Forall.ensures.keeps c.instantiate.ensures.keeps
 
-pub returns-in_err-step-in-Forall-clause-keeps : goal.returns-in_err-step-in-Forall-clause-keeps
-returns-in_err-step-in-Forall-clause-keeps c = Extends-trans c.in_ok-value-in-Forall.ensures.keeps c.in_ok-goal-in-Forall.ensures.keeps
-
-pub returns-in_ok-step-in-Forall-clause-keeps : goal.returns-in_ok-step-in-Forall-clause-keeps
-returns-in_ok-step-in-Forall-clause-keeps c = Extends-trans c.in_ok-value-in-Forall.ensures.keeps c.in_ok-goal-in-Forall.ensures.keeps
+pub returns-in_ok-goal-in-Forall-clause-keeps : goal.returns-in_ok-goal-in-Forall-clause-keeps
+returns-in_ok-goal-in-Forall-clause-keeps c = Extends-trans c.in_ok-value-in-Forall.ensures.keeps c.in_ok-goal-in-Forall.ensures.keeps
 
 pub returns-in_err-stands-in-Forall-clause-is : goal.returns-in_err-stands-in-Forall-clause-is
 returns-in_err-stands-in-Forall-clause-is c = IfOk-from_err c.from_residual.result _ c.from_residual.ensures.0
@@ -100,6 +99,3 @@ returns-in_err-value-in-Forall-clause-is c = IfOk-from_err c.from_residual-in_er
 
 pub returns-in_err-goal-in-Forall-clause-is : goal.returns-in_err-goal-in-Forall-clause-is
 returns-in_err-goal-in-Forall-clause-is c = IfOk-from_err c.from_residual-in_err-goal-in-Forall.result _ c.from_residual-in_err-goal-in-Forall.ensures.0
-
-pub returns-in_err-step-in-Forall-clause-is : goal.returns-in_err-step-in-Forall-clause-is
-returns-in_err-step-in-Forall-clause-is c = IfOk-from_err c.from_residual-in_err-step-in-Forall.result _ c.from_residual-in_err-step-in-Forall.ensures.0

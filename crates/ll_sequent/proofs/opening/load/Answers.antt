@@ -1,6 +1,7 @@
 use Rattle.std.proofs.Common.{ℕ, ◌<◌, length, map, refl, ap, sym, subst, ◌∙◌, arith}
 use Rattle.std.proofs.lemmas.Bool.{ltb-true}
 use Rattle.std.proofs.lemmas.Result.{IfOk-from_err}
+use Rattle.ll_lists.proofs.CallerLemmas.{IfOk-each}
 use Rattle.ll_bank.specs.Form.{Use}
 use Rattle.ll_bank.specs.Nodes.{form_tree, term_trees, AllInTerms}
 use Rattle.ll_bank.proofs.CallerLemmas.{Extends-refl}
@@ -29,16 +30,17 @@ unfold-requires-clause-heads c =
     (c.in-Use.ensures.shown.tree ∙ ap (λ xs. Use c.in-Use.number (term_trees c.args.bank.now xs) (form_tree c.args.bank.now c.in-Use.body.0)) (sym same))
     c.requires.modules c.requires.sequent
 
-pub returns-in_ok-step-in-Use-clause-is : goal.returns-in_ok-step-in-Use-clause-is
-returns-in_ok-step-in-Use-clause-is c =
+pub returns-in_ok-goal-in-Use-clause-is : goal.returns-in_ok-goal-in-Use-clause-is
+returns-in_ok-goal-in-Use-clause-is c =
     let l = c.in-Some.ensures.lookup in
     let low : c.in-Use.number < length c.args.modules.now = ltb-true _ _ (sym l.0) in
     let same = c.deref.ensures.value ∙ c.in_ok-args-in-Use.ensures.items in
+    IfOk-each c.leave_one.result _ _ (λ step leaving. λ ops free h.
     load_steps c.args.bank.now c.args.modules.now c.in-Use.number c.in-Some.module.now c.deref.result.now c.in-Use.body c.args.sequent low l.1
     (c.in-Use.ensures.shown.tree ∙ ap (λ xs. Use c.in-Use.number (term_trees c.args.bank.now xs) (form_tree c.args.bank.now c.in-Use.body.0)) (sym same))
     c.requires.modules c.requires.sequent
-    c.unfold.new.bank (record { free = c.args.sequent.free; bounded = c.args.sequent.bounded; goal = c.in_ok-goal-in-Use.goal }) c.in_ok-step-in-Use.step
-    c.in_ok-goal-in-Use.ensures.keeps c.in_ok-goal-in-Use.ensures.shows refl refl c.in_ok-step-in-Use.ensures
+    c.unfold.new.bank (record { free = c.args.sequent.free; bounded = c.args.sequent.bounded; goal = c.in_ok-goal-in-Use.goal }) step
+    c.in_ok-goal-in-Use.ensures.keeps c.in_ok-goal-in-Use.ensures.shows refl refl leaving ops free h) c.leave_one.ensures
 
 pub returns-in_default : goal.returns-in_default
 returns-in_default c = record {
@@ -72,11 +74,5 @@ returns-in_err-goal-in-Use-clause-is c = IfOk-from_err c.from_residual-in_err-go
 pub returns-in_err-goal-in-Use-clause-keeps : goal.returns-in_err-goal-in-Use-clause-keeps
 returns-in_err-goal-in-Use-clause-keeps c = c.unfold.ensures.keeps
 
-pub returns-in_err-step-in-Use-clause-is : goal.returns-in_err-step-in-Use-clause-is
-returns-in_err-step-in-Use-clause-is c = IfOk-from_err c.from_residual-in_err-step-in-Use.result _ c.from_residual-in_err-step-in-Use.ensures.0
-
-pub returns-in_err-step-in-Use-clause-keeps : goal.returns-in_err-step-in-Use-clause-keeps
-returns-in_err-step-in-Use-clause-keeps c = c.in_ok-goal-in-Use.ensures.keeps
-
-pub returns-in_ok-step-in-Use-clause-keeps : goal.returns-in_ok-step-in-Use-clause-keeps
-returns-in_ok-step-in-Use-clause-keeps c = c.in_ok-goal-in-Use.ensures.keeps
+pub returns-in_ok-goal-in-Use-clause-keeps : goal.returns-in_ok-goal-in-Use-clause-keeps
+returns-in_ok-goal-in-Use-clause-keeps c = c.in_ok-goal-in-Use.ensures.keeps

@@ -2,13 +2,13 @@ use Rattle.std.proofs.Common.{◌≡◌, List, sym, ap, subst, map}
 use Rattle.std.proofs.lemmas.Result.{IfOk-from_err}
 use Rattle.std.specs.Prelude.{Some}
 use Rattle.ll_lists.proofs.CallerLemmas.{IfOk-each as if_ok-more}
-use Rattle.ll_bank.specs.Nodes.{term_trees}
+use Rattle.ll_bank.specs.Nodes.{Nodes, term_trees}
 use Rattle.ll_laws.specs.declared.Part.{Part}
 use Rattle.ll_laws.specs.declared.Rule.{Rule}
 use Rattle.ll_laws.specs.Line.{put, ClauseLine, WithLine, BangLine, LolliLine}
-use Rattle.ll_laws.specs.ShownLines.{line_of, part_line}
+use Rattle.ll_laws.specs.ShownLines.{line_of, part_line, HasLine}
 use Rattle.ll_trace.proofs.Sharing.{one-step, num-step, erase-step, passing-step, passing-rule, given-tensor, given-anywhere}
-use Rattle.ll_trace.specs.Shares.{GivesTensor, GivesAnywhere, GivesRule}
+use Rattle.ll_trace.specs.Shares.{GivesTensor, GivesAnywhere, GivesRule, KeepsTerms}
 use Rattle.ll_trace.proofs.deal.deal_node.Goals as goal
 
 pub returns-in-One-clause-dealt : goal.returns-in-One-clause-dealt
@@ -84,3 +84,32 @@ returns-in_err-push-in_default-clause-dealt c = IfOk-from_err c.from_residual-in
 
 pub returns-in_err-push-in_default-clause-keeps : goal.returns-in_err-push-in_default-clause-keeps
 returns-in_err-push-in_default-clause-keeps c = IfOk-from_err c.from_residual-in_err-push-in_default.result _ c.from_residual-in_err-push-in_default.ensures.0
+
+pub returns-in-One-clause-keeps : goal.returns-in-One-clause-keeps
+returns-in-One-clause-keeps c = λ bank h. tt
+
+pub returns-in-Num-clause-keeps : goal.returns-in-Num-clause-keeps
+returns-in-Num-clause-keeps c = λ bank h. tt
+
+pub returns-in-Erase-clause-keeps : goal.returns-in-Erase-clause-keeps
+returns-in-Erase-clause-keeps c = λ bank h. tt
+
+pub returns-in-Tensor-clause-keeps : goal.returns-in-Tensor-clause-keeps
+returns-in-Tensor-clause-keeps c =
+    if_ok-more c.deal_tensor.result (λ (r : Rule). (bank : Nodes) → HasLine bank r) (λ (r : Rule). KeepsTerms c.args.rule r) (λ r k. λ bank h. k bank)
+    c.deal_tensor.ensures.keeps
+
+pub returns-in-With-clause-keeps : goal.returns-in-With-clause-keeps
+returns-in-With-clause-keeps c =
+    if_ok-more c.deal_with.result (λ (r : Rule). (bank : Nodes) → HasLine bank r) (λ (r : Rule). KeepsTerms c.args.rule r) (λ r k. λ bank h. k bank)
+    c.deal_with.ensures.keeps
+
+pub returns-in-Bang-clause-keeps : goal.returns-in-Bang-clause-keeps
+returns-in-Bang-clause-keeps c =
+    if_ok-more c.deal_bang.result (λ (r : Rule). (bank : Nodes) → HasLine bank r) (λ (r : Rule). KeepsTerms c.args.rule r) (λ r k. λ bank h. k bank)
+    c.deal_bang.ensures.keeps
+
+pub returns-in-Lolli-clause-keeps : goal.returns-in-Lolli-clause-keeps
+returns-in-Lolli-clause-keeps c =
+    if_ok-more c.deal_lolli.result (λ (r : Rule). (bank : Nodes) → HasLine bank r) (λ (r : Rule). KeepsTerms c.args.rule r) (λ r k. λ bank h. k bank)
+    c.deal_lolli.ensures.keeps

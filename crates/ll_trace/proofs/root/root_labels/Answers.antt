@@ -1,4 +1,4 @@
-use Rattle.std.proofs.Common.{◌≡◌, ◌+◌, ap, sym, subst, List, ℕ, take}
+use Rattle.std.proofs.Common.{◌≡◌, ◌+◌, ap, sym, subst, ◌∙◌, List, ℕ, take, take_all}
 use Rattle.std.proofs.lemmas.Result.{IfOk-from_err}
 use Rattle.ll_trace.specs.Start.{linear_labels}
 use Rattle.ll_trace.proofs.ExplainLemmas.{label_linear, label_other}
@@ -18,3 +18,9 @@ loop-label-preserved c =
 
 pub returns-in_err-push-in-Linear : goal.returns-in_err-push-in-Linear
 returns-in_err-push-in-Linear c = IfOk-from_err c.from_residual.result _ c.from_residual.ensures.0
+
+pub loop-label-init : goal.loop-label-init
+loop-label-init c = c.new-labels.ensures.items
+
+pub returns : goal.returns
+returns c = c.loop-label.invariant ∙ ap (linear_labels 0) (take_all c.loop-label.label c.args.clauses.now c.loop-label-test.false)

@@ -1,6 +1,6 @@
 use Rattle.std.proofs.Common.{refl}
 use Rattle.std.proofs.lemmas.Result.{IfOk-from_err}
-use Rattle.ll_trace.proofs.NodeLemmas.{part_start, part_more, part_end}
+use Rattle.ll_trace.proofs.NodeLemmas.{part_start, part_may, part_more, part_end}
 use Rattle.ll_trace.proofs.walk.nodes.Goals as goal
 
 pub loop-step-init : goal.loop-step-init
@@ -16,6 +16,11 @@ next-requires-clause-inside c = c.loop-step.invariant.inside
 
 pub next-requires-clause-used : goal.next-requires-clause-used
 next-requires-clause-used c = c.loop-step.invariant.used
+
+pub next-requires-clause-may : goal.next-requires-clause-may
+next-requires-clause-may c =
+    part_may c.args.forms.now c.args.modules.now c.args.terms.now c.args.steps.now c.args.walker c.loop-step.step-index c.loop-step.walker
+    c.loop-step.nodes.items _ c.loop-step.invariant c.loop-step-test.true
 
 pub loop-step-preserved : goal.loop-step-preserved
 loop-step-preserved c =

@@ -1,10 +1,12 @@
 use Rattle.std.proofs.Common.{refl, ap, sym, subst, ◌∙◌}
 use Rattle.std.specs.Prelude.{Some}
+use Rattle.std.proofs.lemmas.Result.{IfOk-from_err}
+use Rattle.ll_lists.proofs.CallerLemmas.{OnErr-always}
 use Rattle.ll_resources.specs.History.{History}
 use Rattle.ll_resources.specs.Raw.{Raw, raw, shown, kept_under, block_later}
 use Rattle.ll_resources.specs.Resources.{Fits, settled, bang_end}
 use Rattle.ll_resources.proofs.RawLemmas.{number-inside, shown-bang-end, within-remarked}
-use Rattle.ll_resources.proofs.ChangeLemmas.{sound-same, sound-alike, sound-noted, marks-alike, marks-noted, within-now, within-along}
+use Rattle.ll_resources.proofs.ChangeLemmas.{sound-same, sound-alike, sound-noted, marks-alike, marks-noted, within-now, within-along, history-alike}
 use Rattle.ll_resources.proofs.context.Context.bang_end.Goals as goal
 
 pub invariant_of-self : goal.invariant_of-self
@@ -50,3 +52,19 @@ pub returns-in_err-change-clause-marks : goal.returns-in_err-change-clause-marks
 returns-in_err-change-clause-marks g c =
     marks-alike c.self.inside.changes.items c.reserve.new.self.items (raw c.self.inside.state) (raw c.bang_end.new.self) c.args.self.now
     c.reserve.ensures.items c.in_err-change.ensures.refused c.self.view_is
+
+pub returns-in_err-reserve-clause-settles : goal.returns-in_err-reserve-clause-settles
+returns-in_err-reserve-clause-settles g c = IfOk-from_err c.from_residual.result _ c.from_residual.ensures.0
+
+pub returns-in_err-reserve-clause-refused : goal.returns-in_err-reserve-clause-refused
+returns-in_err-reserve-clause-refused g c = OnErr-always c.from_residual.result
+    (history-alike c.self.inside.changes.items c.reserve.new.self.items (raw c.self.inside.state) (raw c.self.inside.state) c.args.self.now
+    c.reserve.ensures.items refl c.self.view_is)
+
+pub returns-in_err-change-clause-settles : goal.returns-in_err-change-clause-settles
+returns-in_err-change-clause-settles g c = IfOk-from_err c.from_residual-in_err-change.result _ c.from_residual-in_err-change.ensures.0
+
+pub returns-in_err-change-clause-refused : goal.returns-in_err-change-clause-refused
+returns-in_err-change-clause-refused g c = OnErr-always c.from_residual-in_err-change.result
+    (history-alike c.self.inside.changes.items c.reserve.new.self.items (raw c.self.inside.state) (raw c.bang_end.new.self) c.args.self.now
+    c.reserve.ensures.items c.in_err-change.ensures.refused c.self.view_is)

@@ -1,5 +1,7 @@
 use Rattle.std.proofs.Common.{◌≡◌, refl, ap, sym, subst, ◌∙◌}
 use Rattle.std.specs.Vec.{vec_capacity}
+use Rattle.std.proofs.lemmas.Result.{IfOk-from_err}
+use Rattle.ll_lists.proofs.CallerLemmas.{OnErr-always}
 use Rattle.ll_resources.specs.declared.state.State.{State}
 use Rattle.ll_resources.specs.History.{History}
 use Rattle.ll_resources.specs.Resources.{settled, load_end}
@@ -59,3 +61,11 @@ returns-clause-settles g c =
     ∙ shown-closed c.args.saved (raw c.self.inside.state) (raw c.close.new.self)
     (entry-there c.self.inside.changes.items (raw c.self.inside.state) c.args.self.now c.self.view_is c.requires)
     c.in-Some.ensures.closes
+
+pub returns-in_err-reserve-clause-settles : goal.returns-in_err-reserve-clause-settles
+returns-in_err-reserve-clause-settles g c = IfOk-from_err c.from_residual.result _ c.from_residual.ensures.0
+
+pub returns-in_err-reserve-clause-refused : goal.returns-in_err-reserve-clause-refused
+returns-in_err-reserve-clause-refused g c = OnErr-always c.from_residual.result
+    (history-alike c.self.inside.changes.items c.reserve.new.self.items (raw c.self.inside.state) (raw c.self.inside.state) c.args.self.now
+    c.reserve.ensures.items refl c.self.view_is)

@@ -1,6 +1,8 @@
 use Rattle.std.proofs.Common.{refl}
+use Rattle.std.proofs.lemmas.Result.{IfOk-from_err}
+use Rattle.ll_lists.proofs.CallerLemmas.{OnErr-always}
 use Rattle.ll_resources.specs.Raw.{raw}
-use Rattle.ll_resources.proofs.ChangeLemmas.{sound-same, sound-noted, marks-alike, marks-noted, within-now, within-along}
+use Rattle.ll_resources.proofs.ChangeLemmas.{sound-same, sound-noted, marks-alike, marks-noted, within-now, within-along, history-alike}
 use Rattle.ll_resources.proofs.context.Context.erase.Goals as goal
 
 pub invariant_of-self : goal.invariant_of-self
@@ -22,3 +24,11 @@ pub returns-clause-marks : goal.returns-clause-marks
 returns-clause-marks g c =
     marks-noted c.self.inside.changes.items _ _ _ c.self.inside.state c.erase-change.new.self _ c.reserve.ensures.items c.push_reserved.ensures.items
     c.erase-change.ensures.leads c.self.view_is
+
+pub returns-in_err-reserve-clause-erased : goal.returns-in_err-reserve-clause-erased
+returns-in_err-reserve-clause-erased g c = IfOk-from_err c.from_residual.result _ c.from_residual.ensures.0
+
+pub returns-in_err-reserve-clause-refused : goal.returns-in_err-reserve-clause-refused
+returns-in_err-reserve-clause-refused g c = OnErr-always c.from_residual.result
+    (history-alike c.self.inside.changes.items c.reserve.new.self.items (raw c.self.inside.state) (raw c.self.inside.state) c.args.self.now
+    c.reserve.ensures.items refl c.self.view_is)

@@ -1,3 +1,4 @@
+use Rattle.std.proofs.lemmas.Result.{IfOk-from_err}
 use Rattle.ll_resources.specs.Raw.{raw}
 use Rattle.ll_resources.proofs.ChangeLemmas.{sound-alike, sound-alone, back-copied, mark-along, image-is, saved-marked}
 use Rattle.ll_resources.proofs.context.Context.image.Goals as goal
@@ -31,3 +32,9 @@ returns-clause-same g c =
     (back-copied c.args.mark.changes c.self.inside.changes.items c.as_slice.result.now (raw c.self.inside.state) (raw c.in_ok-state.state)
     (raw c.take_back.new.self) c.as_slice.ensures.value c.in_ok-state.ensures.state c.take_back.ensures.state)
     c.self.invariant
+
+pub returns-in_err-state-clause-image : goal.returns-in_err-state-clause-image
+returns-in_err-state-clause-image g c = IfOk-from_err c.from_residual.result _ c.from_residual.ensures.0
+
+pub returns-in_err-state-clause-same : goal.returns-in_err-state-clause-same
+returns-in_err-state-clause-same g c = IfOk-from_err c.from_residual.result _ c.from_residual.ensures.0

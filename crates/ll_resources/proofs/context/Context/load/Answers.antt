@@ -1,9 +1,11 @@
 use Rattle.std.proofs.Common.{◌<◌, ◌^◌, refl, ap, sym, ◌∙◌, subst}
+use Rattle.std.proofs.lemmas.Result.{IfOk-from_err}
+use Rattle.ll_lists.proofs.CallerLemmas.{OnErr-always}
 use Rattle.ll_resources.specs.History.{History}
 use Rattle.ll_resources.specs.Raw.{Raw, raw, shown}
 use Rattle.ll_resources.specs.Resources.{after_load}
 use Rattle.ll_resources.proofs.RawLemmas.{shown-loaded}
-use Rattle.ll_resources.proofs.ChangeLemmas.{sound-same, sound-alike, sound-noted, marks-alike, marks-noted, within-now, within-along}
+use Rattle.ll_resources.proofs.ChangeLemmas.{sound-same, sound-alike, sound-noted, marks-alike, marks-noted, within-now, within-along, history-alike}
 use Rattle.ll_resources.proofs.context.Context.load.Goals as goal
 
 pub invariant_of-self : goal.invariant_of-self
@@ -44,3 +46,25 @@ returns-clause-loaded g c =
     ap (λ (r : Raw g.row.C.Denot). shown r) c.in_ok-change.ensures.loaded
     ∙ (shown-loaded c.args.kind c.args.clause (raw c.self.inside.state)
     ∙ ap (λ (h : History g.row.C.Denot). after_load c.args.kind c.args.clause h.present) c.self.view_is)
+
+pub returns-in_err-reserve-clause-label : goal.returns-in_err-reserve-clause-label
+returns-in_err-reserve-clause-label g c = IfOk-from_err c.from_residual.result _ c.from_residual.ensures.0
+
+pub returns-in_err-reserve-clause-loaded : goal.returns-in_err-reserve-clause-loaded
+returns-in_err-reserve-clause-loaded g c = IfOk-from_err c.from_residual.result _ c.from_residual.ensures.0
+
+pub returns-in_err-reserve-clause-refused : goal.returns-in_err-reserve-clause-refused
+returns-in_err-reserve-clause-refused g c = OnErr-always c.from_residual.result
+    (history-alike c.self.inside.changes.items c.reserve.new.self.items (raw c.self.inside.state) (raw c.self.inside.state) c.args.self.now
+    c.reserve.ensures.items refl c.self.view_is)
+
+pub returns-in_err-change-clause-label : goal.returns-in_err-change-clause-label
+returns-in_err-change-clause-label g c = IfOk-from_err c.from_residual-in_err-change.result _ c.from_residual-in_err-change.ensures.0
+
+pub returns-in_err-change-clause-loaded : goal.returns-in_err-change-clause-loaded
+returns-in_err-change-clause-loaded g c = IfOk-from_err c.from_residual-in_err-change.result _ c.from_residual-in_err-change.ensures.0
+
+pub returns-in_err-change-clause-refused : goal.returns-in_err-change-clause-refused
+returns-in_err-change-clause-refused g c = OnErr-always c.from_residual-in_err-change.result
+    (history-alike c.self.inside.changes.items c.reserve.new.self.items (raw c.self.inside.state) (raw c.load.new.self) c.args.self.now
+    c.reserve.ensures.items c.in_err-change.ensures.refused c.self.view_is)

@@ -1,10 +1,12 @@
 use Rattle.std.proofs.Common.{refl, length, ap, ◌∙◌}
 use Rattle.std.specs.Prelude.{reverse}
+use Rattle.std.proofs.lemmas.Result.{IfOk-from_err}
+use Rattle.ll_lists.proofs.CallerLemmas.{OnErr-always}
 use Rattle.ll_resources.specs.History.{History}
 use Rattle.ll_resources.specs.Resources.{after_pick}
 use Rattle.ll_resources.specs.Raw.{Raw, raw, shown, raw_picked, mark_slot, first_place}
 use Rattle.ll_resources.proofs.RawLemmas.{shown-picked}
-use Rattle.ll_resources.proofs.ChangeLemmas.{sound-same, sound-noted, marks-alike, marks-noted, within-now, within-along}
+use Rattle.ll_resources.proofs.ChangeLemmas.{sound-same, sound-noted, marks-alike, marks-noted, within-now, within-along, history-alike}
 use Rattle.ll_resources.proofs.context.Context.pick.Goals as goal
 
 pub invariant_of-self : goal.invariant_of-self
@@ -33,3 +35,11 @@ returns-clause-picked g c =
     ∙ ap (λ f. raw_picked (mark_slot (length c.self.inside.state.live.items) f) (raw c.self.inside.state))
     (c.place_of-from_front.ensures ∙ ap (λ es. first_place c.args.label (reverse es)) c.as_slice.ensures.value))
     ∙ (shown-picked c.args.label (raw c.self.inside.state) ∙ ap (λ (h : History g.row.C.Denot). after_pick c.args.label h.present) c.self.view_is)
+
+pub returns-in_err-reserve-clause-picked : goal.returns-in_err-reserve-clause-picked
+returns-in_err-reserve-clause-picked g c = IfOk-from_err c.from_residual.result _ c.from_residual.ensures.0
+
+pub returns-in_err-reserve-clause-refused : goal.returns-in_err-reserve-clause-refused
+returns-in_err-reserve-clause-refused g c = OnErr-always c.from_residual.result
+    (history-alike c.self.inside.changes.items c.reserve.new.self.items (raw c.self.inside.state) (raw c.self.inside.state) c.args.self.now
+    c.reserve.ensures.items refl c.self.view_is)

@@ -1,8 +1,11 @@
 use Rattle.std.proofs.Common.{refl, ap}
+use Rattle.std.proofs.lemmas.Result.{IfOk-from_err}
+use Rattle.ll_lists.proofs.CallerLemmas.{OnErr-always}
 use Rattle.ll_resources.specs.Raw.{raw, shown}
 use Rattle.ll_resources.specs.Resources.{saved_as}
 use Rattle.ll_resources.proofs.RawLemmas.{within-kept, save-keeps, save-last}
 use Rattle.ll_resources.proofs.ChangeLemmas.{sound-same, sound-alike, sound-noted, marks-alike, marks-noted, within-now, within-along, number-kept, seen-saved}
+use Rattle.ll_resources.proofs.ChangeLemmas.{history-alike}
 use Rattle.ll_resources.proofs.context.Context.save.Goals as goal
 
 pub invariant_of-self : goal.invariant_of-self
@@ -57,3 +60,31 @@ pub returns-in_err-change-clause-marks : goal.returns-in_err-change-clause-marks
 returns-in_err-change-clause-marks g c =
     marks-alike c.self.inside.changes.items c.reserve.new.self.items (raw c.self.inside.state) (raw c.save.new.self) c.args.self.now
     c.reserve.ensures.items c.in_err-change.ensures.refused c.self.view_is
+
+pub returns-in_err-reserve-clause-number : goal.returns-in_err-reserve-clause-number
+returns-in_err-reserve-clause-number g c = IfOk-from_err c.from_residual.result _ c.from_residual.ensures.0
+
+pub returns-in_err-reserve-clause-kept : goal.returns-in_err-reserve-clause-kept
+returns-in_err-reserve-clause-kept g c = IfOk-from_err c.from_residual.result _ c.from_residual.ensures.0
+
+pub returns-in_err-reserve-clause-saved : goal.returns-in_err-reserve-clause-saved
+returns-in_err-reserve-clause-saved g c = IfOk-from_err c.from_residual.result _ c.from_residual.ensures.0
+
+pub returns-in_err-reserve-clause-refused : goal.returns-in_err-reserve-clause-refused
+returns-in_err-reserve-clause-refused g c = OnErr-always c.from_residual.result
+    (history-alike c.self.inside.changes.items c.reserve.new.self.items (raw c.self.inside.state) (raw c.self.inside.state) c.args.self.now
+    c.reserve.ensures.items refl c.self.view_is)
+
+pub returns-in_err-change-clause-number : goal.returns-in_err-change-clause-number
+returns-in_err-change-clause-number g c = IfOk-from_err c.from_residual-in_err-change.result _ c.from_residual-in_err-change.ensures.0
+
+pub returns-in_err-change-clause-kept : goal.returns-in_err-change-clause-kept
+returns-in_err-change-clause-kept g c = IfOk-from_err c.from_residual-in_err-change.result _ c.from_residual-in_err-change.ensures.0
+
+pub returns-in_err-change-clause-saved : goal.returns-in_err-change-clause-saved
+returns-in_err-change-clause-saved g c = IfOk-from_err c.from_residual-in_err-change.result _ c.from_residual-in_err-change.ensures.0
+
+pub returns-in_err-change-clause-refused : goal.returns-in_err-change-clause-refused
+returns-in_err-change-clause-refused g c = OnErr-always c.from_residual-in_err-change.result
+    (history-alike c.self.inside.changes.items c.reserve.new.self.items (raw c.self.inside.state) (raw c.save.new.self) c.args.self.now
+    c.reserve.ensures.items c.in_err-change.ensures.refused c.self.view_is)

@@ -1,12 +1,14 @@
 use Rattle.std.proofs.Common.{◌≡◌, ◌||◌, ◌&&◌, refl, ap, sym, subst, ◌∙◌, IfSome}
 use Rattle.std.specs.Prelude.{is_some, true, false, IsNone}
+use Rattle.std.proofs.lemmas.Result.{IfOk-from_err}
+use Rattle.ll_lists.proofs.CallerLemmas.{OnErr-always}
 use Rattle.ll_resources.specs.History.{History}
 use Rattle.ll_resources.specs.Resources.{settled, with_end, Fits}
 use Rattle.ll_resources.specs.Raw.{raw, Agrees, Joins, kept_under}
 use Rattle.ll_resources.specs.Changes.{Leads, history}
 use Rattle.ll_resources.specs.declared.state.State.{State}
 use Rattle.ll_resources.proofs.RawLemmas.{number-inside, shown-joined, shown-apart, within-remarked}
-use Rattle.ll_resources.proofs.ChangeLemmas.{sound-same, sound-alike, sound-noted, marks-alike, marks-noted, within-now, within-along}
+use Rattle.ll_resources.proofs.ChangeLemmas.{sound-same, sound-alike, sound-noted, marks-alike, marks-noted, within-now, within-along, history-alike}
 use Rattle.ll_resources.proofs.context.Context.with_end.Goals as goal
 
 pub invariant_of-self : goal.invariant_of-self
@@ -88,3 +90,19 @@ returns-in_default-clause-marks g c =
     let same = subst (λ done. IsNone done → c.with_end.new.self ≡ c.self.inside.state) c.in_default.is c.in_ok-change.ensures.same in
     marks-alike c.self.inside.changes.items c.reserve.new.self.items (raw c.self.inside.state) (raw c.with_end.new.self) c.args.self.now
     c.reserve.ensures.items (ap (λ (t : State g.row.C.Denot). raw t) (same refl)) c.self.view_is
+
+pub returns-in_err-reserve-clause-settles : goal.returns-in_err-reserve-clause-settles
+returns-in_err-reserve-clause-settles g c = IfOk-from_err c.from_residual.result _ c.from_residual.ensures.0
+
+pub returns-in_err-reserve-clause-refused : goal.returns-in_err-reserve-clause-refused
+returns-in_err-reserve-clause-refused g c = OnErr-always c.from_residual.result
+    (history-alike c.self.inside.changes.items c.reserve.new.self.items (raw c.self.inside.state) (raw c.self.inside.state) c.args.self.now
+    c.reserve.ensures.items refl c.self.view_is)
+
+pub returns-in_err-change-clause-settles : goal.returns-in_err-change-clause-settles
+returns-in_err-change-clause-settles g c = IfOk-from_err c.from_residual-in_err-change.result _ c.from_residual-in_err-change.ensures.0
+
+pub returns-in_err-change-clause-refused : goal.returns-in_err-change-clause-refused
+returns-in_err-change-clause-refused g c = OnErr-always c.from_residual-in_err-change.result
+    (history-alike c.self.inside.changes.items c.reserve.new.self.items (raw c.self.inside.state) (raw c.with_end.new.self) c.args.self.now
+    c.reserve.ensures.items c.in_err-change.ensures.refused c.self.view_is)

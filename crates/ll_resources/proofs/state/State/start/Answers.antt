@@ -1,6 +1,7 @@
 use Rattle.std.proofs.Common.{◌≡◌, ℕ, ◌+◌, ◌-◌, ◌<◌, false, List, ◌∷◌, length, map, drop, ap, sym, ◌∙◌, arith}
 use Rattle.std.specs.Prelude.{reverse}
 use Rattle.std.proofs.lemmas.List.{drop_all}
+use Rattle.std.proofs.lemmas.Result.{IfOk-from_err}
 use Rattle.ll_laws.specs.Attempt.{is_linear}
 use Rattle.ll_laws.specs.Settle.{Entry}
 use Rattle.ll_resources.specs.declared.state.Stored.{Stored}
@@ -48,3 +49,21 @@ returns g c =
           ∙ ap (λ ks. by (entries_from 0 cs) ks) c.new.ensures.kept;
       kept = c.new.ensures.kept;
     }
+
+pub returns-in_err-entries-clause-kept : goal.returns-in_err-entries-clause-kept
+returns-in_err-entries-clause-kept g c = IfOk-from_err c.from_residual.result _ c.from_residual.ensures.0
+
+pub returns-in_err-entries-clause-state : goal.returns-in_err-entries-clause-state
+returns-in_err-entries-clause-state g c = IfOk-from_err c.from_residual.result _ c.from_residual.ensures.0
+
+pub returns-in_err-push-clause-kept : goal.returns-in_err-push-clause-kept
+returns-in_err-push-clause-kept g c = IfOk-from_err c.from_residual-in_err-push.result _ c.from_residual-in_err-push.ensures.0
+
+pub returns-in_err-push-clause-state : goal.returns-in_err-push-clause-state
+returns-in_err-push-clause-state g c = IfOk-from_err c.from_residual-in_err-push.result _ c.from_residual-in_err-push.ensures.0
+
+pub returns-in_err-push_mark-clause-kept : goal.returns-in_err-push_mark-clause-kept
+returns-in_err-push_mark-clause-kept g c = IfOk-from_err c.from_residual-in_err-push_mark.result _ c.from_residual-in_err-push_mark.ensures.0
+
+pub returns-in_err-push_mark-clause-state : goal.returns-in_err-push_mark-clause-state
+returns-in_err-push_mark-clause-state g c = IfOk-from_err c.from_residual-in_err-push_mark.result _ c.from_residual-in_err-push_mark.ensures.0

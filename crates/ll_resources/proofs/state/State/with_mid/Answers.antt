@@ -1,5 +1,6 @@
 use Rattle.std.proofs.Common.{◌≡◌, length, get_or, ap, ◌∙◌, arith}
 use Rattle.std.proofs.lemmas.List.{get_or_append_left}
+use Rattle.std.proofs.lemmas.Result.{IfOk-from_err}
 use Rattle.ll_resources.specs.Saves.{block_of}
 use Rattle.ll_resources.specs.Raw.{Raw}
 use Rattle.ll_resources.proofs.ChangeLemmas.{none_kept}
@@ -15,3 +16,21 @@ put_marks-requires g c =
     ∙ ap (block_of ms) (get_or_append_left old _ none_kept c.args.number c.requires))) in
     let s = c.size.ensures ms none_kept in
     omega (arith, e, s, c.in_ok-reserve.ensures.ok, c.in_ok-change.ensures.room.live)
+
+pub returns-in_err-reserve-clause-middle : goal.returns-in_err-reserve-clause-middle
+returns-in_err-reserve-clause-middle g c = IfOk-from_err c.from_residual.result _ c.from_residual.ensures.0
+
+pub returns-in_err-reserve-clause-change : goal.returns-in_err-reserve-clause-change
+returns-in_err-reserve-clause-change g c = IfOk-from_err c.from_residual.result _ c.from_residual.ensures.0
+
+pub returns-in_err-reserve-clause-leads : goal.returns-in_err-reserve-clause-leads
+returns-in_err-reserve-clause-leads g c = IfOk-from_err c.from_residual.result _ c.from_residual.ensures.0
+
+pub returns-in_err-change-clause-middle : goal.returns-in_err-change-clause-middle
+returns-in_err-change-clause-middle g c = IfOk-from_err c.from_residual-in_err-change.result _ c.from_residual-in_err-change.ensures.0
+
+pub returns-in_err-change-clause-change : goal.returns-in_err-change-clause-change
+returns-in_err-change-clause-change g c = IfOk-from_err c.from_residual-in_err-change.result _ c.from_residual-in_err-change.ensures.0
+
+pub returns-in_err-change-clause-leads : goal.returns-in_err-change-clause-leads
+returns-in_err-change-clause-leads g c = IfOk-from_err c.from_residual-in_err-change.result _ c.from_residual-in_err-change.ensures.0

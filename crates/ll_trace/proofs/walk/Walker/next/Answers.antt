@@ -67,3 +67,41 @@ returns-in_ok-push-in-Free c =
 
 pub returns-in_err-push-in-Free : goal.returns-in_err-push-in-Free
 returns-in_err-push-in-Free c = IfOk-from_err c.from_residual.result _ c.from_residual.ensures.0
+
+pub take_form-requires-clause-modules : goal.take_form-requires-clause-modules
+take_form-requires-clause-modules c = c.requires.modules
+
+pub take_form-requires-clause-inside : goal.take_form-requires-clause-inside
+take_form-requires-clause-inside c =
+    let P : Goal → Type 0 = HasGoal c.args.forms.now (length c.args.modules.now) in
+    let f = c.in-Plain.form in
+    let e = c.in-Some.ensures.items ∙ ap (λ g. c.pop.new.self.items ++ g ∷ []) c.in-Plain.is in
+    record {
+      goals = (All-pop P c.args.self.now.goals.items c.pop.new.self.items (Some (Plain f)) e c.requires.inside.goals).0;
+      clauses = c.requires.inside.clauses;
+    }
+
+pub take_form-requires-clause-used : goal.take_form-requires-clause-used
+take_form-requires-clause-used c = c.requires.used
+
+pub take_form-requires-clause-form : goal.take_form-requires-clause-form
+take_form-requires-clause-form c =
+    let P : Goal → Type 0 = HasGoal c.args.forms.now (length c.args.modules.now) in
+    let f = c.in-Plain.form in
+    let e = c.in-Some.ensures.items ∙ ap (λ g. c.pop.new.self.items ++ g ∷ []) c.in-Plain.is in
+    (All-pop P c.args.self.now.goals.items c.pop.new.self.items (Some (Plain f)) e c.requires.inside.goals).1
+
+pub take_loading-requires-clause-modules : goal.take_loading-requires-clause-modules
+take_loading-requires-clause-modules c = c.requires.modules
+
+pub take_loading-requires-clause-inside : goal.take_loading-requires-clause-inside
+take_loading-requires-clause-inside c =
+    let P : Goal → Type 0 = HasGoal c.args.forms.now (length c.args.modules.now) in
+    let e = c.in-Some.ensures.items ∙ ap (λ g. c.pop.new.self.items ++ g ∷ []) c.in-Loading.is in
+    record {
+      goals = (All-pop P c.args.self.now.goals.items c.pop.new.self.items (Some (LoadingGoal c.in-Loading.loading)) e c.requires.inside.goals).0;
+      clauses = c.requires.inside.clauses;
+    }
+
+pub take_loading-requires-clause-used : goal.take_loading-requires-clause-used
+take_loading-requires-clause-used c = c.requires.used

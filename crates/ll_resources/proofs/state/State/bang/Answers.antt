@@ -1,0 +1,26 @@
+use Rattle.std.proofs.Common.{◌≡◌, ◌++◌, ◌∙◌, ap}
+use Rattle.std.proofs.lemmas.Result.{IfOk-from_err}
+use Rattle.ll_lists.proofs.CallerLemmas.{OnErr-always}
+use Rattle.ll_resources.specs.declared.state.State.{State}
+use Rattle.ll_resources.specs.Raw.{raw}
+use Rattle.ll_resources.proofs.state.State.bang.Goals as goal
+
+pub returns-in_err-from-clause-banged : goal.returns-in_err-from-clause-banged
+returns-in_err-from-clause-banged g c = IfOk-from_err c.from_residual.result _ c.from_residual.ensures.0
+
+pub returns-in_err-from-clause-leads : goal.returns-in_err-from-clause-leads
+returns-in_err-from-clause-leads g c = IfOk-from_err c.from_residual.result _ c.from_residual.ensures.0
+
+pub returns-in_err-from-clause-refused : goal.returns-in_err-from-clause-refused
+returns-in_err-from-clause-refused g c =
+    let new : State g.row.C.Denot = record c.args.self.now { saves = c.note.new.self } in
+    let same : raw new ≡ raw c.args.self.now =
+    λ i. record (raw c.args.self.now) { marks = c.in_err-from.ensures.refused i; kept = c.in_err-from.ensures.kept i } in
+    OnErr-always c.from_residual.result same
+
+pub returns-clause-banged : goal.returns-clause-banged
+returns-clause-banged g c = λ i. record (raw c.args.self.now) {
+  live = c.clear.ensures.items i;
+  marks = (c.in_ok-from.ensures.marks ∙ ap (λ ms. c.args.self.now.saves.marks.items ++ ms) c.as_slice.ensures.value) i;
+  kept = c.in_ok-from.ensures.kept i;
+}

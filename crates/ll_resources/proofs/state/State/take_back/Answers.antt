@@ -1,0 +1,33 @@
+use Rattle.std.proofs.Common.{◌≡◌, ap, ◌∙◌, drop, arith}
+use Rattle.ll_resources.specs.Raw.{raw}
+use Rattle.ll_resources.specs.Changes.{before}
+use Rattle.ll_resources.proofs.ChangeLemmas.{back-next, sound-next, less-trans}
+use Rattle.ll_resources.proofs.state.State.take_back.Goals as goal
+
+pub take_one_back-requires : goal.take_one_back-requires
+take_one_back-requires g c =
+    sound-next c.args.changes.now c.args.from c.loop-at.at c.index-changes-at.result (raw c.args.self.now) (raw c.loop-at.self) _ _ _ _ c.loop-at-test.true
+    c.loop-at.invariant.within c.index-changes-at.is c.loop-at.invariant.state c.loop-at.invariant.room.entries c.loop-at.invariant.room.live
+    c.requires.sound
+
+pub loop-at-preserved : goal.loop-at-preserved
+loop-at-preserved g c = record {
+  from = let l = c.loop-at-test.true in omega (arith, l);
+  within = let w = c.loop-at.invariant.within in omega (arith, w);
+  state = c.take_one_back.ensures.state
+      ∙ back-next c.args.changes.now c.args.from c.loop-at.at c.index-changes-at.result (raw c.args.self.now) (raw c.loop-at.self) c.loop-at-test.true
+      c.loop-at.invariant.within c.index-changes-at.is c.loop-at.invariant.state;
+  room = less-trans c.args.self.now c.loop-at.self c.take_one_back.new.self c.loop-at.invariant.room c.take_one_back.ensures.room;
+}
+
+pub loop-at-smaller : goal.loop-at-smaller
+loop-at-smaller g c = let l = c.loop-at-test.true in omega (arith, l)
+
+pub returns-clause-state : goal.returns-clause-state
+returns-clause-state g c =
+    let f = c.loop-at.invariant.from in let t = c.loop-at-test.false in
+    let same : c.loop-at.at ≡ c.args.from = omega (arith, f, t) in
+    c.loop-at.invariant.state ∙ ap (λ k. before (drop k c.args.changes.now) (raw c.args.self.now)) same
+
+pub returns-clause-room : goal.returns-clause-room
+returns-clause-room g c = c.loop-at.invariant.room

@@ -1,5 +1,5 @@
 -- What workers know of their seats.
-use Rattle.std.specs.Prelude.{◌≡◌, Some, None}
+use Rattle.std.specs.Prelude.{◌≡◌, ◌+◌, ◌<◌, length, Some, None}
 use Rattle.ll_laws.specs.declared.Event.{Event}
 use Rattle.ll_laws.specs.Pool.{PoolData}
 use Rattle.ll_laws.specs.Sound.{Sound}
@@ -47,6 +47,10 @@ pub record Calm (before after : Sat) : Type 0 where
 -- the pool that the seat has last seen is starved or stopped
 abbrev pub HasLeft : Sat → Type 0
 HasLeft seat = HasQuit seat.mine.seen
+
+-- The pool that the seat has last seen has no place for the batch: a pool has at most 4294967295 alternatives
+abbrev pub HasNoPlace : FrozenSight → Sat → Type 0
+HasNoPlace batch seat = 4294967295 < seat.mine.seen.total + length (alternatives_in batch)
 
 -- nothing is untried or open in the pool that the seat has last seen, which is sound, and the seat has no open piece
 pub record IsOver (problem : ProblemTree) (seat : Sat) : Type 0 where

@@ -1,5 +1,5 @@
 //! Why a crew gave up.
-ghost use Rattle.std.specs.Prelude.{◌≡◌};
+ghost use Rattle.std.specs.Prelude.{◌≡◌, ◌↔◌};
 ghost use Rattle.ll_order.specs.declared.outlet.OutFault.{OutFault};
 
 use ll_order::OutFault;
@@ -16,9 +16,9 @@ pub enum CrewFault {
     OutOfMemory,
 }
 
-/// The fault of a crew whose outlet refused an event.
+/// The fault of a crew whose outlet refused an event: `Write` exactly where a write failed.
 pub fn fault_of(fault: OutFault) -> CrewFault
-    ensures { result ≡ CrewFault.Write → fault ≡ OutFault.Write }
+    ensures { (result ≡ CrewFault.Write) ↔ (fault ≡ OutFault.Write) }
 {
     match fault {
         OutFault::Write => CrewFault::Write,

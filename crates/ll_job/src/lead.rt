@@ -1,16 +1,17 @@
 //! What worker 0 tells the outlet, a look at the pool, and the report of a piece.
 ghost use Rattle.std.specs.Prelude.{◌≡◌, None, IsSome, IsNone, IsSomeAnd, map, true, false};
 ghost use Rattle.ll_laws.specs.Sound.{report_of};
-ghost use Rattle.ll_job.specs.Seats.{IsSeat, Same, HasLeft};
+ghost use Rattle.ll_pool.specs.Turns.{HasQuit};
+ghost use Rattle.ll_job.specs.Seats.{IsSeat};
 ghost use Rattle.ll_job.specs.Leading.{Stands, Stopped};
 ghost use Rattle.ll_job.specs.Turns.{Goes, Leaves, Stays};
 
 use crate::job::Job;
 use crate::offer::Offer;
 use ll_core::{Look, Ready};
-use ll_laws::{Counts, Notice, Report};
+use ll_laws::{Batch, Counts, Notice, Report};
 use ll_order::{OutFault, Outlet, give};
-use ll_pool::Seat;
+use ll_pool::{Seat, SharedPool};
 use std::marker::PhantomData;
 use std::sync::Wait;
 
@@ -66,18 +67,15 @@ impl<E: Notice> Outlet for Mute<E> {
 }
 
 // After a failed write the pool is stopped, and where the outlet wanted memory it is starved.
-fn quit<'p, R: Wait, O: Outlet>(
-    job: &Job<'_, 'p, R, O>,
-    seat: &mut Seat<Offer<'p, O::Found>>,
-    fault: OutFault,
-)
-    requires own { seat.old.table ≡ job.now.pool.now.table }
-    ensures same { Same seat.old seat.new }
-    ensures left { HasLeft seat.new }
+fn quit<R: Wait, N: Batch>(pool: &SharedPool<N>, rt: &R, seat: &mut Seat<N>, fault: OutFault)
+    requires own { seat.old.table ≡ pool.now.table }
+    ensures same { (seat.new.table ≡ seat.old.table) × (seat.new.problem ≡ seat.old.problem) × (seat.new.mine.worker ≡ seat.old.mine.worker)
+        × (seat.new.given ≡ seat.old.given) }
+    ensures left { HasQuit seat.new.mine.seen }
 {
     match fault {
-        OutFault::Write => job.pool.stop(job.rt, seat),
-        OutFault::OutOfMemory => job.pool.starve(job.rt, seat),
+        OutFault::Write => pool.stop(rt, seat),
+        OutFault::OutOfMemory => pool.starve(rt, seat),
     }
 }
 
@@ -112,7 +110,7 @@ fn tell_all<'p, R: Wait, O: Outlet>(
             }
             Err(fault) => {
                 told.fault = Some(fault);
-                quit(job, seat, fault);
+                quit(job.pool, job.rt, seat, fault);
                 return false;
             }
         }

@@ -5,6 +5,7 @@ ghost use Rattle.std.specs.Arc.{arc_value};
 use ll_bank::OutOfMemory;
 use ll_freeze::Frozen;
 use ll_laws::{Batch, Notice, Problem};
+use std::alloc::Global;
 use std::marker::{Model, PhantomData};
 use std::sync::Arc;
 
@@ -29,7 +30,7 @@ impl<'p, E: Notice> Model for Offer<'p, E> {
 
 impl<'p, E: Notice> Offer<'p, E> {
     // An offer of a choice point that nobody else has.
-    pub fn of(choice: Arc<Frozen<'p>>) -> Offer<'p, E>
+    pub(crate) fn of(choice: Arc<Frozen<'p>>) -> Offer<'p, E>
         ensures { result ≡ arc_value choice.entry }
     {
         Offer {
@@ -55,6 +56,13 @@ impl<'p, E: Notice> Offer<'p, E> {
     {
         Ok(Arc::try_clone(&self.choice)?)
     }
+}
+
+// A value that threads may share. Whatever it is, it is put away where memory is wanting.
+pub(crate) fn shared<T: Drop>(alloc: Global, value: T) -> Result<Arc<T>, OutOfMemory>
+    ensures { IfOk result (λ same. arc_value same ≡ value) }
+{
+    Ok(Arc::new(alloc, value)?)
 }
 
 impl<'p, E: Notice> Batch for Offer<'p, E> {

@@ -43,11 +43,12 @@ loop-preserved g c =
 
 pub returns-in-Err-clause-left : goal.returns-in-Err-clause-left
 returns-in-Err-clause-left g c = λ f.
-    let i = c.loop.invariant in let err = c.in-Err.ensures in
+    let i = c.loop.invariant in let err = c.in-Err.ensures in let same = c.quit.ensures.same in
     told_refused g.O.Outlet.takes g.O.Outlet.breaks g.O.Outlet.welcome g.O.Outlet.faults c.args.job.now.start.now.value c.args.job.now.problem.now
     c.args.seat.now c.loop.seat c.ready.new.seat c.loop.out c.give.new.out c.loop.told c.in-Events.report
     (map g.O.Found.Notice.stands_for c.report.inside.events.items)
     c.report.inside.inferences
     (ap (λ (o : Owed Event). o.events) c.report.view_is) (ap (λ (o : Owed Event). o.cost) c.report.view_is) c.in-Events.ensures.turn c.requires.seat.problem i.0
     i.1
-    c.in-Err.fault c.quit.new.seat err.refused (λ e. err.write (ap Err e)) err.faults_kept err.welcome_kept c.quit.ensures.same c.quit.ensures.left
+    c.in-Err.fault c.quit.new.seat err.refused (λ e. err.write (ap Err e)) err.faults_kept err.welcome_kept
+    (record { table = same.0; problem = same.1; worker = same.2; given = same.3 }) c.quit.ensures.left

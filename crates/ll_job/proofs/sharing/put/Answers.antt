@@ -1,0 +1,14 @@
+use Rattle.ll_core.specs.Calls.{publish_answer}
+use Rattle.ll_job.proofs.sharing.put.Goals as goal
+
+pub returns-in-Ok-clause-turn : goal.returns-in-Ok-clause-turn
+returns-in-Ok-clause-turn g c = (publish_answer c.publish.result, c.publish.ensures.turn)
+
+pub returns-in-Err-Full-clause-turn : goal.returns-in-Err-Full-clause-turn
+returns-in-Err-Full-clause-turn g c = (publish_answer c.publish.result, c.publish.ensures.turn)
+
+pub returns-clause-turn : goal.returns-clause-turn
+returns-clause-turn g c = (publish_answer c.publish.result, c.publish.ensures.turn)
+
+pub returns-in-Ok-clause-rest : goal.returns-in-Ok-clause-rest
+returns-in-Ok-clause-rest g c = λ e. c.in-Ok.ensures.owes

@@ -33,21 +33,42 @@ impl<'p> Spine<'p> {
         ensures begins { IfOk result (λ z. Begins frozen.now k z.began (spine_of z)) }
     {
         let index = index_of(alloc, problem, frozen)?;
-        let mut machine = frozen.thaw(k)?;
-        let began = begin(&mut machine, alloc, frozen, k)?;
-        let origin = Snapshot::of(&machine);
-        Ok(Spine {
-            alloc,
-            problem,
-            index,
-            machine,
-            points: VecDeque::new(alloc),
-            ancestor: None,
-            origin,
-            began,
-            workshop: Workshop::new(alloc),
-        })
+        let machine = frozen.thaw(k)?;
+        begin_alone(alloc, problem, index, machine, frozen, k)
     }
+}
+
+// What begins with an alternative of a frozen choice point, by the machine that is thawed of it.
+fn begin_alone<'p>(
+    alloc: Global,
+    problem: &'p Problem,
+    index: Arc<Index>,
+    mut machine: Machine<'p>,
+    frozen: &Frozen<'p>,
+    k: u32,
+) -> Result<Spine<'p>, OutOfMemory>
+    requires index { IsIndexOf problem.now (arc_value index) }
+    requires thaws { Thaws frozen.now (parts_of machine) }
+    requires inside { k < length (alternatives_in frozen.now) }
+    requires of { frozen.now.problem ≡ problem.now }
+    ensures sound { IfOk result (λ z. IsSound z.began z) }
+    ensures begins { IfOk result (λ z. Begins frozen.now k z.began (spine_of z)) }
+{
+    let began = begin(&mut machine, alloc, frozen, k)?;
+    let origin = Snapshot::of(&machine);
+    let points = VecDeque::new(alloc);
+    let workshop = Workshop::new(alloc);
+    Ok(Spine {
+        alloc,
+        problem,
+        index,
+        machine,
+        points,
+        ancestor: None,
+        origin,
+        began,
+        workshop,
+    })
 }
 
 /// The index that goes with a frozen choice point of a problem, or one that is made.

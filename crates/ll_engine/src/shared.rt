@@ -85,7 +85,7 @@ fn begin_in<'p>(
     alloc: Global,
     problem: &'p Problem,
     index: Arc<Index>,
-    machine: Machine<'p>,
+    mut machine: Machine<'p>,
     workshop: Workshop,
     frozen: Arc<Frozen<'p>>,
     k: u32,
@@ -97,19 +97,20 @@ fn begin_in<'p>(
     ensures sound { IfOk result (λ z. IsSound z.began z) }
     ensures begins { IfOk result (λ z. Begins (arc_value frozen.entry) k z.began (spine_of z)) }
 {
-    let mut machine = machine;
     let base = machine.mark();
     let began = begin(&mut machine, alloc, &frozen, k)?;
     let origin = Snapshot::of(&machine);
     let points = VecDeque::new(alloc);
-    let batch = frozen;
     Ok(Spine {
         alloc,
         problem,
         index,
         machine,
         points,
-        ancestor: Some(Ancestor { batch, base }),
+        ancestor: Some(Ancestor {
+            batch: frozen,
+            base,
+        }),
         origin,
         began,
         workshop,

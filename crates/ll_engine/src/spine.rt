@@ -67,12 +67,13 @@ impl<'p> Spine<'p> {
     {
         let machine = Machine::start(alloc, problem)?;
         let origin = Snapshot::of(&machine);
+        let points = VecDeque::new(alloc);
         Ok(Spine {
             alloc,
             problem,
             index,
             machine,
-            points: VecDeque::new(alloc),
+            points,
             ancestor: None,
             origin,
             began: true,
@@ -140,8 +141,7 @@ impl<'p> Spine<'p> {
         let Some((candidate, untried)) = found.split() else {
             return Ok(false);
         };
-        let running = self.choose(candidate, untried)?;
-        Ok(running)
+        self.choose(candidate, untried)
     }
 
     /// Whether there is no choice point.
@@ -166,8 +166,7 @@ impl<'p> Spine<'p> {
             unreachable!()
         };
         self.machine.undo(kept.mark);
-        let running = self.choose(candidate, untried)?;
-        Ok(running)
+        self.choose(candidate, untried)
     }
 
     // Takes the first goal apart by this candidate, and keeps the others, the first one last, in a choice point; false where it gives

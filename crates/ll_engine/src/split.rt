@@ -13,6 +13,7 @@ use crate::ancestor::Ancestor;
 use crate::spine::{Kept, Spine};
 use ll_bank::OutOfMemory;
 use ll_freeze::{Frozen, Machine};
+use ll_index::Index;
 use std::alloc::AllocError;
 use std::sync::Arc;
 
@@ -32,13 +33,27 @@ impl<'p> Spine<'p> {
     {
         match self.points.pop_front() {
             None => unreachable!(),
-            Some(kept) => {
-                let batch = frozen(&self.machine, &self.ancestor, kept)?;
-                let index = Arc::try_clone(&self.index)?;
-                Ok(batch.with_index(index))
-            }
+            Some(kept) => split_off(&self.machine, &self.ancestor, &self.index, kept),
         }
     }
+}
+
+// A choice point of a machine, as a batch with the index of its problem.
+fn split_off<'p>(
+    machine: &Machine<'p>,
+    ancestor: &Option<Ancestor<'p>>,
+    index: &Arc<Index>,
+    kept: Kept,
+) -> Result<Frozen<'p>, OutOfMemory>
+    requires good { IsGood kept.mark machine.now }
+    requires kept { IsKept machine.now.problem.now (held_of machine.now kept) }
+    requires based { IsBased machine.now (kept ∷ []) ancestor.now }
+    requires index { IsIndexOf machine.now.problem.now (arc_value index.now) }
+    ensures { IfOk result (λ f. f ≡ sight_of (parts_at kept.mark machine.entry.now) (reverse kept.untried.items) false f.depth) }
+{
+    let batch = frozen(machine, ancestor, kept)?;
+    let index = Arc::try_clone(index)?;
+    Ok(batch.with_index(index))
 }
 
 // A choice point of a machine, as a batch. It shares the store of the batch that the machine was made of, if there is one that does not share
@@ -60,10 +75,8 @@ fn frozen<'p>(
     untried.reverse();
     if let Some(ancestor) = ancestor {
         if ancestor.batch.depth() < MOST_SHARED {
-            let batch = Frozen::onto(&ancestor.batch, machine, ancestor.base, kept.mark, &untried)?;
-            return Ok(batch);
+            return Frozen::onto(&ancestor.batch, machine, ancestor.base, kept.mark, &untried);
         }
     }
-    let batch = Frozen::whole(machine, kept.mark, &untried)?;
-    Ok(batch)
+    Frozen::whole(machine, kept.mark, &untried)
 }

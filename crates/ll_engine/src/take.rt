@@ -188,8 +188,7 @@ pub fn take_leaf(
         return Ok(false);
     };
     let entry = machine.context.entry(place);
-    let done = take_leaf_of(machine, alloc, atom, rest, candidate, place, entry)?;
-    Ok(done)
+    take_leaf_of(machine, alloc, atom, rest, candidate, place, entry)
 }
 
 /// Takes a leaf of the entry at a place for the atom in front, as `take_leaf` does.

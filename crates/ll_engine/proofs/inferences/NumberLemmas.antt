@@ -254,7 +254,14 @@ pub value_kept : (names : List (List ℕ)) (old new : Nodes) (t : Table) → IsT
 value_kept names old new t is keeps at inside found e =
     sym (e ∙ ap (value_of (operators_of names)) (read_same old new keeps t.bound (table_values old t.bound is.places) at.0 inside))
 
--- a test fails where the second value lacks, and is that of the values where both are there
+-- a test fails where a value lacks, and is that of the values where both are there
+pub first_lacks : (test : ℤ → ℤ → Bool) (a b : Option ℤ) → a ≡ None → false ≡ compared test a b
+first_lacks test a b e = sym (ap (λ (o : Option ℤ). compared test o b) e ∙ lacks b)
+  where
+    lacks : (o : Option ℤ) → compared test None o ≡ false
+    lacks None = refl
+    lacks (Some x) = refl
+
 pub second_lacks : (test : ℤ → ℤ → Bool) (a b : Option ℤ) → b ≡ None → false ≡ compared test a b
 second_lacks test a b e = sym (ap (compared test a) e ∙ lacks a)
   where

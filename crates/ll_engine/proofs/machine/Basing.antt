@@ -71,3 +71,12 @@ begun_sound p m ps began a e r g b =
       record { points = λ i d l. absurd (omega arith); machine = r },
       (record { good = λ i d l. absurd (omega arith); rise = tt }, (record { good = g; before = λ i d l. absurd (omega arith) }, b)),
     )
+
+-- and without a batch
+pub begun_alone : (p : ProblemTree) (m : Machine) (ps : List Kept) (began : Bool) → ps ≡ [] → IsRunning began p (parts_of m)
+    → IsSoundAt began p (parts_of m) (helds m ps) × AreMarks m ps
+begun_alone p m ps began e r =
+    subst (λ (qs : List Kept). IsSoundAt began p (parts_of m) (helds m qs) × AreMarks m qs) (sym e) (
+      record { points = λ i d l. absurd (omega arith); machine = r },
+      record { good = λ i d l. absurd (omega arith); rise = tt },
+    )

@@ -223,3 +223,7 @@ kept_own p h k = subst (λ (q : ProblemTree). IsKept q h) (sym k.opened.problem)
 pub reversed_tries : (m : Parts) (cs ds es : List Candidate) → ds ≡ reverse cs → es ≡ ds → AreTries m cs → AreTries m es
 reversed_tries m cs ds es e f h =
     subst (λ (xs : List Candidate). AreTries m xs) (sym (f ∙ e)) (all_reverse (λ c. Contains (tries (state_of m)) c) cs h)
+
+-- a batch that shares with as many as its depth says
+pub sight_depth : (m : Parts) (lent cs : List Candidate) (n : ℕ) (f : FrozenSight) → lent ≡ cs → f ≡ sight_of m lent false n → f ≡ sight_of m cs false f.depth
+sight_depth m lent cs n f e q = q ∙ (λ i. sight_of m (e i) false (sym (ap (λ (g : FrozenSight). g.depth) q) i))

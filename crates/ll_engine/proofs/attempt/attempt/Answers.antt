@@ -159,3 +159,147 @@ returns-in-Less-clause-attempts c = c.take_less.ensures.attempts c.args.candidat
 
 pub returns-in-Most-clause-attempts : goal.returns-in-Most-clause-attempts
 returns-in-Most-clause-attempts c = c.take_most.ensures.attempts c.args.candidate
+
+pub take_one-requires-clause-fits : goal.take_one-requires-clause-fits
+take_one-requires-clause-fits c = c.requires.fits
+
+pub take_one-requires-clause-left : goal.take_one-requires-clause-left
+take_one-requires-clause-left c = c.requires.left
+
+pub returns-in-One-clause-later : goal.returns-in-One-clause-later
+returns-in-One-clause-later c = c.take_one.ensures.later
+
+pub take_top-requires-clause-fits : goal.take_top-requires-clause-fits
+take_top-requires-clause-fits c = c.requires.fits
+
+pub take_top-requires-clause-left : goal.take_top-requires-clause-left
+take_top-requires-clause-left c = c.requires.left
+
+pub returns-in-Top-clause-later : goal.returns-in-Top-clause-later
+returns-in-Top-clause-later c = c.take_top.ensures.later
+
+pub take_tensor-requires-clause-fits : goal.take_tensor-requires-clause-fits
+take_tensor-requires-clause-fits c = c.requires.fits
+
+pub take_tensor-requires-clause-left : goal.take_tensor-requires-clause-left
+take_tensor-requires-clause-left c = c.requires.left
+
+pub returns-in-Tensor-clause-later : goal.returns-in-Tensor-clause-later
+returns-in-Tensor-clause-later c = c.take_tensor.ensures.later
+
+pub take_plus-requires-clause-fits : goal.take_plus-requires-clause-fits
+take_plus-requires-clause-fits c = c.requires.fits
+
+pub take_plus-requires-clause-left : goal.take_plus-requires-clause-left
+take_plus-requires-clause-left c = c.requires.left
+
+pub returns-in-Plus-clause-later : goal.returns-in-Plus-clause-later
+returns-in-Plus-clause-later c = c.take_plus.ensures.later
+
+pub take_with-requires-clause-fits : goal.take_with-requires-clause-fits
+take_with-requires-clause-fits c = c.requires.fits
+
+pub take_with-requires-clause-left : goal.take_with-requires-clause-left
+take_with-requires-clause-left c = c.requires.left
+
+pub returns-in-With-clause-later : goal.returns-in-With-clause-later
+returns-in-With-clause-later c = c.take_with.ensures.later
+
+pub take_bang-requires-clause-fits : goal.take_bang-requires-clause-fits
+take_bang-requires-clause-fits c = c.requires.fits
+
+pub take_bang-requires-clause-left : goal.take_bang-requires-clause-left
+take_bang-requires-clause-left c = c.requires.left
+
+pub returns-in-Bang-clause-later : goal.returns-in-Bang-clause-later
+returns-in-Bang-clause-later c = c.take_bang.ensures.later
+
+pub take_lolli-requires-clause-fits : goal.take_lolli-requires-clause-fits
+take_lolli-requires-clause-fits c = c.requires.fits
+
+pub take_lolli-requires-clause-left : goal.take_lolli-requires-clause-left
+take_lolli-requires-clause-left c = c.requires.left
+
+pub returns-in-Lolli-clause-later : goal.returns-in-Lolli-clause-later
+returns-in-Lolli-clause-later c = c.take_lolli.ensures.later
+
+pub take_imp-requires-clause-fits : goal.take_imp-requires-clause-fits
+take_imp-requires-clause-fits c = c.requires.fits
+
+pub take_imp-requires-clause-left : goal.take_imp-requires-clause-left
+take_imp-requires-clause-left c = c.requires.left
+
+pub returns-in-Imp-clause-later : goal.returns-in-Imp-clause-later
+returns-in-Imp-clause-later c = c.take_imp.ensures.later
+
+pub take_leaf-requires-clause-fits : goal.take_leaf-requires-clause-fits
+take_leaf-requires-clause-fits c = c.requires.fits
+
+pub take_leaf-requires-clause-left : goal.take_leaf-requires-clause-left
+take_leaf-requires-clause-left c = c.requires.left
+
+pub returns-in-Atom-clause-later : goal.returns-in-Atom-clause-later
+returns-in-Atom-clause-later c = c.take_leaf.ensures.later
+
+pub take_is-requires-clause-fits : goal.take_is-requires-clause-fits
+take_is-requires-clause-fits c = c.requires.fits
+
+pub take_is-requires-clause-left : goal.take_is-requires-clause-left
+take_is-requires-clause-left c = c.requires.left
+
+pub returns-in-Is-clause-later : goal.returns-in-Is-clause-later
+returns-in-Is-clause-later c = c.take_is.ensures.later
+
+pub take_less-requires-clause-fits : goal.take_less-requires-clause-fits
+take_less-requires-clause-fits c = c.requires.fits
+
+pub take_less-requires-clause-left : goal.take_less-requires-clause-left
+take_less-requires-clause-left c = c.requires.left
+
+pub returns-in-Less-clause-later : goal.returns-in-Less-clause-later
+returns-in-Less-clause-later c = c.take_less.ensures.later
+
+pub take_most-requires-clause-fits : goal.take_most-requires-clause-fits
+take_most-requires-clause-fits c = c.requires.fits
+
+pub take_most-requires-clause-left : goal.take_most-requires-clause-left
+take_most-requires-clause-left c = c.requires.left
+
+pub returns-in-Most-clause-later : goal.returns-in-Most-clause-later
+returns-in-Most-clause-later c = c.take_most.ensures.later
+
+pub returns-in-Plus-clause-attempts : goal.returns-in-Plus-clause-attempts
+returns-in-Plus-clause-attempts c = c.take_plus.ensures.attempts
+
+pub returns-in-Atom-clause-attempts : goal.returns-in-Atom-clause-attempts
+returns-in-Atom-clause-attempts c = c.take_leaf.ensures.attempts
+
+pub take_leaf-requires-clause-candidate : goal.take_leaf-requires-clause-candidate
+take_leaf-requires-clause-candidate c = c.requires.candidate
+
+pub take_forall-requires-clause-rest : goal.take_forall-requires-clause-rest
+take_forall-requires-clause-rest c = c.in-Some.ensures.some.inside
+
+pub take_forall-requires-clause-left : goal.take_forall-requires-clause-left
+take_forall-requires-clause-left c = c.requires.left
+
+pub returns-in_ok-take_forall-in-Forall-clause-later : goal.returns-in_ok-take_forall-in-Forall-clause-later
+returns-in_ok-take_forall-in-Forall-clause-later c = c.in_ok-take_forall-in-Forall.ensures.later
+
+pub take_exists-requires-clause-rest : goal.take_exists-requires-clause-rest
+take_exists-requires-clause-rest c = c.in-Some.ensures.some.inside
+
+pub take_exists-requires-clause-left : goal.take_exists-requires-clause-left
+take_exists-requires-clause-left c = c.requires.left
+
+pub returns-in_ok-take_exists-in-Exists-clause-later : goal.returns-in_ok-take_exists-in-Exists-clause-later
+returns-in_ok-take_exists-in-Exists-clause-later c = c.in_ok-take_exists-in-Exists.ensures.later
+
+pub take_load-requires-clause-rest : goal.take_load-requires-clause-rest
+take_load-requires-clause-rest c = c.in-Some.ensures.some.inside
+
+pub take_load-requires-clause-left : goal.take_load-requires-clause-left
+take_load-requires-clause-left c = c.requires.left
+
+pub returns-in_ok-take_load-in-Use-clause-later : goal.returns-in_ok-take_load-in-Use-clause-later
+returns-in_ok-take_load-in-Use-clause-later c = c.in_ok-take_load-in-Use.ensures.later

@@ -1,4 +1,5 @@
 use Rattle.std.proofs.Common.{◌++◌, ap, sym, ◌∙◌}
+use Rattle.std.proofs.lemmas.Result.{IfOk-from_err}
 use Rattle.ll_bank.specs.Nodes.{term_tree}
 use Rattle.ll_engine.specs.Leaves.{heads, head_tries, waiting_heads, walk_size}
 use Rattle.ll_engine.specs.Matches.{HasCellsIn, head_fits, all_found}
@@ -143,3 +144,53 @@ can_match-requires-clause-inside c = c.in-Atom.ensures.shown.parts
 
 pub form_at-requires : goal.form_at-requires
 form_at-requires c = (waiting (goal.at.form_at-requires c).In-Some).last
+
+pub returns-in_err-can_match-in-Atom-clause-found : goal.returns-in_err-can_match-in-Atom-clause-found
+returns-in_err-can_match-in-Atom-clause-found c =
+    IfOk-from_err c.from_residual-in_err-can_match-in-Atom.result _ c.from_residual-in_err-can_match-in-Atom.ensures.0
+
+pub returns-in_err-can_match-in-Atom-clause-none : goal.returns-in_err-can_match-in-Atom-clause-none
+returns-in_err-can_match-in-Atom-clause-none c =
+    IfOk-from_err c.from_residual-in_err-can_match-in-Atom.result _ c.from_residual-in_err-can_match-in-Atom.ensures.0
+
+pub returns-in_err-push-in-Atom-clause-found : goal.returns-in_err-push-in-Atom-clause-found
+returns-in_err-push-in-Atom-clause-found c = IfOk-from_err c.from_residual-in_err-push-in-Atom.result _ c.from_residual-in_err-push-in-Atom.ensures.0
+
+pub returns-in_err-push-in-Atom-clause-none : goal.returns-in_err-push-in-Atom-clause-none
+returns-in_err-push-in-Atom-clause-none c = IfOk-from_err c.from_residual-in_err-push-in-Atom.result _ c.from_residual-in_err-push-in-Atom.ensures.0
+
+pub returns-in_err-leaf-in-Atom-clause-found : goal.returns-in_err-leaf-in-Atom-clause-found
+returns-in_err-leaf-in-Atom-clause-found c = IfOk-from_err c.from_residual-in_err-leaf-in-Atom.result _ c.from_residual-in_err-leaf-in-Atom.ensures.0
+
+pub returns-in_err-leaf-in-Atom-clause-none : goal.returns-in_err-leaf-in-Atom-clause-none
+returns-in_err-leaf-in-Atom-clause-none c = IfOk-from_err c.from_residual-in_err-leaf-in-Atom.result _ c.from_residual-in_err-leaf-in-Atom.ensures.0
+
+pub returns-in_err-push-in-With-clause-found : goal.returns-in_err-push-in-With-clause-found
+returns-in_err-push-in-With-clause-found c = IfOk-from_err c.from_residual-in_err-push-in-With.result _ c.from_residual-in_err-push-in-With.ensures.0
+
+pub returns-in_err-push-in-With-clause-none : goal.returns-in_err-push-in-With-clause-none
+returns-in_err-push-in-With-clause-none c = IfOk-from_err c.from_residual-in_err-push-in-With.result _ c.from_residual-in_err-push-in-With.ensures.0
+
+pub returns-in_err-push-in-With-2-clause-found : goal.returns-in_err-push-in-With-2-clause-found
+returns-in_err-push-in-With-2-clause-found c = IfOk-from_err c.from_residual-in_err-push-in-With-2.result _ c.from_residual-in_err-push-in-With-2.ensures.0
+
+pub returns-in_err-push-in-With-2-clause-none : goal.returns-in_err-push-in-With-2-clause-none
+returns-in_err-push-in-With-2-clause-none c = IfOk-from_err c.from_residual-in_err-push-in-With-2.result _ c.from_residual-in_err-push-in-With-2.ensures.0
+
+pub returns-in_err-push-in-Lolli-clause-found : goal.returns-in_err-push-in-Lolli-clause-found
+returns-in_err-push-in-Lolli-clause-found c = IfOk-from_err c.from_residual-in_err-push-in-Lolli.result _ c.from_residual-in_err-push-in-Lolli.ensures.0
+
+pub returns-in_err-push-in-Lolli-clause-none : goal.returns-in_err-push-in-Lolli-clause-none
+returns-in_err-push-in-Lolli-clause-none c = IfOk-from_err c.from_residual-in_err-push-in-Lolli.result _ c.from_residual-in_err-push-in-Lolli.ensures.0
+
+pub returns-in_err-push-in-Imp-clause-found : goal.returns-in_err-push-in-Imp-clause-found
+returns-in_err-push-in-Imp-clause-found c = IfOk-from_err c.from_residual-in_err-push-in-Imp.result _ c.from_residual-in_err-push-in-Imp.ensures.0
+
+pub returns-in_err-push-in-Imp-clause-none : goal.returns-in_err-push-in-Imp-clause-none
+returns-in_err-push-in-Imp-clause-none c = IfOk-from_err c.from_residual-in_err-push-in-Imp.result _ c.from_residual-in_err-push-in-Imp.ensures.0
+
+pub returns-in_err-push-in-Forall-clause-found : goal.returns-in_err-push-in-Forall-clause-found
+returns-in_err-push-in-Forall-clause-found c = IfOk-from_err c.from_residual-in_err-push-in-Forall.result _ c.from_residual-in_err-push-in-Forall.ensures.0
+
+pub returns-in_err-push-in-Forall-clause-none : goal.returns-in_err-push-in-Forall-clause-none
+returns-in_err-push-in-Forall-clause-none c = IfOk-from_err c.from_residual-in_err-push-in-Forall.result _ c.from_residual-in_err-push-in-Forall.ensures.0

@@ -1,5 +1,6 @@
 use Rattle.std.proofs.Common.{◌++◌, append_assoc, refl, ap, sym, ◌∙◌, length, [], ◌∷◌}
 use Rattle.std.proofs.lemmas.List.{append-nil}
+use Rattle.std.proofs.lemmas.Result.{IfOk-from_err}
 use Rattle.ll_bank.specs.Form.{Bang}
 use Rattle.ll_bank.specs.Term.{Var}
 use Rattle.ll_bank.specs.Nodes.{form_tree}
@@ -190,3 +191,78 @@ unreachable-requires c = let l = c.loop-atom in let d = c.in_default in
     way_none c.args.bank.now (items_at c.args.agenda.now c.args.rest) (length c.args.terms.now.items) c.args.clause.0 c.args.leaf l.bank l.agenda
     l.terms.items l.form l.leaf l.top l.invariant.way c.form_at.result c.form_at.ensures.shown.tree
     (no_ways l.bank c.form_at.result d.not-Atom d.not-With d.not-Lolli d.not-Imp d.not-Forall)
+
+pub returns-in_err-side-in-With-clause-opened : goal.returns-in_err-side-in-With-clause-opened
+returns-in_err-side-in-With-clause-opened c = IfOk-from_err c.from_residual.result _ c.from_residual.ensures.0
+
+pub returns-in_err-side-in-With-clause-frames : goal.returns-in_err-side-in-With-clause-frames
+returns-in_err-side-in-With-clause-frames c = IfOk-from_err c.from_residual.result _ c.from_residual.ensures.0
+
+pub returns-in_err-side-in-With-clause-more : goal.returns-in_err-side-in-With-clause-more
+returns-in_err-side-in-With-clause-more c = IfOk-from_err c.from_residual.result _ c.from_residual.ensures.0
+
+pub returns-in_err-goal-in-Lolli-clause-opened : goal.returns-in_err-goal-in-Lolli-clause-opened
+returns-in_err-goal-in-Lolli-clause-opened c = IfOk-from_err c.from_residual-in_err-goal-in-Lolli.result _ c.from_residual-in_err-goal-in-Lolli.ensures.0
+
+pub returns-in_err-goal-in-Lolli-clause-frames : goal.returns-in_err-goal-in-Lolli-clause-frames
+returns-in_err-goal-in-Lolli-clause-frames c = IfOk-from_err c.from_residual-in_err-goal-in-Lolli.result _ c.from_residual-in_err-goal-in-Lolli.ensures.0
+
+pub returns-in_err-goal-in-Lolli-clause-more : goal.returns-in_err-goal-in-Lolli-clause-more
+returns-in_err-goal-in-Lolli-clause-more c = IfOk-from_err c.from_residual-in_err-goal-in-Lolli.result _ c.from_residual-in_err-goal-in-Lolli.ensures.0
+
+pub returns-in_err-top-in-Lolli-clause-opened : goal.returns-in_err-top-in-Lolli-clause-opened
+returns-in_err-top-in-Lolli-clause-opened c = IfOk-from_err c.from_residual-in_err-top-in-Lolli.result _ c.from_residual-in_err-top-in-Lolli.ensures.0
+
+pub returns-in_err-top-in-Lolli-clause-frames : goal.returns-in_err-top-in-Lolli-clause-frames
+returns-in_err-top-in-Lolli-clause-frames c = IfOk-from_err c.from_residual-in_err-top-in-Lolli.result _ c.from_residual-in_err-top-in-Lolli.ensures.0
+
+pub returns-in_err-top-in-Lolli-clause-more : goal.returns-in_err-top-in-Lolli-clause-more
+returns-in_err-top-in-Lolli-clause-more c = IfOk-from_err c.from_residual-in_err-top-in-Lolli.result _ c.from_residual-in_err-top-in-Lolli.ensures.0
+
+pub returns-in_err-goal-in-Imp-clause-opened : goal.returns-in_err-goal-in-Imp-clause-opened
+returns-in_err-goal-in-Imp-clause-opened c = IfOk-from_err c.from_residual-in_err-goal-in-Imp.result _ c.from_residual-in_err-goal-in-Imp.ensures.0
+
+pub returns-in_err-goal-in-Imp-clause-frames : goal.returns-in_err-goal-in-Imp-clause-frames
+returns-in_err-goal-in-Imp-clause-frames c = IfOk-from_err c.from_residual-in_err-goal-in-Imp.result _ c.from_residual-in_err-goal-in-Imp.ensures.0
+
+pub returns-in_err-goal-in-Imp-clause-more : goal.returns-in_err-goal-in-Imp-clause-more
+returns-in_err-goal-in-Imp-clause-more c = IfOk-from_err c.from_residual-in_err-goal-in-Imp.result _ c.from_residual-in_err-goal-in-Imp.ensures.0
+
+pub returns-in_err-free-in-Imp-clause-opened : goal.returns-in_err-free-in-Imp-clause-opened
+returns-in_err-free-in-Imp-clause-opened c = IfOk-from_err c.from_residual-in_err-free-in-Imp.result _ c.from_residual-in_err-free-in-Imp.ensures.0
+
+pub returns-in_err-free-in-Imp-clause-frames : goal.returns-in_err-free-in-Imp-clause-frames
+returns-in_err-free-in-Imp-clause-frames c = IfOk-from_err c.from_residual-in_err-free-in-Imp.result _ c.from_residual-in_err-free-in-Imp.ensures.0
+
+pub returns-in_err-free-in-Imp-clause-more : goal.returns-in_err-free-in-Imp-clause-more
+returns-in_err-free-in-Imp-clause-more c = IfOk-from_err c.from_residual-in_err-free-in-Imp.result _ c.from_residual-in_err-free-in-Imp.ensures.0
+
+pub returns-in_err-top-in-Imp-clause-opened : goal.returns-in_err-top-in-Imp-clause-opened
+returns-in_err-top-in-Imp-clause-opened c = IfOk-from_err c.from_residual-in_err-top-in-Imp.result _ c.from_residual-in_err-top-in-Imp.ensures.0
+
+pub returns-in_err-top-in-Imp-clause-frames : goal.returns-in_err-top-in-Imp-clause-frames
+returns-in_err-top-in-Imp-clause-frames c = IfOk-from_err c.from_residual-in_err-top-in-Imp.result _ c.from_residual-in_err-top-in-Imp.ensures.0
+
+pub returns-in_err-top-in-Imp-clause-more : goal.returns-in_err-top-in-Imp-clause-more
+returns-in_err-top-in-Imp-clause-more c = IfOk-from_err c.from_residual-in_err-top-in-Imp.result _ c.from_residual-in_err-top-in-Imp.ensures.0
+
+pub returns-in_err-variable-in-Forall-clause-opened : goal.returns-in_err-variable-in-Forall-clause-opened
+returns-in_err-variable-in-Forall-clause-opened c =
+    IfOk-from_err c.from_residual-in_err-variable-in-Forall.result _ c.from_residual-in_err-variable-in-Forall.ensures.0
+
+pub returns-in_err-variable-in-Forall-clause-frames : goal.returns-in_err-variable-in-Forall-clause-frames
+returns-in_err-variable-in-Forall-clause-frames c =
+    IfOk-from_err c.from_residual-in_err-variable-in-Forall.result _ c.from_residual-in_err-variable-in-Forall.ensures.0
+
+pub returns-in_err-variable-in-Forall-clause-more : goal.returns-in_err-variable-in-Forall-clause-more
+returns-in_err-variable-in-Forall-clause-more c =
+    IfOk-from_err c.from_residual-in_err-variable-in-Forall.result _ c.from_residual-in_err-variable-in-Forall.ensures.0
+
+pub returns-in_err-push-in-Forall-clause-opened : goal.returns-in_err-push-in-Forall-clause-opened
+returns-in_err-push-in-Forall-clause-opened c = IfOk-from_err c.from_residual-in_err-push-in-Forall.result _ c.from_residual-in_err-push-in-Forall.ensures.0
+
+pub returns-in_err-push-in-Forall-clause-frames : goal.returns-in_err-push-in-Forall-clause-frames
+returns-in_err-push-in-Forall-clause-frames c = IfOk-from_err c.from_residual-in_err-push-in-Forall.result _ c.from_residual-in_err-push-in-Forall.ensures.0
+
+pub returns-in_err-push-in-Forall-clause-more : goal.returns-in_err-push-in-Forall-clause-more
+returns-in_err-push-in-Forall-clause-more c = IfOk-from_err c.from_residual-in_err-push-in-Forall.result _ c.from_residual-in_err-push-in-Forall.ensures.0

@@ -1,4 +1,5 @@
 use Rattle.std.proofs.Common.{refl, ap, ◌∙◌, ◌∷◌}
+use Rattle.std.proofs.lemmas.Result.{IfOk-from_err}
 use Rattle.ll_agenda.specs.Frames.{items_at}
 use Rattle.ll_agenda.proofs.CallerLemmas.{Extends-trans}
 use Rattle.ll_freeze.specs.declared.machine.Item.TheVariants.{Goal, Mid}
@@ -27,3 +28,21 @@ pub returns-clause-later : goal.returns-clause-later
 returns-clause-later c =
     let e = Extends-trans c.push.ensures.keeps c.push-2.ensures.keeps in
     later_frames c.args.machine.now _ refl refl refl c.with_mid.ensures.marks e.more e.frames refl refl
+
+pub returns-in_err-half-clause-reaches : goal.returns-in_err-half-clause-reaches
+returns-in_err-half-clause-reaches c = IfOk-from_err c.from_residual.result _ c.from_residual.ensures.0
+
+pub returns-in_err-half-clause-later : goal.returns-in_err-half-clause-later
+returns-in_err-half-clause-later c = IfOk-from_err c.from_residual.result _ c.from_residual.ensures.0
+
+pub returns-in_err-end-clause-reaches : goal.returns-in_err-end-clause-reaches
+returns-in_err-end-clause-reaches c = IfOk-from_err c.from_residual-in_err-end.result _ c.from_residual-in_err-end.ensures.0
+
+pub returns-in_err-end-clause-later : goal.returns-in_err-end-clause-later
+returns-in_err-end-clause-later c = IfOk-from_err c.from_residual-in_err-end.result _ c.from_residual-in_err-end.ensures.0
+
+pub returns-in_err-machine-clause-reaches : goal.returns-in_err-machine-clause-reaches
+returns-in_err-machine-clause-reaches c = IfOk-from_err c.from_residual-in_err-machine.result _ c.from_residual-in_err-machine.ensures.0
+
+pub returns-in_err-machine-clause-later : goal.returns-in_err-machine-clause-later
+returns-in_err-machine-clause-later c = IfOk-from_err c.from_residual-in_err-machine.result _ c.from_residual-in_err-machine.ensures.0

@@ -1,4 +1,5 @@
 use Rattle.std.proofs.Common.{false, refl, ap, ◌∙◌, ◌∷◌}
+use Rattle.std.proofs.lemmas.Result.{IfOk-from_err}
 use Rattle.ll_agenda.specs.Frames.{items_at}
 use Rattle.ll_resources.specs.Resources.{load_end, with_end}
 use Rattle.ll_freeze.specs.Parts.{parts_of}
@@ -84,3 +85,39 @@ returns-in-Goal-clause-later c = later_same c.args.machine.now
 
 pub returns-in_ok-second_side-in-Mid-clause-later : goal.returns-in_ok-second_side-in-Mid-clause-later
 returns-in_ok-second_side-in-Mid-clause-later c = c.in_ok-second_side-in-Mid.ensures.later
+
+pub returns-in_err-close-in-LolliEnd-clause-works : goal.returns-in_err-close-in-LolliEnd-clause-works
+returns-in_err-close-in-LolliEnd-clause-works c = IfOk-from_err c.from_residual.result _ c.from_residual.ensures.0
+
+pub returns-in_err-close-in-LolliEnd-clause-later : goal.returns-in_err-close-in-LolliEnd-clause-later
+returns-in_err-close-in-LolliEnd-clause-later c = IfOk-from_err c.from_residual.result _ c.from_residual.ensures.0
+
+pub returns-in_err-close-in-ImpEnd-clause-works : goal.returns-in_err-close-in-ImpEnd-clause-works
+returns-in_err-close-in-ImpEnd-clause-works c = IfOk-from_err c.from_residual-in_err-close-in-ImpEnd.result _ c.from_residual-in_err-close-in-ImpEnd.ensures.0
+
+pub returns-in_err-close-in-ImpEnd-clause-later : goal.returns-in_err-close-in-ImpEnd-clause-later
+returns-in_err-close-in-ImpEnd-clause-later c = IfOk-from_err c.from_residual-in_err-close-in-ImpEnd.result _ c.from_residual-in_err-close-in-ImpEnd.ensures.0
+
+pub returns-in_err-second_side-in-Mid-clause-works : goal.returns-in_err-second_side-in-Mid-clause-works
+returns-in_err-second_side-in-Mid-clause-works c =
+    IfOk-from_err c.from_residual-in_err-second_side-in-Mid.result _ c.from_residual-in_err-second_side-in-Mid.ensures.0
+
+pub returns-in_err-second_side-in-Mid-clause-later : goal.returns-in_err-second_side-in-Mid-clause-later
+returns-in_err-second_side-in-Mid-clause-later c =
+    IfOk-from_err c.from_residual-in_err-second_side-in-Mid.result _ c.from_residual-in_err-second_side-in-Mid.ensures.0
+
+pub returns-in_err-with_end-in-WithEnd-clause-works : goal.returns-in_err-with_end-in-WithEnd-clause-works
+returns-in_err-with_end-in-WithEnd-clause-works c =
+    IfOk-from_err c.from_residual-in_err-with_end-in-WithEnd.result _ c.from_residual-in_err-with_end-in-WithEnd.ensures.0
+
+pub returns-in_err-with_end-in-WithEnd-clause-later : goal.returns-in_err-with_end-in-WithEnd-clause-later
+returns-in_err-with_end-in-WithEnd-clause-later c =
+    IfOk-from_err c.from_residual-in_err-with_end-in-WithEnd.result _ c.from_residual-in_err-with_end-in-WithEnd.ensures.0
+
+pub returns-in_err-bang_end-in-BangEnd-clause-works : goal.returns-in_err-bang_end-in-BangEnd-clause-works
+returns-in_err-bang_end-in-BangEnd-clause-works c =
+    IfOk-from_err c.from_residual-in_err-bang_end-in-BangEnd.result _ c.from_residual-in_err-bang_end-in-BangEnd.ensures.0
+
+pub returns-in_err-bang_end-in-BangEnd-clause-later : goal.returns-in_err-bang_end-in-BangEnd-clause-later
+returns-in_err-bang_end-in-BangEnd-clause-later c =
+    IfOk-from_err c.from_residual-in_err-bang_end-in-BangEnd.result _ c.from_residual-in_err-bang_end-in-BangEnd.ensures.0

@@ -1,6 +1,5 @@
-use Rattle.std.proofs.Common.{◌∙◌, sym, arith, ◌+◌, drop}
+use Rattle.std.proofs.Common.{◌∙◌, arith, ◌+◌}
 use Rattle.std.proofs.lemmas.Bool.{ne_eqb}
-use Rattle.ll_laws.specs.Attempt.{entry_at}
 use Rattle.ll_resources.specs.Seen.{resource}
 use Rattle.ll_engine.proofs.inferences.TakeLemmas.{passed, place_there}
 use Rattle.ll_engine.proofs.take.place_with.Goals as goal

@@ -1,5 +1,6 @@
 use Rattle.std.proofs.Common.{◌≡◌, ℕ, suc, ◌+◌, ◌-◌, ◌<◌, ◌≤◌, [], refl, ap, sym, subst, ◌∙◌, arith}
 use Rattle.std.proofs.lemmas.List.{append-nil}
+use Rattle.std.proofs.lemmas.Result.{IfOk-from_err}
 use Rattle.ll_bank.specs.Nodes.{Nodes, Extends}
 use Rattle.ll_laws.specs.Attempt.{vars_from}
 use Rattle.ll_store.specs.Tables.{table_of}
@@ -137,3 +138,33 @@ returns-clause-later c =
     later_of m _ refl refl (store_then _ _ _ (store_then _ _ _
     (store_extends m.store (record (m.store) { bank = c.open_leaf.new.bank }) c.in_ok-opened.ensures.keeps refl) c.add_cells.ensures.marks)
     c.unify_leaf.ensures.marks) c.use_entry.ensures.marks e.more e.frames t.more t.is _ c.in_ok-push.ensures.items
+
+pub returns-in_err-opened-clause-attempts : goal.returns-in_err-opened-clause-attempts
+returns-in_err-opened-clause-attempts c = IfOk-from_err c.from_residual.result _ c.from_residual.ensures.0
+
+pub returns-in_err-opened-clause-later : goal.returns-in_err-opened-clause-later
+returns-in_err-opened-clause-later c = IfOk-from_err c.from_residual.result _ c.from_residual.ensures.0
+
+pub returns-in_err-add_cells-clause-attempts : goal.returns-in_err-add_cells-clause-attempts
+returns-in_err-add_cells-clause-attempts c = IfOk-from_err c.from_residual-in_err-add_cells.result _ c.from_residual-in_err-add_cells.ensures.0
+
+pub returns-in_err-add_cells-clause-later : goal.returns-in_err-add_cells-clause-later
+returns-in_err-add_cells-clause-later c = IfOk-from_err c.from_residual-in_err-add_cells.result _ c.from_residual-in_err-add_cells.ensures.0
+
+pub returns-in_err-unify_leaf-clause-attempts : goal.returns-in_err-unify_leaf-clause-attempts
+returns-in_err-unify_leaf-clause-attempts c = IfOk-from_err c.from_residual-in_err-unify_leaf.result _ c.from_residual-in_err-unify_leaf.ensures.0
+
+pub returns-in_err-unify_leaf-clause-later : goal.returns-in_err-unify_leaf-clause-later
+returns-in_err-unify_leaf-clause-later c = IfOk-from_err c.from_residual-in_err-unify_leaf.result _ c.from_residual-in_err-unify_leaf.ensures.0
+
+pub returns-in_err-use_entry-clause-attempts : goal.returns-in_err-use_entry-clause-attempts
+returns-in_err-use_entry-clause-attempts c = IfOk-from_err c.from_residual-in_err-use_entry.result _ c.from_residual-in_err-use_entry.ensures.0
+
+pub returns-in_err-use_entry-clause-later : goal.returns-in_err-use_entry-clause-later
+returns-in_err-use_entry-clause-later c = IfOk-from_err c.from_residual-in_err-use_entry.result _ c.from_residual-in_err-use_entry.ensures.0
+
+pub returns-in_err-push-clause-attempts : goal.returns-in_err-push-clause-attempts
+returns-in_err-push-clause-attempts c = IfOk-from_err c.from_residual-in_err-push.result _ c.from_residual-in_err-push.ensures.0
+
+pub returns-in_err-push-clause-later : goal.returns-in_err-push-clause-later
+returns-in_err-push-clause-later c = IfOk-from_err c.from_residual-in_err-push.result _ c.from_residual-in_err-push.ensures.0

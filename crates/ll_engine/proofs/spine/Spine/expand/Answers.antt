@@ -1,7 +1,9 @@
 use Rattle.std.proofs.Common.{◌∙◌, ◌++◌, ◌∷◌, []}
+use Rattle.ll_lists.proofs.CallerLemmas.{IfOk-each}
 use Rattle.ll_freeze.specs.Parts.{parts_of}
 use Rattle.ll_engine.specs.Matches.{all_found}
-use Rattle.ll_engine.specs.Pointed.{spine_of, first_of, helds}
+use Rattle.ll_engine.specs.Pointed.{ChoseOf, spine_of, first_of, helds}
+use Rattle.ll_engine.specs.Turned.{Expands}
 use Rattle.ll_engine.proofs.turns.Pointing.{are_tries, expands, expands_none, first_last}
 use Rattle.ll_engine.proofs.spine.Spine.expand.Goals as goal
 
@@ -12,11 +14,12 @@ choose-requires-clause-tries c =
 
 pub returns-clause-expands : goal.returns-clause-expands
 returns-clause-expands c =
-    let z = c.args.self.now in
-    expands (first_of z) z.problem.now (parts_of z.machine) (helds z.machine z.points.items) (spine_of c.choose.new.self)
-    (c.in-Some.untried.items ++ c.in-Some.candidate ∷ []) c.in_ok-running.running
+    let z = c.args.self.now in let cs = c.in-Some.untried.items ++ c.in-Some.candidate ∷ [] in
+    IfOk-each c.choose.result (λ running. ChoseOf z cs running c.choose.new.self) (λ running. Expands (spine_of z) running (spine_of c.choose.new.self))
+    (λ running e. expands (first_of z) z.problem.now (parts_of z.machine) (helds z.machine z.points.items) (spine_of c.choose.new.self) cs running
     c.requires.sound.sound.machine.0 c.requires.left (first_last (all_found c.in_ok-found.found) c.in-Some.untried.items c.in-Some.candidate
-    c.in-Some.ensures.some ∙ c.in_ok-found.ensures) c.in_ok-running.ensures.chose
+    c.in-Some.ensures.some ∙ c.in_ok-found.ensures) e)
+    c.choose.ensures.chose
 
 pub returns-in_default-clause-expands : goal.returns-in_default-clause-expands
 returns-in_default-clause-expands c =
@@ -33,3 +36,6 @@ returns-in_default-clause-sound c =
       based =
           c.requires.sound.based;
     }
+
+pub returns-clause-sound : goal.returns-clause-sound
+returns-clause-sound c = c.choose.ensures.sound

@@ -1,11 +1,12 @@
-use Rattle.std.proofs.Common.{◌≡◌, sym, subst, false, List, [], ◌∷◌, ◌++◌, reverse, ◌-◌}
+use Rattle.std.proofs.Common.{◌≡◌, sym, subst, Bool, false, List, [], ◌∷◌, ◌++◌, reverse, ◌-◌}
+use Rattle.ll_lists.proofs.CallerLemmas.{IfOk-each}
 use Rattle.ll_freeze.specs.Parts.{Parts, parts_of}
 use Rattle.ll_engine.specs.declared.spine.Kept.{Kept}
 use Rattle.ll_engine.specs.declared.spine.Spine.{Spine as Stored}
 use Rattle.ll_engine.specs.Pointed.{Held, held_of, helds, spine_at, spine_of, first_of, points_of, IsOpen, AreTries, AreKept, IsSound}
 use Rattle.ll_laws.specs.declared.Candidate.{Candidate}
 use Rattle.ll_freeze.specs.Shown.{state_of}
-use Rattle.ll_engine.specs.Turned.{Chose}
+use Rattle.ll_engine.specs.Turned.{Chose, Retries}
 use Rattle.ll_engine.proofs.machine.Basing.{based_undone}
 use Rattle.ll_engine.proofs.turns.Pointing.{Popped, popped, none_left, helds_undone, marks_undone, retries_by}
 use Rattle.ll_engine.proofs.spine.Spine.retry.Goals as goal
@@ -59,10 +60,15 @@ returns-clause-retries c =
     let z = c.args.self.now in
     let w = newest c.args.self.now c.pop_back.new.self.items c.in-Some.kept c.in-Some.ensures.items c.requires.sound in
     let m = parts_of c.undo.new.self in let ps = helds c.undo.new.self c.pop_back.new.self.items in
-    let chose =
-    subst (λ (cs : List Candidate). Chose (spine_at (first_of z) z.problem.now m ps) (state_of m) (c.undo.new.self.left - 1) (reverse cs) (points_of ps)
-    c.in_ok-running.running (spine_of c.choose.new.self))
-    (sym c.in-Some-pop.ensures.items) c.in_ok-running.ensures.chose in
-    retries_by (first_of z) z.problem.now (parts_of z.machine) m (helds z.machine z.points.items) (helds z.machine c.pop_back.new.self.items) ps
-    (held_of z.machine c.in-Some.kept) c.in_ok-running.running (spine_of c.choose.new.self) w.list c.undo.ensures.parts
-    (helds_undone z.machine c.undo.new.self c.in-Some.kept.mark c.pop_back.new.self.items c.undo.ensures.marks w.goods w.before) chose
+    let Chosen : List Candidate → Bool → Type 0 = λ cs running.
+    Chose (spine_at (first_of z) z.problem.now m ps) (state_of m) (c.undo.new.self.left - 1) (reverse cs) (points_of ps) running (spine_of c.choose.new.self) in
+    IfOk-each c.choose.result (Chosen (c.pop.new.self.items ++ c.in-Some-pop.candidate ∷ []))
+    (λ running. Retries (spine_of z) running (spine_of c.choose.new.self))
+    (λ running e. retries_by (first_of z) z.problem.now (parts_of z.machine) m (helds z.machine z.points.items) (helds z.machine c.pop_back.new.self.items) ps
+    (held_of z.machine c.in-Some.kept) running (spine_of c.choose.new.self) w.list c.undo.ensures.parts
+    (helds_undone z.machine c.undo.new.self c.in-Some.kept.mark c.pop_back.new.self.items c.undo.ensures.marks w.goods w.before)
+    (subst (λ (cs : List Candidate). Chosen cs running) (sym c.in-Some-pop.ensures.items) e))
+    c.choose.ensures.chose
+
+pub returns-clause-sound : goal.returns-clause-sound
+returns-clause-sound c = c.choose.ensures.sound

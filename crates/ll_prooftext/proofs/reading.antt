@@ -13,3 +13,5 @@ pub mod SoFarOver
 pub mod TakesOver
 pub mod TakesRead
 pub mod Whole
+pub mod Calls
+pub mod LaterWords

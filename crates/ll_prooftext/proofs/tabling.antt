@@ -3,3 +3,4 @@ pub mod Classing
 pub mod RowsInPlace
 pub mod TableSteps
 pub mod TableTerms
+pub mod Tasks

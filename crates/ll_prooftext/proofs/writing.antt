@@ -5,3 +5,4 @@ pub mod ShortLines
 pub mod Sizing
 pub mod WholeText
 pub mod Writing
+pub mod Signs

@@ -1,6 +1,8 @@
 -- A text on its way: the lines that are still to come, and what was read of them.
-use Rattle.std.specs.Prelude.{◌≡◌, ℕ, ◌+◌, ◌-◌, ◌<◌, ◌≤◌, List, [], ◌∷◌, ◌++◌, length, fold, ◌⊎◌}
+use Rattle.std.specs.Prelude.{◌≡◌, ℕ, ◌+◌, ◌-◌, ◌<◌, ◌≤◌, List, [], ◌∷◌, ◌++◌, length, map, fold, ◌⊎◌}
 use Rattle.ll_bank.specs.declared.At.{At}
+use Rattle.ll_bank.specs.Nodes.{term_trees}
+use Rattle.ll_laws.specs.Line.{DerivationLines}
 use Rattle.ll_laws.specs.ShownLines.{line_of}
 use Rattle.ll_laws.specs.declared.Rule.{Rule}
 use Rattle.ll_lexer.specs.declared.Place.{Place}
@@ -65,6 +67,10 @@ pub record IsBehindVersion (first text : List ℕ) (p : Lines) : Type 0 where
   pub low : p.at.line + length p.rest.now ≤ 1 + length text
 
 -- ---- what was read
+
+-- the derivation as far as it was read
+abbrev pub read_so_far : Reading → DerivationLines
+read_so_far o = record { asked = term_trees o.bank o.asked.items; nodes = map (line_of o.bank) o.nodes.items }
 
 -- a line was added
 pub data Takes (names : List (List ℕ)) (o : Reading) (bytes : List ℕ) (new : List (List ℕ)) (p : Reading) : Type 0 where

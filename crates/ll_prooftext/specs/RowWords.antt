@@ -1,9 +1,10 @@
 -- The first words of lines, and what a line behind the first one says.
-use Rattle.std.specs.Prelude.{◌≡◌, ℕ, ◌+◌, ◌-◌, ◌<◌, ◌≤◌, ◌^◌, Bool, true, List, ◌++◌, length, map, All, IsTrue, Option, Some, None, codes, if◌then◌else◌, ◌==◌}
+use Rattle.std.specs.Prelude.{◌≡◌, ℕ, ◌+◌, ◌-◌, ◌<◌, ◌≤◌, ◌^◌, Bool, true, false, List, ◌++◌, length, map, All, IsTrue, Option, Some, None, codes, decimal}
+use Rattle.std.specs.Prelude.{if◌then◌else◌, ◌==◌}
 use Rattle.std.specs.List.{list_all}
 use Rattle.ll_bank.specs.Nodes.{Nodes, term_tree}
 use Rattle.ll_laws.specs.Line.{rises, part_rises}
-use Rattle.ll_laws.specs.ProofText.{term_field, node_text}
+use Rattle.ll_laws.specs.ProofText.{field, term_field, node_text}
 use Rattle.ll_laws.specs.ShownLines.{line_of, part_line}
 use Rattle.ll_laws.specs.declared.Rule.{Rule}
 use Rattle.ll_laws.specs.declared.Rule.TheVariants as rule
@@ -55,6 +56,13 @@ asks word.Bang = Nothing
 asks word.Use = Nothing
 asks word.Num = Nothing
 
+-- at most a number follows the first word
+abbrev pub is_short : NodeWord → Bool
+is_short word.Tensor = false
+is_short word.Exists = false
+is_short word.Clause = false
+is_short _ = true
+
 -- the first word of a node's line
 pub record IsNodeWord (w : List ℕ) (k : NodeWord) : Type 0 where
   pub is : w ≡ spelling k
@@ -100,6 +108,20 @@ pub record IsNodeRow (names : List (List ℕ)) (bank : Nodes) (bytes : List ℕ)
   pub good : IsGoodRule new over r
   pub is : bytes ≡ node_text new (line_of over r)
   pub moves : MovesLine names bank bytes new over
+
+-- the line of a node without terms, over any names and terms
+abbrev pub IsShortRow : List ℕ → Rule → Type 0
+IsShortRow bytes r = (names : List (List ℕ)) (bank : Nodes) → IsNodeRow names bank bytes names bank r
+
+-- the rule of a first word and the number behind it
+pub record IsNumberedRule (k : NodeWord) (n : ℕ) (r : Rule) : Type 0 where
+  pub good : (names : List (List ℕ)) (bank : Nodes) → n < 2 ^ 32 → IsGoodRule names bank r
+  pub is : (names : List (List ℕ)) (bank : Nodes) → node_text names (line_of bank r) ≡ spelling k ++ field (decimal n)
+
+-- the rule of a first word behind which nothing stands
+pub record IsBareRule (k : NodeWord) (r : Rule) : Type 0 where
+  pub good : (names : List (List ℕ)) (bank : Nodes) → IsGoodRule names bank r
+  pub is : (names : List (List ℕ)) (bank : Nodes) → spelling k ≡ node_text names (line_of bank r)
 
 -- the line of a variable of the query, where it may stand
 pub record IsLetRow (names : List (List ℕ)) (bank : Nodes) (bytes : List ℕ) (lets : Bool) (new : List (List ℕ)) (over : Nodes) (at : ℕ) : Type 0 where

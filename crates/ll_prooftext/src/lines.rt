@@ -131,14 +131,6 @@ fn write_fields(
     ensures begun { BeginsText (fields_text names.now (line_of bank.now node.now)) out.old.items out.new.items }
 {
     match node {
-        Rule::One
-        | Rule::Erase
-        | Rule::With
-        | Rule::Left
-        | Rule::Right
-        | Rule::Bang
-        | Rule::Use
-        | Rule::Num => Ok(()),
         Rule::Tensor(first, second) => {
             write_set_field(first, out)?;
             write_set_field(second, out)?;
@@ -160,5 +152,6 @@ fn write_fields(
             write_part_fields(parts, out)?;
             Ok(())
         }
+        _ => Ok(()),
     }
 }

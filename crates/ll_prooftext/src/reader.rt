@@ -1,14 +1,14 @@
 //! The text of a derivation, read line by line.
 ghost use Rattle.std.specs.Prelude.{◌≡◌, ◌+◌, ◌<◌, ◌≤◌, ◌^◌, [], length, IfOk, IfErr, OnOk, MatchOption};
 ghost use Rattle.ll_bank.specs.Names.{with_names};
-ghost use Rattle.ll_bank.specs.Nodes.{Nodes};
-ghost use Rattle.ll_laws.specs.ShownLines.{line_of};
+ghost use Rattle.ll_bank.specs.Nodes.{Nodes, AllInTerms};
+ghost use Rattle.ll_laws.specs.ShownLines.{line_of, HasLines};
 ghost use Rattle.ll_lexer.specs.Reading.{place_at};
 ghost use Rattle.ll_prooftext.specs.Terms.{Grows};
 ghost use Rattle.ll_prooftext.specs.Mentions.{text_names};
 ghost use Rattle.ll_prooftext.specs.Reading.{IsTextOf, IsCause, HasNoVersion, text_lines, is_none, children, want};
 ghost use Rattle.ll_prooftext.specs.RowWords.{IsRefused};
-ghost use Rattle.ll_prooftext.specs.Reader.{fault_at, refused_fault, IsWithin, IsNext, TakesLine, HasNoLine, IsBehindVersion, Takes};
+ghost use Rattle.ll_prooftext.specs.Reader.{fault_at, refused_fault, IsWithin, IsNext, TakesLine, HasNoLine, IsBehindVersion, read_so_far, Takes};
 
 use crate::bytes::{behind, split_before};
 use crate::rows::{Refusal, Row, read_row};
@@ -62,21 +62,8 @@ pub fn read(alloc: Global, text: &[u8], names: &mut Names) -> Result<Derivation,
     ensures err { IfErr result (IsCause text.now) }
     ensures grows { Grows names.old names.new }
 {
-    let Some(mut lines) = behind_version(text, b"proof 1") else {
-        return Err(fault(1, 1, MALFORMED_FIELD));
-    };
     let mut reading = Reading::new(alloc);
-    while let Some(line) = lines.next() {
-        if reading.lacking == 0 {
-            return Err(fault(line.number, 1, NODES_LEFT_OVER));
-        }
-        if let Err(refusal) = reading.take(alloc, line.bytes, names) {
-            return Err(line_fault(line, refusal));
-        }
-    }
-    if reading.lacking > 0 {
-        return Err(fault(lines.at.line, lines.at.column, NODES_MISSING));
-    }
+    reading.fill(alloc, text, names)?;
     Ok(Derivation {
         bank: reading.bank,
         asked: reading.asked,
@@ -169,6 +156,37 @@ impl Reading {
             nodes: Vec::new(alloc),
             lacking: 1,
         }
+    }
+
+    /// Takes all lines of a text.
+    fn fill(&mut self, alloc: Global, text: &[u8], names: &mut Names) -> Result<(), TextFault>
+        requires short { length text.now ≤ 16777216 }
+        requires room { length names.old + length text.now < 2 ^ 32 }
+        requires asked { self.old.asked.items ≡ [] }
+        requires nodes { self.old.nodes.items ≡ [] }
+        requires lacking { self.old.lacking ≡ 1 }
+        ensures ok { OnOk result (IsTextOf names.new text.now (read_so_far self.new)) }
+        ensures terms { OnOk result (AllInTerms self.new.bank self.new.asked.items) }
+        ensures rules { OnOk result (HasLines self.new.bank self.new.nodes.items) }
+        ensures names { OnOk result (names.new ≡ with_names names.old (text_names text.now)) }
+        ensures err { IfErr result (IsCause text.now) }
+        ensures grows { Grows names.old names.new }
+    {
+        let Some(mut lines) = behind_version(text, b"proof 1") else {
+            return Err(fault(1, 1, MALFORMED_FIELD));
+        };
+        while let Some(line) = lines.next() {
+            if self.lacking == 0 {
+                return Err(fault(line.number, 1, NODES_LEFT_OVER));
+            }
+            if let Err(refusal) = self.take(alloc, line.bytes, names) {
+                return Err(line_fault(line, refusal));
+            }
+        }
+        if self.lacking > 0 {
+            return Err(fault(lines.at.line, lines.at.column, NODES_MISSING));
+        }
+        Ok(())
     }
 
     /// Takes a line.

@@ -1,7 +1,9 @@
 //! What a line of a derivation's text says, read field by field.
-ghost use Rattle.std.specs.Prelude.{◌≡◌, ◌+◌, ◌<◌, ◌^◌, [], ◌++◌, None, length, IfOk, IfErr, OnOk, MatchBool, MatchOption};
+ghost use Rattle.std.specs.Prelude.{◌≡◌, ◌+◌, ◌<◌, ◌^◌, true, [], ◌++◌, None, length, IfOk, IfErr, OnOk, MatchBool, MatchOption};
 ghost use Rattle.ll_prooftext.specs.Reading.{Number, Set, Argument, Arguments, Nothing, Then, IsAtEnd, want, listed, node_words};
-ghost use Rattle.ll_prooftext.specs.RowWords.{spelling, asks, IsNodeWord, IsRowWord, IsNodeRow, IsRow, IsRefused};
+ghost use Rattle.ll_prooftext.specs.RowWords.{spelling, asks, is_short, IsNodeWord, IsRowWord, IsNodeRow, IsShortRow, IsNumberedRule, IsBareRule, IsRow};
+ghost use Rattle.ll_prooftext.specs.RowWords.{IsRefused};
+ghost use Rattle.ll_prooftext.specs.LaterWords.{later_words};
 ghost use Rattle.ll_prooftext.specs.Terms.{Grows};
 ghost use Rattle.ll_prooftext.specs.Fields.{Refuses, LacksField, LacksPart, StopsAt, IsNumberField, IsSetField, IsPartField, IsTermField, IsTensor, HasNoTerm};
 ghost use Rattle.ll_prooftext.specs.Fields.{AreTermFields, ArePartFields, IsClause};
@@ -129,7 +131,16 @@ pub(crate) fn node_word(word: &[u8]) -> Option<NodeWord>
         Some(NodeWord::Right)
     } else if word == b"bang".as_slice() {
         Some(NodeWord::Bang)
-    } else if word == b"lolli".as_slice() {
+    } else {
+        later_word(word)
+    }
+}
+
+/// The first word of a node's line that is spelled so, one of those behind `bang` in the list.
+fn later_word(word: &[u8]) -> Option<NodeWord>
+    ensures { MatchOption result (listed later_words word.now ≡ None) (IsNodeWord word.now) }
+{
+    if word == b"lolli".as_slice() {
         Some(NodeWord::Lolli)
     } else if word == b"imp".as_slice() {
         Some(NodeWord::Imp)
@@ -164,31 +175,68 @@ pub(crate) fn node(
     ensures grows { Grows names.old names.new }
 {
     match word {
-        NodeWord::True => alone(rest, Rule::One),
-        NodeWord::Erase => alone(rest, Rule::Erase),
         NodeWord::Tensor => tensor(alloc, rest),
-        NodeWord::With => alone(rest, Rule::With),
-        NodeWord::Left => alone(rest, Rule::Left),
-        NodeWord::Right => alone(rest, Rule::Right),
-        NodeWord::Bang => alone(rest, Rule::Bang),
-        NodeWord::Lolli => Ok(Rule::Lolli(last_number(rest)?)),
-        NodeWord::Imp => Ok(Rule::Imp(last_number(rest)?)),
-        NodeWord::Forall => Ok(Rule::Forall(last_number(rest)?)),
         NodeWord::Exists => Ok(Rule::Exists(last_term(alloc, rest, names, bank)?)),
-        NodeWord::Use => alone(rest, Rule::Use),
-        NodeWord::Num => alone(rest, Rule::Num),
         NodeWord::Clause => clause(alloc, rest, names, bank),
+        _ => short_node(word, rest),
+    }
+}
+
+/// The node of a first word behind which at most a number stands.
+fn short_node(word: NodeWord, rest: &[u8]) -> Result<Rule, Refusal>
+    requires end { IsAtEnd rest.now }
+    requires short { is_short word ≡ true }
+    ensures ok { IfOk result (IsShortRow (spelling word ++ rest.now)) }
+    ensures err { IfErr result (Refuses (StopsAt (asks word) rest.now)) }
+{
+    if has_number(word) {
+        let number = last_number(rest)?;
+        return Ok(numbered_rule(word, number));
+    }
+    no_more(rest)?;
+    Ok(bare_rule(word))
+}
+
+/// Whether a number stands behind the first word.
+fn has_number(word: NodeWord) -> bool
+    requires { is_short word ≡ true }
+    ensures { MatchBool result (asks word ≡ Then Number Nothing) (asks word ≡ Nothing) }
+{
+    match word {
+        NodeWord::Lolli => true,
+        NodeWord::Imp => true,
+        NodeWord::Forall => true,
+        _ => false,
+    }
+}
+
+/// The rule of a first word and the number behind it.
+fn numbered_rule(word: NodeWord, number: u32) -> Rule
+    requires { asks word ≡ Then Number Nothing }
+    ensures { IsNumberedRule word number result }
+{
+    match word {
+        NodeWord::Lolli => Rule::Lolli(number),
+        NodeWord::Imp => Rule::Imp(number),
+        _ => Rule::Forall(number),
     }
 }
 
 /// The rule of a first word behind which nothing stands.
-fn alone(bytes: &[u8], rule: Rule) -> Result<Rule, Refusal>
-    requires { IsAtEnd bytes.now }
-    ensures ok { IfOk result (λ r. (r ≡ rule) × (bytes.now ≡ [])) }
-    ensures err { IfErr result (Refuses (StopsAt Nothing bytes.now)) }
+fn bare_rule(word: NodeWord) -> Rule
+    requires { asks word ≡ Nothing }
+    ensures { IsBareRule word result }
 {
-    no_more(bytes)?;
-    Ok(rule)
+    match word {
+        NodeWord::True => Rule::One,
+        NodeWord::Erase => Rule::Erase,
+        NodeWord::With => Rule::With,
+        NodeWord::Left => Rule::Left,
+        NodeWord::Right => Rule::Right,
+        NodeWord::Bang => Rule::Bang,
+        NodeWord::Use => Rule::Use,
+        _ => Rule::Num,
+    }
 }
 
 /// Two sets.

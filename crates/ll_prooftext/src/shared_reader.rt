@@ -50,25 +50,8 @@ pub fn read2(alloc: Global, text: &[u8], names: &mut Names) -> Result<Derivation
     ensures err { IfErr result (IsCause2 text.now) }
     ensures grows { Grows names.old names.new }
 {
-    let Some(mut lines) = behind_version(text, b"proof 2") else {
-        return Err(fault(1, 1, MALFORMED_FIELD));
-    };
     let mut reading = Sharing::new(alloc);
-    while let Some(line) = lines.next() {
-        if reading.lacking == 0 {
-            return Err(fault(line.number, 1, NODES_LEFT_OVER));
-        }
-        if let Err(refusal) = reading.take(alloc, line.bytes, names) {
-            return Err(line_fault(line, refusal));
-        }
-    }
-    if reading.lacking > 0 {
-        return Err(fault(lines.at.line, lines.at.column, NODES_MISSING));
-    }
-    let _count = names.len();
-    if let Some(row) = reading.off_row(alloc)? {
-        return Err(fault(row as u32 + 2, 1, OTHER_TABLE));
-    }
+    reading.fill(alloc, text, names)?;
     Ok(Derivation {
         bank: reading.bank,
         asked: reading.asked,
@@ -115,6 +98,42 @@ impl Sharing {
             nodes: Vec::new(alloc),
             lacking: 1,
         }
+    }
+
+    /// Takes all lines of a text.
+    fn fill(&mut self, alloc: Global, text: &[u8], names: &mut Names) -> Result<(), TextFault>
+        requires short { length text.now ≤ 16777216 }
+        requires room { length names.old + length text.now < 2 ^ 32 }
+        requires rows { self.old.rows.items ≡ [] }
+        requires asked { self.old.asked.items ≡ [] }
+        requires nodes { self.old.nodes.items ≡ [] }
+        requires lacking { self.old.lacking ≡ 1 }
+        ensures ok { OnOk result (IsText2Of names.new text.now (derivation_of self.new)) }
+        ensures terms { OnOk result (AllInTerms self.new.bank self.new.asked.items) }
+        ensures rules { OnOk result (HasLines self.new.bank self.new.nodes.items) }
+        ensures names { OnOk result (names.new ≡ with_names names.old (text_names text.now)) }
+        ensures err { IfErr result (IsCause2 text.now) }
+        ensures grows { Grows names.old names.new }
+    {
+        let Some(mut lines) = behind_version(text, b"proof 2") else {
+            return Err(fault(1, 1, MALFORMED_FIELD));
+        };
+        while let Some(line) = lines.next() {
+            if self.lacking == 0 {
+                return Err(fault(line.number, 1, NODES_LEFT_OVER));
+            }
+            if let Err(refusal) = self.take(alloc, line.bytes, names) {
+                return Err(line_fault(line, refusal));
+            }
+        }
+        if self.lacking > 0 {
+            return Err(fault(lines.at.line, lines.at.column, NODES_MISSING));
+        }
+        let _count = names.len();
+        if let Some(row) = self.off_row(alloc)? {
+            return Err(fault(row as u32 + 2, 1, OTHER_TABLE));
+        }
+        Ok(())
     }
 
     /// The lines that may still stand here.

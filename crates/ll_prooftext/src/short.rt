@@ -48,18 +48,7 @@ fn push_places(node: &Rule, places: &mut Vec<At>) -> Result<(), OutOfMemory>
             Ok(())
         }
         Rule::Clause { terms, .. } => places.extend_from_slice(terms),
-        Rule::One
-        | Rule::Erase
-        | Rule::Tensor(_, _)
-        | Rule::With
-        | Rule::Left
-        | Rule::Right
-        | Rule::Bang
-        | Rule::Lolli(_)
-        | Rule::Imp(_)
-        | Rule::Forall(_)
-        | Rule::Use
-        | Rule::Num => Ok(()),
+        _ => Ok(()),
     }
 }
 
@@ -274,18 +263,7 @@ fn write_node_line(
             write_fields(alloc, names, bank, fields, terms, out)?;
             write_part_fields(parts, out)?;
         }
-        Rule::One
-        | Rule::Erase
-        | Rule::Tensor(_, _)
-        | Rule::With
-        | Rule::Left
-        | Rule::Right
-        | Rule::Bang
-        | Rule::Lolli(_)
-        | Rule::Imp(_)
-        | Rule::Forall(_)
-        | Rule::Use
-        | Rule::Num => return write_plain_node(alloc, names, bank, node, out),
+        _ => return write_plain_node(alloc, names, bank, node, out),
     }
     out.push(b'\n')?;
     Ok(())

@@ -89,19 +89,7 @@ fn bracketed<'a>(
         top: Bracket::new(alloc),
         outer: Vec::new(alloc),
     };
-    let mut rest = inside;
-    loop {
-        match open.step(alloc, rest, names, bank)? {
-            Step::Stuck => return Ok(None),
-            Step::More(next) => rest = next,
-            Step::Whole(at, next) => {
-                if !is_at_end(next) {
-                    return Ok(None);
-                }
-                return Ok(Some((at, next)));
-            }
-        }
-    }
+    open.finish(alloc, inside, names, bank)
 }
 
 /// A head with arguments, or the term itself.
@@ -189,6 +177,38 @@ impl Bracket {
 }
 
 impl Open {
+    /// Takes all up to the end of the outermost bracket.
+    fn finish<'a>(
+        &mut self,
+        alloc: Global,
+        inside: &'a [u8],
+        names: &mut Names,
+        bank: &mut Bank,
+    ) -> Result<Option<(At, &'a [u8])>, OutOfMemory>
+        requires outer { self.old.outer.items ≡ [] }
+        requires items { self.old.top.items.items ≡ [] }
+        requires part { self.old.top.part ≡ None }
+        requires args { self.old.top.args.items ≡ [] }
+        requires room { length names.old + length inside.now < 2 ^ 32 }
+        ensures found { IfOk result (λ found. MatchOption found (HasNone Argument (40 ∷ inside.now))
+            (λ p. IsArgumentAt names.old bank.old (40 ∷ inside.now) names.new bank.new p.0.0 p.1.now)) }
+        ensures grows { Grows names.old names.new }
+    {
+        let mut rest = inside;
+        'steps: loop {
+            match self.step(alloc, rest, names, bank)? {
+                Step::Stuck => return Ok(None),
+                Step::More(next) => rest = next,
+                Step::Whole(at, next) => {
+                    if !is_at_end(next) {
+                        return Ok(None);
+                    }
+                    return Ok(Some((at, next)));
+                }
+            }
+        }
+    }
+
     /// Takes a word, a bracket, or the sign or space behind a part.
     fn step<'a>(
         &mut self,

@@ -19,11 +19,14 @@ use Rattle.ll_prooftext.specs.declared.rows.RowWord.{RowWord}
 use Rattle.ll_prooftext.specs.declared.rows.RowWord.TheVariants as first
 use Rattle.ll_prooftext.specs.declared.rows.Refusal.{Refusal}
 use Rattle.ll_prooftext.specs.declared.rows.Refusal.TheVariants as refusal
-use Rattle.ll_prooftext.specs.Reading.{Want, Nothing, Then, Argument, listed, node_words, want, first_word, IsStop, lacks, no_field, IsAtEnd, line_end, space}
+use Rattle.ll_prooftext.specs.Reading.{Want, Nothing, Then, Number, Argument, listed, node_words, want, first_word, IsStop, lacks, no_field, IsAtEnd}
+use Rattle.ll_prooftext.specs.Reading.{line_end, space}
 use Rattle.ll_prooftext.specs.Words.{is_not, Stops}
 use Rattle.ll_prooftext.specs.Terms.{MovesLine, argument_at}
 use Rattle.ll_prooftext.specs.Fields.{Refuses, StopsAt, IsBad, lacking, wrong, IsNumberField, IsTermField, IsTensor, IsClause}
-use Rattle.ll_prooftext.specs.RowWords.{spelling, asks, IsNodeWord, row_asks, IsRowWord, IsGoodRule, IsNodeRow, IsLetRow, bad_column, HasBadLeft, IsRefused}
+use Rattle.ll_prooftext.specs.RowWords.{spelling, asks, is_short, IsNodeWord, row_asks, IsRowWord, IsGoodRule, IsNodeRow, IsShortRow, IsNumberedRule}
+use Rattle.ll_prooftext.specs.RowWords.{IsBareRule}
+use Rattle.ll_prooftext.specs.RowWords.{IsLetRow, bad_column, HasBadLeft, IsRefused}
 use Rattle.ll_prooftext.specs.Mentions.{Outside, mentions}
 use Rattle.ll_prooftext.proofs.spelling.Found.{moves_none, moves_line}
 use Rattle.ll_prooftext.proofs.spelling.Kept.{args_fields}
@@ -107,7 +110,7 @@ quiet_line : (names : List (List ℕ)) (bank : Nodes) (w rest : List ℕ) → li
     → MovesLine names bank (w ++ rest) names bank
 quiet_line names bank w rest h s q = moves_line names bank w rest names bank h s (moves_none names bank bank rest (Extends-refl bank) q)
 
-pub alone_row : (names : List (List ℕ)) (bank : Nodes) (w rest : List ℕ) (r : Rule) → list_all (is_not 32) w ≡ true → w ≡ node_text names (line_of bank r)
+alone_row : (names : List (List ℕ)) (bank : Nodes) (w rest : List ℕ) (r : Rule) → list_all (is_not 32) w ≡ true → w ≡ node_text names (line_of bank r)
     → IsGoodRule names bank r → rest ≡ [] → IsNodeRow names bank (w ++ rest) names bank r
 alone_row names bank w rest r h e g n = record {
   good = g;
@@ -116,15 +119,28 @@ alone_row names bank w rest r h e g n = record {
       quiet_line names bank w rest h (subst IsAtEnd (sym n) line_end) (ap (mentions Outside) n ∙ nothing_mentions);
 }
 
+spelling_free : (k : NodeWord) → list_all (is_not 32) (spelling k) ≡ true
+spelling_free word.True = refl
+spelling_free word.Erase = refl
+spelling_free word.Tensor = refl
+spelling_free word.With = refl
+spelling_free word.Left = refl
+spelling_free word.Right = refl
+spelling_free word.Bang = refl
+spelling_free word.Lolli = refl
+spelling_free word.Imp = refl
+spelling_free word.Forall = refl
+spelling_free word.Exists = refl
+spelling_free word.Use = refl
+spelling_free word.Num = refl
+spelling_free word.Clause = refl
+
 -- a rule behind whose word nothing stands
-pub alone_rows : (names : List (List ℕ)) (bank : Nodes) (w rest : List ℕ) (r : Rule) (x : Result Rule Refusal) → list_all (is_not 32) w ≡ true
-    → w ≡ node_text names (line_of bank r) → IsGoodRule names bank r → IfOk x (λ s. (s ≡ r) × (rest ≡ []))
-    → IfOk x (IsNodeRow names bank (w ++ rest) names bank)
-alone_rows names bank w rest r x f e g h = if_ok x (λ s. (s ≡ r) × (rest ≡ [])) (IsNodeRow names bank (w ++ rest) names bank)
-    (λ s q. subst (IsNodeRow names bank (w ++ rest) names bank) (sym q.0) (alone_row names bank w rest r f e g q.1)) h
+pub bare_row : (k : NodeWord) (rest : List ℕ) (r : Rule) → IsBareRule k r → rest ≡ [] → IsShortRow (spelling k ++ rest) r
+bare_row k rest r b n names bank = alone_row names bank (spelling k) rest r (spelling_free k) (b.is names bank) (b.good names bank) n
 
 -- a rule with a number
-pub number_row : (names : List (List ℕ)) (bank : Nodes) (w rest : List ℕ) (n : ℕ) (r : Rule) → list_all (is_not 32) w ≡ true → IsNumberField rest n []
+number_row : (names : List (List ℕ)) (bank : Nodes) (w rest : List ℕ) (n : ℕ) (r : Rule) → list_all (is_not 32) w ≡ true → IsNumberField rest n []
     → node_text names (line_of bank r) ≡ w ++ field (decimal n) → (n < 2 ^ 32 → IsGoodRule names bank r) → IsNodeRow names bank (w ++ rest) names bank r
 number_row names bank w rest n r h f e g = record {
   good = g f.small;
@@ -135,6 +151,82 @@ number_row names bank w rest n r h f e g = record {
   where
     text : rest ≡ field (decimal n)
     text = f.is ∙ append-nil (field (decimal n))
+
+pub numbered_row : (k : NodeWord) (rest : List ℕ) (n : ℕ) (r : Rule) → IsNumberField rest n [] → IsNumberedRule k n r → IsShortRow (spelling k ++ rest) r
+numbered_row k rest n r f b names bank = number_row names bank (spelling k) rest n r (spelling_free k) f (b.is names bank) (b.good names bank)
+
+-- the same of what was read
+pub short_rows : (names : List (List ℕ)) (bank : Nodes) (bytes : List ℕ) (x : Result Rule Refusal) → IfOk x (IsShortRow bytes)
+    → IfOk x (IsNodeRow names bank bytes names bank)
+short_rows names bank bytes x h = if_ok x (IsShortRow bytes) (IsNodeRow names bank bytes names bank) (λ r f. f names bank) h
+
+-- words behind which at most a number stands
+pub short_kind : (k : NodeWord) → (k ≡ word.Tensor → ⊥) → (k ≡ word.Exists → ⊥) → (k ≡ word.Clause → ⊥) → is_short k ≡ true
+short_kind word.Tensor f g h = absurd (f refl)
+short_kind word.Exists f g h = absurd (g refl)
+short_kind word.Clause f g h = absurd (h refl)
+short_kind word.True f g h = refl
+short_kind word.Erase f g h = refl
+short_kind word.With f g h = refl
+short_kind word.Left f g h = refl
+short_kind word.Right f g h = refl
+short_kind word.Bang f g h = refl
+short_kind word.Lolli f g h = refl
+short_kind word.Imp f g h = refl
+short_kind word.Forall f g h = refl
+short_kind word.Use f g h = refl
+short_kind word.Num f g h = refl
+
+pub bare_kind : (k : NodeWord) → is_short k ≡ true → (k ≡ word.Lolli → ⊥) → (k ≡ word.Imp → ⊥) → (k ≡ word.Forall → ⊥) → asks k ≡ Nothing
+bare_kind word.Lolli s f g h = absurd (f refl)
+bare_kind word.Imp s f g h = absurd (g refl)
+bare_kind word.Forall s f g h = absurd (h refl)
+bare_kind word.Tensor s f g h = absurd cc
+bare_kind word.Exists s f g h = absurd cc
+bare_kind word.Clause s f g h = absurd cc
+bare_kind word.True s f g h = refl
+bare_kind word.Erase s f g h = refl
+bare_kind word.With s f g h = refl
+bare_kind word.Left s f g h = refl
+bare_kind word.Right s f g h = refl
+bare_kind word.Bang s f g h = refl
+bare_kind word.Use s f g h = refl
+bare_kind word.Num s f g h = refl
+
+-- the last word with a number
+pub forall_kind : (k : NodeWord) → asks k ≡ Then Number Nothing → (k ≡ word.Lolli → ⊥) → (k ≡ word.Imp → ⊥) → k ≡ word.Forall
+forall_kind word.Forall a f g = refl
+forall_kind word.Lolli a f g = absurd (f refl)
+forall_kind word.Imp a f g = absurd (g refl)
+forall_kind word.Tensor a f g = absurd cc
+forall_kind word.Exists a f g = absurd cc
+forall_kind word.Clause a f g = absurd cc
+forall_kind word.True a f g = absurd cc
+forall_kind word.Erase a f g = absurd cc
+forall_kind word.With a f g = absurd cc
+forall_kind word.Left a f g = absurd cc
+forall_kind word.Right a f g = absurd cc
+forall_kind word.Bang a f g = absurd cc
+forall_kind word.Use a f g = absurd cc
+forall_kind word.Num a f g = absurd cc
+
+-- the last word behind which nothing stands
+pub num_kind : (k : NodeWord) → asks k ≡ Nothing → (k ≡ word.True → ⊥) → (k ≡ word.Erase → ⊥) → (k ≡ word.With → ⊥) → (k ≡ word.Left → ⊥)
+    → (k ≡ word.Right → ⊥) → (k ≡ word.Bang → ⊥) → (k ≡ word.Use → ⊥) → k ≡ word.Num
+num_kind word.Num a b c d e f g h = refl
+num_kind word.True a b c d e f g h = absurd (b refl)
+num_kind word.Erase a b c d e f g h = absurd (c refl)
+num_kind word.With a b c d e f g h = absurd (d refl)
+num_kind word.Left a b c d e f g h = absurd (e refl)
+num_kind word.Right a b c d e f g h = absurd (f refl)
+num_kind word.Bang a b c d e f g h = absurd (g refl)
+num_kind word.Use a b c d e f g h = absurd (h refl)
+num_kind word.Tensor a b c d e f g h = absurd cc
+num_kind word.Lolli a b c d e f g h = absurd cc
+num_kind word.Imp a b c d e f g h = absurd cc
+num_kind word.Forall a b c d e f g h = absurd cc
+num_kind word.Exists a b c d e f g h = absurd cc
+num_kind word.Clause a b c d e f g h = absurd cc
 
 -- a term is the last field
 pub term_row : (names : List (List ℕ)) (bank : Nodes) (rest : List ℕ) (new : List (List ℕ)) (over : Nodes) (at : At)

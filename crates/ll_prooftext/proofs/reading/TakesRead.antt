@@ -8,8 +8,9 @@ use Rattle.ll_laws.specs.ShownLines.{line_of}
 use Rattle.ll_laws.specs.declared.Rule.{Rule}
 use Rattle.ll_lexer.specs.declared.Place.{Place}
 use Rattle.ll_prooftext.specs.declared.reader.Reading.{Reading}
-use Rattle.ll_prooftext.specs.Reading.{is_none, children}
-use Rattle.ll_prooftext.specs.RowWords.{IsNodeRow, IsLetRow}
+use Rattle.ll_prooftext.specs.Reading.{is_none, children, want}
+use Rattle.ll_prooftext.specs.RowWords.{IsNodeRow, IsLetRow, IsRefused}
+use Rattle.ll_prooftext.specs.declared.rows.Refusal.{Refusal}
 use Rattle.ll_prooftext.specs.Reader.{IsNext, Takes, variable, node}
 
 pub none_is : {X : Type 0} {b : Bool} (xs : List X) → b ≡ (length xs == 0) → is_none xs ≡ b
@@ -33,3 +34,8 @@ pub takes_node : (names : List (List ℕ)) (o : Reading) (line : List ℕ) (new 
     → IsNodeRow names o.bank line new p.bank r → p.nodes.items ≡ o.nodes.items ++ r ∷ [] → p.asked.items ≡ o.asked.items
     → ((bank : Nodes) → n ≡ children (line_of bank r)) → p.lacking ≡ o.lacking - 1 + n → Takes names o line new p
 takes_node names o line new p r n w m a c l = node r w m a (l ∙ ap (λ z. o.lacking - 1 + z) (c p.bank))
+
+-- a line that was refused
+pub takes_refused : (nodes : List Rule) (line : List ℕ) (k : ℕ) {b : Bool} (x : Refusal) → k ≡ length nodes → b ≡ (k == 0) → IsRefused (want b) line x
+    → IsRefused (want (is_none nodes)) line x
+takes_refused nodes line k x e t h = subst (λ z. IsRefused (want z) line x) (sym (none_is nodes (t ∙ ap (λ j. j == 0) e))) h

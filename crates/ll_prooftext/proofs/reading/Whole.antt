@@ -21,6 +21,7 @@ use Rattle.ll_laws.specs.declared.Rule.{Rule}
 use Rattle.ll_laws.specs.declared.Rule.TheVariants as rule
 use Rattle.ll_prooftext.specs.declared.reader.Lines.{Lines}
 use Rattle.ll_prooftext.specs.declared.reader.Reading.{Reading}
+use Rattle.ll_prooftext.specs.Reader.{read_so_far}
 use Rattle.ll_prooftext.specs.Admitted.{IsSpelledTerm, IsSpelledLine}
 use Rattle.ll_prooftext.specs.Reading.{text_lines, children, missing, Begins, IsTextOf}
 use Rattle.ll_prooftext.specs.Mentions.{line_names, text_names}
@@ -192,9 +193,6 @@ so_far_begins text old names o p rest k s r l = record {
   still = s.still ∙ ap (λ z. Some z) l;
 }
 
-abbrev pub shown : Reading → DerivationLines
-shown o = record { asked = term_trees o.bank o.asked.items; nodes = map (line_of o.bank) o.nodes.items }
-
 whole_text : (names : List (List ℕ)) (d : DerivationLines) → flat_map with_end
     (codes "proof 1" ∷ (map (λ t. codes "let" ++ term_field names t) d.asked ++ (map (node_text names) d.nodes ++ []))) ≡ proof_text names d
 whole_text names d =
@@ -210,11 +208,11 @@ whole_text names d =
 
 -- the text of what was read, once no line is left and no node lacks
 pub text_read : (text : List ℕ) (old names : List (List ℕ)) (o : Reading) (p : Lines) → IsSoFar text old names o p → p.rest.now ≡ [] → o.lacking ≡ 0
-    → IsTextOf names text (shown o)
+    → IsTextOf names text (read_so_far o)
 text_read text old names o p s r l =
     let b = so_far_begins text old names o p [] 0 s (ap text_lines r) l in
     let tree = one_tree (map (line_of o.bank) o.nodes.items) b.still in
-    let all : flat_map with_end (text_lines text) ≡ proof_text names (shown o) = ap (flat_map with_end) b.is ∙ whole_text names (shown o) in
+    let all : flat_map with_end (text_lines text) ≡ proof_text names (read_so_far o) = ap (flat_map with_end) b.is ∙ whole_text names (read_so_far o) in
     record {
       spelled = record {
         whole = record { tree = tree.tree; is_tree = tree.is; asked = b.closed; nodes = b.ordered };
@@ -224,9 +222,9 @@ text_read text old names o p s r l =
       is = by_end all (lines_back text);
     }
   where
-    by_end : flat_map with_end (text_lines text) ≡ proof_text names (shown o)
+    by_end : flat_map with_end (text_lines text) ≡ proof_text names (read_so_far o)
         → (text ≡ flat_map with_end (text_lines text)) ⊎ (text ++ 10 ∷ [] ≡ flat_map with_end (text_lines text))
-        → (text ≡ proof_text names (shown o)) ⊎ (text ++ 10 ∷ [] ≡ proof_text names (shown o))
+        → (text ≡ proof_text names (read_so_far o)) ⊎ (text ++ 10 ∷ [] ≡ proof_text names (read_so_far o))
     by_end e (inl f) = inl (f ∙ e)
     by_end e (inr f) = inr (f ∙ e)
 

@@ -1,12 +1,11 @@
 -- Signs, and the ends of brackets.
 use Rattle.std.proofs.Common.{◌≡◌, ℕ, ◌-◌, take, Bool, true, false, List, [], ◌∷◌, ◌++◌, length, map, reverse, All, refl, ap, sym, subst, ◌∙◌, arith, codes}
-use Rattle.std.proofs.Common.{append_assoc, append-nil, inr, Some, None, Ok, Err, Result, IfOk}
+use Rattle.std.proofs.Common.{append_assoc, append-nil, inr, Some, None}
 use Rattle.std.specs.Prelude.{◌||◌, not}
 use Rattle.std.specs.List.{flat_map}
 use Rattle.std.proofs.lemmas.List.Concat.{flat_map-append}
 use Rattle.std.proofs.lemmas.List.Elements.{All-head, All-tail, All-nil, All-cons}
 use Rattle.std.proofs.lemmas.Bool.{or_parts as parts_false}
-use Rattle.ll_lists.proofs.CallerLemmas.{IfOk-each as if_ok}
 use Rattle.ll_bank.specs.declared.At.{At}
 use Rattle.ll_bank.specs.declared.Head.{Head}
 use Rattle.ll_bank.specs.declared.Head.TheVariants.{Name}

@@ -1,3 +1,4 @@
+use Rattle.std.proofs.lemmas.Result.{IfOk-from_err}
 use Rattle.std.proofs.Common.{◌≡◌, List, ◌<◌, ◌++◌, length, map, All, ap, sym, subst, ◌∙◌, codes}
 use Rattle.std.specs.List.{flat_map}
 use Rattle.std.proofs.lemmas.List.Elements.{All-append}
@@ -84,3 +85,21 @@ returns c =
     ∙ (text2_is names d rows (c.in_ok-table.ensures.table.terms
     ∙ ap (λ ts. rows_in (flat_map completed ts)) (ap (term_trees bank) places ∙ fields_of bank asked nodes))
     ∙ ap (proof_text2 names) c.derivation.view_is)
+
+pub returns-in_err-places : goal.returns-in_err-places
+returns-in_err-places c = IfOk-from_err c.from_residual.result _ c.from_residual.ensures.0
+
+pub returns-in_err-table : goal.returns-in_err-table
+returns-in_err-table c = IfOk-from_err c.from_residual-in_err-table.result _ c.from_residual-in_err-table.ensures.0
+
+pub returns-in_err-extend_from_slice : goal.returns-in_err-extend_from_slice
+returns-in_err-extend_from_slice c = IfOk-from_err c.from_residual-in_err-extend_from_slice.result _ c.from_residual-in_err-extend_from_slice.ensures.0
+
+pub returns-in_err-write_shares : goal.returns-in_err-write_shares
+returns-in_err-write_shares c = IfOk-from_err c.from_residual-in_err-write_shares.result _ c.from_residual-in_err-write_shares.ensures.0
+
+pub returns-in_err-write_lets : goal.returns-in_err-write_lets
+returns-in_err-write_lets c = IfOk-from_err c.from_residual-in_err-write_lets.result _ c.from_residual-in_err-write_lets.ensures.0
+
+pub returns-in_err-write_node_lines : goal.returns-in_err-write_node_lines
+returns-in_err-write_node_lines c = IfOk-from_err c.from_residual-in_err-write_node_lines.result _ c.from_residual-in_err-write_node_lines.ensures.0

@@ -1,7 +1,7 @@
 -- A text over a table has one fault, also where a row is off.
 use Rattle.std.proofs.Common.{◌≡◌, ℕ, zero, suc, ◌+◌, ◌<◌, ◌≤◌, ◌^◌, Bool, true, false, List, [], ◌∷◌, ◌++◌, length, take, refl, ap, sym, subst, ◌∙◌, arith}
 use Rattle.std.proofs.Common.{codes, append-nil, length-append, Some, None, inl, inr, true≢false}
-use Rattle.std.specs.Prelude.{◌⊎◌, ◌&&◌, not, if◌then◌else◌, ◌==◌}
+use Rattle.std.specs.Prelude.{◌⊎◌, not, if◌then◌else◌, ◌==◌}
 use Rattle.std.specs.List.{IsDistinct, list_all, flat_map, slice_get}
 use Rattle.std.specs.Str.{bytes_eq}
 use Rattle.std.proofs.lemmas.List.Folds.{list_all-append}

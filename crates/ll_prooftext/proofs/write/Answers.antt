@@ -1,3 +1,4 @@
+use Rattle.std.proofs.lemmas.Result.{IfOk-from_err}
 use Rattle.std.proofs.Common.{List, ◌++◌, map, refl, ap, subst, ◌∙◌, codes}
 use Rattle.std.specs.List.{flat_map}
 use Rattle.ll_bank.specs.Term.{Term}
@@ -56,3 +57,12 @@ returns-clause-begun c =
     (ap (term_trees c.derivation.inside.bank) c.deref.ensures.value ∙ ap (λ (l : DerivationLines). l.asked) c.derivation.view_is))
     (c.in_ok-write_nodes.ensures.text ∙ ap (λ (ns : List Line). c.write_asked.new.out.items ++ flat_map (λ n. line (node_text c.args.names.now n)) ns)
     (ap (map (line_of c.derivation.inside.bank)) c.deref-2.ensures.value ∙ ap (λ (l : DerivationLines). l.nodes) c.derivation.view_is)))
+
+pub returns-in_err-write_version-clause-text : goal.returns-in_err-write_version-clause-text
+returns-in_err-write_version-clause-text c = IfOk-from_err c.from_residual.result _ c.from_residual.ensures.0
+
+pub returns-in_err-write_asked-clause-text : goal.returns-in_err-write_asked-clause-text
+returns-in_err-write_asked-clause-text c = IfOk-from_err c.from_residual-in_err-write_asked.result _ c.from_residual-in_err-write_asked.ensures.0
+
+pub returns-in_err-write_nodes-clause-text : goal.returns-in_err-write_nodes-clause-text
+returns-in_err-write_nodes-clause-text c = IfOk-from_err c.from_residual-in_err-write_nodes.result _ c.from_residual-in_err-write_nodes.ensures.0

@@ -1,3 +1,4 @@
+use Rattle.std.proofs.lemmas.Result.{IfOk-from_err, err_from_is_err_and}
 use Rattle.std.proofs.Common.{arith, length}
 use Rattle.ll_bank.specs.Nodes.{term_trees}
 use Rattle.ll_prooftext.specs.Reading.{Cell}
@@ -17,3 +18,24 @@ returns-in-None-clause-err c =
     nothing_there (Cell (length c.args.rows.now)) c.args.bytes.now c.in-Some.field.now c.in-Some.ensures
     (cell_none (length c.args.rows.now) c.in-Some.field.now c.split_before.result.0.now c.split_before.result.1.now (let l = c.requires.few in
     omega arith) c.split_before.ensures.is c.split_before.ensures.free c.split_before.ensures.stops (rw c.in-None.is at c.in_ok-at.ensures.found))
+
+pub returns-in_err-at-clause-ok : goal.returns-in_err-at-clause-ok
+returns-in_err-at-clause-ok c = IfOk-from_err c.from_residual.result _ c.from_residual.ensures.0
+
+pub returns-in_err-at-clause-err : goal.returns-in_err-at-clause-err
+returns-in_err-at-clause-err c = let p = err_from_is_err_and c.from_residual.result c.from_residual.ensures.1 in rw (p.1, p.2) tt
+
+pub returns-in_err-at-clause-grows : goal.returns-in_err-at-clause-grows
+returns-in_err-at-clause-grows c = c.cell_of.ensures.grows
+
+pub returns-in-Some-2-clause-grows : goal.returns-in-Some-2-clause-grows
+returns-in-Some-2-clause-grows c = c.cell_of.ensures.grows
+
+pub returns-in-None-clause-grows : goal.returns-in-None-clause-grows
+returns-in-None-clause-grows c = c.cell_of.ensures.grows
+
+pub cell_of-requires-clause-few : goal.cell_of-requires-clause-few
+cell_of-requires-clause-few c = c.requires.few
+
+pub cell_of-requires-clause-rows : goal.cell_of-requires-clause-rows
+cell_of-requires-clause-rows c = c.requires.rows

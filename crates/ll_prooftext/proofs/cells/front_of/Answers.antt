@@ -1,3 +1,4 @@
+use Rattle.std.proofs.lemmas.Result.{IfOk-from_err}
 use Rattle.std.proofs.Common.{sym, ◌∙◌}
 use Rattle.std.proofs.lemmas.Slice.Eq.{bytes_eq-Decides}
 use Rattle.ll_bank.proofs.CallerLemmas.{Extends-refl}
@@ -31,3 +32,30 @@ returns-in-None-clause-found c = (
   no_plain c.args.word.now (rw c.in-None.is at c.in_ok-head.ensures.found),
   λ e. other c.args.word.now c.as_slice.result.now c.if-eq.ensures (e ∙ sym c.as_slice.ensures),
 )
+
+pub returns-in_err-add-clause-found : goal.returns-in_err-add-clause-found
+returns-in_err-add-clause-found c = IfOk-from_err c.from_residual.result _ c.from_residual.ensures.0
+
+pub returns-in_err-add-clause-moves : goal.returns-in_err-add-clause-moves
+returns-in_err-add-clause-moves c = IfOk-from_err c.from_residual.result _ c.from_residual.ensures.0
+
+pub returns-in_err-head-clause-found : goal.returns-in_err-head-clause-found
+returns-in_err-head-clause-found c = IfOk-from_err c.from_residual-in_err-head.result _ c.from_residual-in_err-head.ensures.0
+
+pub returns-in_err-head-clause-moves : goal.returns-in_err-head-clause-moves
+returns-in_err-head-clause-moves c = IfOk-from_err c.from_residual-in_err-head.result _ c.from_residual-in_err-head.ensures.0
+
+pub returns-in_err-head-clause-grows : goal.returns-in_err-head-clause-grows
+returns-in_err-head-clause-grows c = c.word_of.ensures.grows
+
+pub returns-in-Some-Head-clause-grows : goal.returns-in-Some-Head-clause-grows
+returns-in-Some-Head-clause-grows c = c.word_of.ensures.grows
+
+pub returns-in-Some-Term-clause-grows : goal.returns-in-Some-Term-clause-grows
+returns-in-Some-Term-clause-grows c = c.word_of.ensures.grows
+
+pub returns-in-None-clause-grows : goal.returns-in-None-clause-grows
+returns-in-None-clause-grows c = c.word_of.ensures.grows
+
+pub word_of-requires : goal.word_of-requires
+word_of-requires c = c.requires

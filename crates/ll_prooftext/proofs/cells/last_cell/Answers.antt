@@ -1,5 +1,5 @@
 use Rattle.std.proofs.Common.{length}
-use Rattle.std.proofs.lemmas.Result.{err_from_is_err_and}
+use Rattle.std.proofs.lemmas.Result.{err_from_is_err_and, IfOk-from_err}
 use Rattle.std.proofs.lemmas.List.{length-map}
 use Rattle.ll_bank.specs.declared.At.{At}
 use Rattle.ll_bank.specs.Nodes.{term_tree, term_trees}
@@ -26,3 +26,21 @@ returns-in_err-no_more-clause-err c =
     c.cell_field.new.bank c.in_ok-at.at.0 c.in_ok-at.rest.now k (Then (Cell n) Nothing) Nothing
     (length-map c.args.rows.now (λ (a : At). term_tree c.args.bank.now a.0))
     (cell_then n Nothing) c.in_ok-at.ensures.ok h) c.in_err-no_more.field-0.0 c.in_err-no_more.ensures.err)
+
+pub returns-in_err-at-clause-ok : goal.returns-in_err-at-clause-ok
+returns-in_err-at-clause-ok c = IfOk-from_err c.from_residual.result _ c.from_residual.ensures.0
+
+pub returns-in_err-no_more-clause-ok : goal.returns-in_err-no_more-clause-ok
+returns-in_err-no_more-clause-ok c = IfOk-from_err c.from_residual-in_err-no_more.result _ c.from_residual-in_err-no_more.ensures.0
+
+pub returns-in_err-at-clause-grows : goal.returns-in_err-at-clause-grows
+returns-in_err-at-clause-grows c = c.cell_field.ensures.grows
+
+pub returns-in_err-no_more-clause-grows : goal.returns-in_err-no_more-clause-grows
+returns-in_err-no_more-clause-grows c = c.cell_field.ensures.grows
+
+pub returns-clause-grows : goal.returns-clause-grows
+returns-clause-grows c = c.cell_field.ensures.grows
+
+pub cell_field-requires : goal.cell_field-requires
+cell_field-requires c = record { end = c.requires.end; room = c.requires.room; few = c.requires.few; rows = c.requires.rows }

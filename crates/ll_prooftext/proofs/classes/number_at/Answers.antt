@@ -1,3 +1,4 @@
+use Rattle.std.proofs.lemmas.Result.{IfOk-from_err}
 use Rattle.std.proofs.Common.{arith, get_or}
 use Rattle.ll_bank.specs.Nodes.{term_tree}
 use Rattle.ll_prooftext.proofs.tabling.Classing.{number_more, number_stays}
@@ -13,3 +14,15 @@ loop-arg-preserved c =
     c.in_ok-number-in-App-2.number (get_or c.args.numbers.now arg 0) c.loop-arg.invariant c.in_ok-number-in-App-2.ensures.gain (record { 0 = 0 }) (omega arith)
     (number_stays c.args.signs.now.keys c.loop-arg.signs.keys c.loop-arg.invariant.gain (get_or c.args.numbers.now arg 0) (term_tree c.args.bank.now arg) here)
     c.in_ok-number-in-App-2.ensures.number
+
+pub returns-in_err-number-in-App-clause-gain : goal.returns-in_err-number-in-App-clause-gain
+returns-in_err-number-in-App-clause-gain c = IfOk-from_err c.from_residual.result _ c.from_residual.ensures.0
+
+pub returns-in_err-number-in-App-clause-number : goal.returns-in_err-number-in-App-clause-number
+returns-in_err-number-in-App-clause-number c = IfOk-from_err c.from_residual.result _ c.from_residual.ensures.0
+
+pub returns-in_err-number-in-App-2-clause-gain : goal.returns-in_err-number-in-App-2-clause-gain
+returns-in_err-number-in-App-2-clause-gain c = IfOk-from_err c.from_residual-in_err-number-in-App-2.result _ c.from_residual-in_err-number-in-App-2.ensures.0
+
+pub returns-in_err-number-in-App-2-clause-number : goal.returns-in_err-number-in-App-2-clause-number
+returns-in_err-number-in-App-2-clause-number c = IfOk-from_err c.from_residual-in_err-number-in-App-2.result _ c.from_residual-in_err-number-in-App-2.ensures.0

@@ -1,3 +1,4 @@
+use Rattle.std.proofs.lemmas.Result.{IfOk-from_err}
 use Rattle.std.proofs.Common.{ap, ◌∙◌, decimal}
 use Rattle.std.specs.List.{flat_map}
 use Rattle.ll_laws.specs.ProofText.{field, labels_text}
@@ -24,3 +25,10 @@ returns-in_ok-write_number_fields-clause-begun c =
     c.write_number.new.out.items c.write_number_fields.new.out.items
     (ap labels_text c.in-Some.ensures.cases.0 ∙ labels_all c.in-Some.first.now c.in-Some.others.now) c.in_ok-write_number.ensures.text
     c.in_ok-write_number_fields.ensures.text
+
+pub returns-in_err-write_number-clause-text : goal.returns-in_err-write_number-clause-text
+returns-in_err-write_number-clause-text c = IfOk-from_err c.from_residual.result _ c.from_residual.ensures.0
+
+pub returns-in_err-write_number_fields-clause-text : goal.returns-in_err-write_number_fields-clause-text
+returns-in_err-write_number_fields-clause-text c =
+    IfOk-from_err c.from_residual-in_err-write_number_fields.result _ c.from_residual-in_err-write_number_fields.ensures.0

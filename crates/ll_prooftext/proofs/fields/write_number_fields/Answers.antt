@@ -1,3 +1,4 @@
+use Rattle.std.proofs.lemmas.Result.{IfOk-from_err}
 use Rattle.std.proofs.Common.{arith, decimal}
 use Rattle.ll_laws.specs.ProofText.{field}
 use Rattle.ll_prooftext.proofs.writing.Writing.{parts_on, parts_refused, parts_ended}
@@ -17,3 +18,6 @@ pub returns-clause-begun : goal.returns-clause-begun
 returns-clause-begun c =
     parts_ended (λ n. field (decimal n)) c.args.numbers.now c.loop-i.i 0 c.args.out.now.items c.loop-i.out.items c.loop-i.out.items c.loop-i.invariant
     (omega arith)
+
+pub returns-in_err-write_number_field-clause-text : goal.returns-in_err-write_number_field-clause-text
+returns-in_err-write_number_field-clause-text c = IfOk-from_err c.from_residual.result _ c.from_residual.ensures.0

@@ -1,3 +1,4 @@
+use Rattle.std.proofs.lemmas.Result.{IfOk-from_err}
 use Rattle.std.proofs.Common.{◌++◌, arith, ap, subst, ◌∙◌}
 use Rattle.ll_laws.specs.declared.Part.{Part}
 use Rattle.ll_laws.specs.declared.Part.TheVariants.{Unbounded}
@@ -32,3 +33,6 @@ returns-clause-begun c =
     subst (λ t. BeginsText t c.args.out.now.items c.loop-i.out.items) (flat_map-map part_line part_field c.args.parts.now)
     (parts_ended (λ (p : Part). part_field (part_line p)) c.args.parts.now c.loop-i.i Unbounded c.args.out.now.items c.loop-i.out.items c.loop-i.out.items
     c.loop-i.invariant (omega arith))
+
+pub returns-in_err-write_part_field-clause-text : goal.returns-in_err-write_part_field-clause-text
+returns-in_err-write_part_field-clause-text c = IfOk-from_err c.from_residual.result _ c.from_residual.ensures.0

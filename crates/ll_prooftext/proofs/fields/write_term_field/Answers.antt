@@ -1,3 +1,4 @@
+use Rattle.std.proofs.lemmas.Result.{IfOk-from_err}
 use Rattle.std.proofs.Common.{◌≡◌, ℕ, List, ◌++◌, Bool, true, false, refl, ap, sym, ◌∙◌, codes}
 use Rattle.ll_bank.specs.Term.{Term}
 use Rattle.ll_bank.specs.Nodes.{term_tree}
@@ -75,3 +76,18 @@ returns-in_ok-term-2-clause-begun c =
     let t = term_tree c.args.bank.now c.args.at.0 in let text = term_text c.args.names.now t in
     both_whole (codes " ") text _ c.args.out.now.items c.push-else-has_any_arguments.new.self.items c.term-else-has_any_arguments.new.out.items
     (bare c.args.names.now t c.has_any_arguments.ensures c.if-has_any_arguments.false) c.in_ok-push-2.ensures.items c.in_ok-term-2.ensures.text
+
+pub returns-in_err-extend_from_slice-clause-text : goal.returns-in_err-extend_from_slice-clause-text
+returns-in_err-extend_from_slice-clause-text c = IfOk-from_err c.from_residual.result _ c.from_residual.ensures.0
+
+pub returns-in_err-term-clause-text : goal.returns-in_err-term-clause-text
+returns-in_err-term-clause-text c = IfOk-from_err c.from_residual-in_err-term.result _ c.from_residual-in_err-term.ensures.0
+
+pub returns-in_err-push-clause-text : goal.returns-in_err-push-clause-text
+returns-in_err-push-clause-text c = IfOk-from_err c.from_residual-in_err-push.result _ c.from_residual-in_err-push.ensures.0
+
+pub returns-in_err-push-2-clause-text : goal.returns-in_err-push-2-clause-text
+returns-in_err-push-2-clause-text c = IfOk-from_err c.from_residual-in_err-push-2.result _ c.from_residual-in_err-push-2.ensures.0
+
+pub returns-in_err-term-2-clause-text : goal.returns-in_err-term-2-clause-text
+returns-in_err-term-2-clause-text c = IfOk-from_err c.from_residual-in_err-term-2.result _ c.from_residual-in_err-term-2.ensures.0

@@ -1,3 +1,4 @@
+use Rattle.std.proofs.lemmas.Result.{IfOk-from_err}
 use Rattle.std.proofs.Common.{◌++◌, arith, ap, subst, ◌∙◌}
 use Rattle.ll_bank.specs.declared.At.{At}
 use Rattle.ll_bank.specs.Nodes.{term_tree}
@@ -32,3 +33,6 @@ returns-clause-begun c =
     (flat_map-map (λ (a : At). term_tree c.args.bank.now a.0) (let_text c.args.names.now) c.args.terms.now)
     (parts_ended (λ (a : At). let_text c.args.names.now (term_tree c.args.bank.now a.0)) c.args.terms.now c.loop-i.i (record { 0 = 0 }) c.args.out.now.items
     c.loop-i.out.items c.loop-i.out.items c.loop-i.invariant (omega arith))
+
+pub returns-in_err-write_let-clause-text : goal.returns-in_err-write_let-clause-text
+returns-in_err-write_let-clause-text c = IfOk-from_err c.from_residual.result _ c.from_residual.ensures.0

@@ -1,4 +1,6 @@
-use Rattle.std.proofs.Common.{◌≡◌, ℕ, List, ◌++◌, map, refl, ap, sym, ◌∙◌, decimal, Vec, Global}
+use Rattle.ll_prooftext.proofs.writing.Signs.{fieldless}
+use Rattle.std.proofs.lemmas.Result.{IfOk-from_err}
+use Rattle.std.proofs.Common.{◌≡◌, ℕ, List, ◌++◌, map, refl, ap, sym, ◌∙◌, append-nil, decimal, Vec, Global}
 use Rattle.std.specs.List.{flat_map}
 use Rattle.ll_bank.specs.Nodes.{Nodes, term_trees}
 use Rattle.ll_bank.specs.declared.At.{At}
@@ -9,7 +11,7 @@ use Rattle.ll_laws.specs.ProofText.{field, set_text, term_field, part_field}
 use Rattle.ll_laws.specs.ShownLines.{line_of, part_line}
 use Rattle.ll_prooftext.specs.Rows.{fields_text}
 use Rattle.ll_printer.proofs.CallerLemmas.{begins_before}
-use Rattle.ll_prooftext.proofs.writing.Writing.{both_text, both_stopped, both_whole}
+use Rattle.ll_prooftext.proofs.writing.Writing.{none_begun, both_text, both_stopped, both_whole}
 use Rattle.ll_prooftext.proofs.lines.write_fields.Goals as goal
 
 -- the texts of a clause's four fields
@@ -117,3 +119,45 @@ returns-in_ok-write_part_fields-in-Clause-clause-text c =
     c.write_part_fields.new.out.items refl c.in_ok-write_number_field-in-Clause-2.ensures.text
     (both_text f.terms f.parts _ c.write_number_field-in-Clause.new.out.items c.write_term_fields.new.out.items c.write_part_fields.new.out.items refl
     c.in_ok-write_term_fields-in-Clause.ensures.text c.in_ok-write_part_fields-in-Clause.ensures.text))
+
+pub returns-in_err-write_set_field-in-Tensor-clause-text : goal.returns-in_err-write_set_field-in-Tensor-clause-text
+returns-in_err-write_set_field-in-Tensor-clause-text c = IfOk-from_err c.from_residual.result _ c.from_residual.ensures.0
+
+pub returns-in_err-write_set_field-in-Tensor-2-clause-text : goal.returns-in_err-write_set_field-in-Tensor-2-clause-text
+returns-in_err-write_set_field-in-Tensor-2-clause-text c =
+    IfOk-from_err c.from_residual-in_err-write_set_field-in-Tensor-2.result _ c.from_residual-in_err-write_set_field-in-Tensor-2.ensures.0
+
+pub returns-in_err-write_number_field-in-Clause-clause-text : goal.returns-in_err-write_number_field-in-Clause-clause-text
+returns-in_err-write_number_field-in-Clause-clause-text c =
+    IfOk-from_err c.from_residual-in_err-write_number_field-in-Clause.result _ c.from_residual-in_err-write_number_field-in-Clause.ensures.0
+
+pub returns-in_err-write_number_field-in-Clause-2-clause-text : goal.returns-in_err-write_number_field-in-Clause-2-clause-text
+returns-in_err-write_number_field-in-Clause-2-clause-text c =
+    IfOk-from_err c.from_residual-in_err-write_number_field-in-Clause-2.result _ c.from_residual-in_err-write_number_field-in-Clause-2.ensures.0
+
+pub returns-in_err-write_term_fields-in-Clause-clause-text : goal.returns-in_err-write_term_fields-in-Clause-clause-text
+returns-in_err-write_term_fields-in-Clause-clause-text c =
+    IfOk-from_err c.from_residual-in_err-write_term_fields-in-Clause.result _ c.from_residual-in_err-write_term_fields-in-Clause.ensures.0
+
+pub returns-in_err-write_part_fields-in-Clause-clause-text : goal.returns-in_err-write_part_fields-in-Clause-clause-text
+returns-in_err-write_part_fields-in-Clause-clause-text c =
+    IfOk-from_err c.from_residual-in_err-write_part_fields-in-Clause.result _ c.from_residual-in_err-write_part_fields-in-Clause.ensures.0
+
+pub returns-in_ok-write_set_field-in-Tensor-2-clause-text : goal.returns-in_ok-write_set_field-in-Tensor-2-clause-text
+returns-in_ok-write_set_field-in-Tensor-2-clause-text c =
+    both_text (field (set_text c.deref.result.now)) (field (set_text c.deref-in-Tensor.result.now)) _ c.args.out.now.items c.write_set_field.new.out.items
+    c.write_set_field-in-Tensor.new.out.items
+    (ap (λ (r : Rule). fields_text c.args.names.now (line_of c.args.bank.now r)) c.in-Tensor.is
+    ∙ (ap (λ (s : List ℕ). field (set_text s) ++ field (set_text c.in-Tensor.second.items)) (sym c.deref.ensures.value)
+    ∙ ap (λ (s : List ℕ). field (set_text c.deref.result.now) ++ field (set_text s)) (sym c.deref-in-Tensor.ensures.value)))
+    c.in_ok-write_set_field-in-Tensor.ensures.text c.in_ok-write_set_field-in-Tensor-2.ensures.text
+
+pub returns-in_default-clause-text : goal.returns-in_default-clause-text
+returns-in_default-clause-text c =
+    sym (ap (λ (text : List ℕ). c.args.out.now.items ++ text) (fieldless c.args.names.now c.args.bank.now c.args.node.now c.in_default.not-Tensor
+    c.in_default.not-Lolli c.in_default.not-Imp
+    c.in_default.not-Forall c.in_default.not-Exists c.in_default.not-Clause)
+    ∙ append-nil c.args.out.now.items)
+
+pub returns-in_default-clause-begun : goal.returns-in_default-clause-begun
+returns-in_default-clause-begun c = none_begun _ c.args.out.now.items c.args.out.now.items refl

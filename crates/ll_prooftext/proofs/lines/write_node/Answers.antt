@@ -1,3 +1,4 @@
+use Rattle.std.proofs.lemmas.Result.{IfOk-from_err}
 use Rattle.std.proofs.Common.{◌≡◌, ℕ, List, [], ◌∷◌, ◌++◌, refl, ap, sym, ◌∙◌, append_assoc}
 use Rattle.ll_laws.specs.Output.{line}
 use Rattle.ll_laws.specs.ShownLines.{line_of}
@@ -45,3 +46,12 @@ returns-clause-begun c =
     (row_is fields (c.as_bytes.ensures.value ∙ c.word.ensures)) c.in_ok-extend_from_slice.ensures.items
     (both_text fields (10 ∷ []) _ c.extend_from_slice.new.self.items c.write_fields.new.out.items c.push.new.self.items refl
     c.in_ok-write_fields.ensures.text c.in_ok-push.ensures.items)
+
+pub returns-in_err-extend_from_slice-clause-text : goal.returns-in_err-extend_from_slice-clause-text
+returns-in_err-extend_from_slice-clause-text c = IfOk-from_err c.from_residual.result _ c.from_residual.ensures.0
+
+pub returns-in_err-write_fields-clause-text : goal.returns-in_err-write_fields-clause-text
+returns-in_err-write_fields-clause-text c = IfOk-from_err c.from_residual-in_err-write_fields.result _ c.from_residual-in_err-write_fields.ensures.0
+
+pub returns-in_err-push-clause-text : goal.returns-in_err-push-clause-text
+returns-in_err-push-clause-text c = IfOk-from_err c.from_residual-in_err-push.result _ c.from_residual-in_err-push.ensures.0

@@ -1,3 +1,4 @@
+use Rattle.std.proofs.lemmas.Result.{IfOk-from_err}
 use Rattle.std.proofs.Common.{◌++◌, arith, ap, subst, ◌∙◌}
 use Rattle.ll_laws.specs.declared.Rule.{Rule}
 use Rattle.ll_laws.specs.declared.Rule.TheVariants.{One}
@@ -31,3 +32,6 @@ returns-clause-begun c =
     subst (λ t. BeginsText t c.args.out.now.items c.loop-i.out.items) (nodes_text c.args.names.now c.args.bank.now c.args.nodes.now)
     (parts_ended (row_text c.args.names.now c.args.bank.now) c.args.nodes.now c.loop-i.i One c.args.out.now.items c.loop-i.out.items c.loop-i.out.items
     c.loop-i.invariant (omega arith))
+
+pub returns-in_err-write_node-clause-text : goal.returns-in_err-write_node-clause-text
+returns-in_err-write_node-clause-text c = IfOk-from_err c.from_residual.result _ c.from_residual.ensures.0

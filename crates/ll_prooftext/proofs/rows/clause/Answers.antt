@@ -1,5 +1,6 @@
+use Rattle.ll_prooftext.proofs.spelling.Kept.{grows_none}
 use Rattle.std.proofs.Common.{arith}
-use Rattle.std.proofs.lemmas.Result.{err_from_is_err_and}
+use Rattle.std.proofs.lemmas.Result.{err_from_is_err_and, IfOk-from_err}
 use Rattle.ll_prooftext.specs.Reading.{Number, Arguments, Then}
 use Rattle.ll_prooftext.specs.Fields.{LacksField, StopsAt}
 use Rattle.ll_prooftext.proofs.reading.Rest.{stops_here, number_then, clause_then, terms_then, clause_made, number_room, refuses_weaker}
@@ -53,3 +54,33 @@ returns-clause-ok c =
 
 pub part_fields-requires-clause-begins : goal.part_fields-requires-clause-begins
 part_fields-requires-clause-begins c = c.in_ok-terms.ensures.stops
+
+pub returns-in_err-label-clause-ok : goal.returns-in_err-label-clause-ok
+returns-in_err-label-clause-ok c = IfOk-from_err c.from_residual.result _ c.from_residual.ensures.0
+
+pub returns-in_err-leaf-clause-ok : goal.returns-in_err-leaf-clause-ok
+returns-in_err-leaf-clause-ok c = IfOk-from_err c.from_residual-in_err-leaf.result _ c.from_residual-in_err-leaf.ensures.0
+
+pub returns-in_err-terms-clause-ok : goal.returns-in_err-terms-clause-ok
+returns-in_err-terms-clause-ok c = IfOk-from_err c.from_residual-in_err-terms.result _ c.from_residual-in_err-terms.ensures.0
+
+pub returns-in_err-parts-clause-ok : goal.returns-in_err-parts-clause-ok
+returns-in_err-parts-clause-ok c = IfOk-from_err c.from_residual-in_err-parts.result _ c.from_residual-in_err-parts.ensures.0
+
+pub returns-in_err-label-clause-grows : goal.returns-in_err-label-clause-grows
+returns-in_err-label-clause-grows c = grows_none c.args.names.now
+
+pub returns-in_err-leaf-clause-grows : goal.returns-in_err-leaf-clause-grows
+returns-in_err-leaf-clause-grows c = grows_none c.args.names.now
+
+pub returns-in_err-terms-clause-grows : goal.returns-in_err-terms-clause-grows
+returns-in_err-terms-clause-grows c = c.term_fields.ensures.grows
+
+pub returns-in_err-parts-clause-grows : goal.returns-in_err-parts-clause-grows
+returns-in_err-parts-clause-grows c = c.term_fields.ensures.grows
+
+pub returns-clause-grows : goal.returns-clause-grows
+returns-clause-grows c = c.term_fields.ensures.grows
+
+pub number_field-requires : goal.number_field-requires
+number_field-requires c = c.requires.end

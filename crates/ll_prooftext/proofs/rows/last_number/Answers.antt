@@ -1,6 +1,6 @@
 use Rattle.ll_prooftext.specs.Reading.{Number, Nothing, Then}
 use Rattle.ll_prooftext.specs.Fields.{LacksField, StopsAt}
-use Rattle.std.proofs.lemmas.Result.{err_from_is_err_and}
+use Rattle.std.proofs.lemmas.Result.{err_from_is_err_and, IfOk-from_err}
 use Rattle.ll_prooftext.proofs.reading.Rest.{stops_here, number_then, refuses_weaker}
 use Rattle.ll_prooftext.proofs.rows.last_number.Goals as goal
 
@@ -16,3 +16,9 @@ returns-in_err-no_more-clause-err c =
     rw (p.1, p.2) (refuses_weaker (StopsAt Nothing c.in_ok-number.rest.now) (StopsAt (Then Number Nothing) c.args.bytes.now)
     (λ n h. number_then c.args.bytes.now c.in_ok-number.rest.now c.in_ok-number.number n Nothing c.in_ok-number.ensures.ok h) c.in_err-no_more.field-0.0
     c.in_err-no_more.ensures.err)
+
+pub returns-in_err-number-clause-ok : goal.returns-in_err-number-clause-ok
+returns-in_err-number-clause-ok c = IfOk-from_err c.from_residual.result _ c.from_residual.ensures.0
+
+pub returns-in_err-no_more-clause-ok : goal.returns-in_err-no_more-clause-ok
+returns-in_err-no_more-clause-ok c = IfOk-from_err c.from_residual-in_err-no_more.result _ c.from_residual-in_err-no_more.ensures.0

@@ -1,3 +1,4 @@
+use Rattle.std.proofs.lemmas.Result.{IfOk-from_err, err_from_is_err_and}
 use Rattle.ll_prooftext.proofs.spelling.Arguments.{not_ended}
 use Rattle.ll_prooftext.proofs.reading.Rest.{part_marked, part_other}
 use Rattle.ll_prooftext.proofs.rows.part_field.Goals as goal
@@ -9,3 +10,9 @@ returns-in-Some-behind-clause-err c = part_marked c.args.bytes.now c.in-Some.fie
 pub returns-in-None-clause-err : goal.returns-in-None-clause-err
 returns-in-None-clause-err c = part_other c.args.bytes.now c.in-Some.field.now c.in-Some.ensures c.in_default-behind.ensures
     (rw c.in-None.is at c.in_ok-labels.ensures)
+
+pub returns-in_err-labels-clause-ok : goal.returns-in_err-labels-clause-ok
+returns-in_err-labels-clause-ok c = IfOk-from_err c.from_residual.result _ c.from_residual.ensures.0
+
+pub returns-in_err-labels-clause-err : goal.returns-in_err-labels-clause-err
+returns-in_err-labels-clause-err c = let p = err_from_is_err_and c.from_residual.result c.from_residual.ensures.1 in rw (p.1, p.2) tt

@@ -1,7 +1,7 @@
 use Rattle.std.proofs.Common.{refl}
 use Rattle.ll_prooftext.specs.Reading.{Set, Nothing, Then}
 use Rattle.ll_prooftext.specs.Fields.{LacksField, StopsAt}
-use Rattle.std.proofs.lemmas.Result.{err_from_is_err_and}
+use Rattle.std.proofs.lemmas.Result.{err_from_is_err_and, IfOk-from_err}
 use Rattle.ll_prooftext.proofs.reading.Rest.{stops_here, set_then, refuses_weaker}
 use Rattle.ll_prooftext.proofs.rows.tensor.Goals as goal
 
@@ -30,3 +30,12 @@ returns-in_err-no_more-clause-err c =
     c.in_ok-first.ensures.ok
     (set_then c.in_ok-first.behind_first.now c.in_ok-second.second.items c.in_ok-second.behind_second.now n (Then Set Nothing) Nothing refl
     c.in_ok-second.ensures.ok h)) c.in_err-no_more.field-0.0 c.in_err-no_more.ensures.err)
+
+pub returns-in_err-first-clause-ok : goal.returns-in_err-first-clause-ok
+returns-in_err-first-clause-ok c = IfOk-from_err c.from_residual.result _ c.from_residual.ensures.0
+
+pub returns-in_err-second-clause-ok : goal.returns-in_err-second-clause-ok
+returns-in_err-second-clause-ok c = IfOk-from_err c.from_residual-in_err-second.result _ c.from_residual-in_err-second.ensures.0
+
+pub returns-in_err-no_more-clause-ok : goal.returns-in_err-no_more-clause-ok
+returns-in_err-no_more-clause-ok c = IfOk-from_err c.from_residual-in_err-no_more.result _ c.from_residual-in_err-no_more.ensures.0

@@ -1,3 +1,4 @@
+use Rattle.std.proofs.lemmas.Result.{IfOk-from_err}
 use Rattle.std.proofs.Common.{◌≡◌, length, arith, [], ◌∷◌, ℕ, List, Bool, false}
 use Rattle.std.specs.Prelude.{◌==◌}
 use Rattle.ll_prooftext.proofs.reading.Labels.{none_read, one_more, no_label, no_rise, all_read}
@@ -30,3 +31,6 @@ pub returns-in-None : goal.returns-in-None
 returns-in-None c =
     rw c.in_ok-push.ensures.items (all_read c.args.body.now c.loop-label.labels.items c.loop-label.rest.now c.loop-label.least _ _ c.in-Some.label
     c.loop-label.invariant c.split_before.ensures.is c.split_before.ensures.stops c.in-None.ensures (omega arith) c.in-Some.ensures (omega arith))
+
+pub returns-in_err-push : goal.returns-in_err-push
+returns-in_err-push c = IfOk-from_err c.from_residual.result _ c.from_residual.ensures.0

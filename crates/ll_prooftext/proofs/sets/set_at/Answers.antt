@@ -1,3 +1,4 @@
+use Rattle.std.proofs.lemmas.Result.{IfOk-from_err}
 use Rattle.std.proofs.Common.{◌≡◌, sym, subst, ◌∙◌, ◌∷◌, ℕ, List, Bool, true, false}
 use Rattle.std.specs.Prelude.{IsTrue}
 use Rattle.ll_prooftext.specs.Reading.{IsAtEnd}
@@ -20,3 +21,6 @@ pub returns-in-None : goal.returns-in-None
 returns-in-None c = λ field r s e end.
     let k = set_found c.args.bytes.now c.in-Some.inside.now _ _ field r c.in-Some.ensures c.split_before.ensures.is c.split_before.ensures.free
     c.split_before.ensures.stops s e in (rw c.in-None.is at c.in_ok-labels.ensures) _ k.0
+
+pub returns-in_err-labels : goal.returns-in_err-labels
+returns-in_err-labels c = IfOk-from_err c.from_residual.result _ c.from_residual.ensures.0

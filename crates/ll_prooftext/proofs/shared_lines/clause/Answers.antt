@@ -1,5 +1,6 @@
+use Rattle.ll_prooftext.proofs.spelling.Kept.{grows_none}
 use Rattle.std.proofs.Common.{length, arith}
-use Rattle.std.proofs.lemmas.Result.{err_from_is_err_and}
+use Rattle.std.proofs.lemmas.Result.{err_from_is_err_and, IfOk-from_err}
 use Rattle.std.proofs.lemmas.List.{length-map}
 use Rattle.ll_bank.specs.declared.At.{At}
 use Rattle.ll_bank.specs.Nodes.{term_tree, term_trees}
@@ -77,3 +78,39 @@ returns-clause-ok c =
     c.in_ok-terms.behind_terms.now
     c.in_ok-parts.parts.items (rule.Clause c.in_ok-label.label c.in_ok-leaf.leaf c.in_ok-terms.terms c.in_ok-parts.parts) c.requires.end f g t q
     ((f.small, g.small), (t.good, (q.spelled, q.rising))) (λ ns s. s)
+
+pub returns-in_err-label-clause-ok : goal.returns-in_err-label-clause-ok
+returns-in_err-label-clause-ok c = IfOk-from_err c.from_residual.result _ c.from_residual.ensures.0
+
+pub returns-in_err-leaf-clause-ok : goal.returns-in_err-leaf-clause-ok
+returns-in_err-leaf-clause-ok c = IfOk-from_err c.from_residual-in_err-leaf.result _ c.from_residual-in_err-leaf.ensures.0
+
+pub returns-in_err-terms-clause-ok : goal.returns-in_err-terms-clause-ok
+returns-in_err-terms-clause-ok c = IfOk-from_err c.from_residual-in_err-terms.result _ c.from_residual-in_err-terms.ensures.0
+
+pub returns-in_err-parts-clause-ok : goal.returns-in_err-parts-clause-ok
+returns-in_err-parts-clause-ok c = IfOk-from_err c.from_residual-in_err-parts.result _ c.from_residual-in_err-parts.ensures.0
+
+pub returns-in_err-label-clause-grows : goal.returns-in_err-label-clause-grows
+returns-in_err-label-clause-grows c = grows_none c.args.names.now
+
+pub returns-in_err-leaf-clause-grows : goal.returns-in_err-leaf-clause-grows
+returns-in_err-leaf-clause-grows c = grows_none c.args.names.now
+
+pub returns-in_err-terms-clause-grows : goal.returns-in_err-terms-clause-grows
+returns-in_err-terms-clause-grows c = c.cell_fields.ensures.grows
+
+pub returns-in_err-parts-clause-grows : goal.returns-in_err-parts-clause-grows
+returns-in_err-parts-clause-grows c = c.cell_fields.ensures.grows
+
+pub returns-clause-grows : goal.returns-clause-grows
+returns-clause-grows c = c.cell_fields.ensures.grows
+
+pub number_field-requires : goal.number_field-requires
+number_field-requires c = c.requires.end
+
+pub cell_fields-requires-clause-few : goal.cell_fields-requires-clause-few
+cell_fields-requires-clause-few c = c.requires.few
+
+pub cell_fields-requires-clause-rows : goal.cell_fields-requires-clause-rows
+cell_fields-requires-clause-rows c = c.requires.rows

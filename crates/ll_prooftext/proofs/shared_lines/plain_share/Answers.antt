@@ -1,5 +1,5 @@
 use Rattle.std.proofs.Common.{length, subst, ◌∙◌, ap, List, ◌∷◌}
-use Rattle.std.proofs.lemmas.Result.{err_from_is_err_and}
+use Rattle.std.proofs.lemmas.Result.{err_from_is_err_and, IfOk-from_err}
 use Rattle.std.proofs.lemmas.List.{length-map}
 use Rattle.ll_bank.specs.declared.At.{At}
 use Rattle.ll_bank.specs.Nodes.{term_tree, term_trees}
@@ -100,3 +100,33 @@ returns-in_err-app-clause-grows c = grows_on c.args.names.now c.cell_field.new.n
 pub returns-clause-grows : goal.returns-clause-grows
 returns-clause-grows c = grows_on c.args.names.now c.cell_field.new.names c.cell_fields.new.names c.cell_field.ensures.grows
     c.cell_fields.ensures.grows
+
+pub returns-in_err-first-clause-ok : goal.returns-in_err-first-clause-ok
+returns-in_err-first-clause-ok c = IfOk-from_err c.from_residual.result _ c.from_residual.ensures.0
+
+pub returns-in_err-others-clause-ok : goal.returns-in_err-others-clause-ok
+returns-in_err-others-clause-ok c = IfOk-from_err c.from_residual-in_err-others.result _ c.from_residual-in_err-others.ensures.0
+
+pub returns-in_err-no_more-clause-ok : goal.returns-in_err-no_more-clause-ok
+returns-in_err-no_more-clause-ok c = IfOk-from_err c.from_residual-in_err-no_more.result _ c.from_residual-in_err-no_more.ensures.0
+
+pub returns-in_err-args-clause-ok : goal.returns-in_err-args-clause-ok
+returns-in_err-args-clause-ok c = IfOk-from_err c.from_residual-in_err-args.result _ c.from_residual-in_err-args.ensures.0
+
+pub returns-in_err-args-clause-err : goal.returns-in_err-args-clause-err
+returns-in_err-args-clause-err c = let p = err_from_is_err_and c.from_residual-in_err-args.result c.from_residual-in_err-args.ensures.1 in rw (p.1, p.2) tt
+
+pub returns-in_err-app-clause-ok : goal.returns-in_err-app-clause-ok
+returns-in_err-app-clause-ok c = IfOk-from_err c.from_residual-in_err-app.result _ c.from_residual-in_err-app.ensures.0
+
+pub returns-in_err-app-clause-err : goal.returns-in_err-app-clause-err
+returns-in_err-app-clause-err c = let p = err_from_is_err_and c.from_residual-in_err-app.result c.from_residual-in_err-app.ensures.1 in rw (p.1, p.2) tt
+
+pub returns-in_err-first-clause-grows : goal.returns-in_err-first-clause-grows
+returns-in_err-first-clause-grows c = c.cell_field.ensures.grows
+
+pub cell_fields-requires-clause-few : goal.cell_fields-requires-clause-few
+cell_fields-requires-clause-few c = c.requires.few
+
+pub cell_field-requires : goal.cell_field-requires
+cell_field-requires c = record { end = c.requires.end; room = c.requires.room; few = c.requires.few; rows = c.requires.rows }

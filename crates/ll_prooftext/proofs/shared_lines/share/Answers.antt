@@ -1,5 +1,6 @@
+use Rattle.ll_prooftext.proofs.spelling.Kept.{below, grows_on}
 use Rattle.std.proofs.Common.{length, subst}
-use Rattle.std.proofs.lemmas.Result.{err_from_is_err_and}
+use Rattle.std.proofs.lemmas.Result.{err_from_is_err_and, IfOk-from_err}
 use Rattle.ll_lists.proofs.CallerLemmas.{IfOk-each as if_ok}
 use Rattle.ll_bank.specs.Nodes.{term_trees}
 use Rattle.ll_bank.specs.declared.At.{At}
@@ -75,3 +76,38 @@ returns-in-Sign-clause-err c =
     (refuses_weaker (StopsAt (Then (Cell n) (Then (Cell n) Nothing)) c.in_ok-front.behind_front.now) (StopsAt (Row n) c.args.bytes.now)
     (λ k s. sign_bad n c.args.names.now c.args.bank.now c.args.bytes.now c.front_field.new.names c.front_field.new.bank c.in-Sign.head
     c.in_ok-front.behind_front.now k f s)) c.sign_share.ensures.err
+
+pub returns-in_err-front-clause-ok : goal.returns-in_err-front-clause-ok
+returns-in_err-front-clause-ok c = IfOk-from_err c.from_residual.result _ c.from_residual.ensures.0
+
+pub returns-in_err-front-clause-grows : goal.returns-in_err-front-clause-grows
+returns-in_err-front-clause-grows c = c.front_field.ensures.grows
+
+pub plain_share-requires-clause-few : goal.plain_share-requires-clause-few
+plain_share-requires-clause-few c = c.requires.few
+
+pub sign_share-requires-clause-few : goal.sign_share-requires-clause-few
+sign_share-requires-clause-few c = c.requires.few
+
+pub plain_share-requires-clause-end : goal.plain_share-requires-clause-end
+plain_share-requires-clause-end c = c.in_ok-front.ensures.ok.end
+
+pub plain_share-requires-clause-room : goal.plain_share-requires-clause-room
+plain_share-requires-clause-room c = below _ _ _ c.in_ok-front.ensures.ok.moves.few c.requires.room
+
+pub returns-in-Plain-clause-grows : goal.returns-in-Plain-clause-grows
+returns-in-Plain-clause-grows c =
+    grows_on c.args.names.now c.front_field.new.names c.plain_share.new.names c.in_ok-front.ensures.ok.moves.grows c.plain_share.ensures.grows
+
+pub sign_share-requires-clause-end : goal.sign_share-requires-clause-end
+sign_share-requires-clause-end c = c.in_ok-front.ensures.ok.end
+
+pub sign_share-requires-clause-room : goal.sign_share-requires-clause-room
+sign_share-requires-clause-room c = below _ _ _ c.in_ok-front.ensures.ok.moves.few c.requires.room
+
+pub returns-in-Sign-clause-grows : goal.returns-in-Sign-clause-grows
+returns-in-Sign-clause-grows c =
+    grows_on c.args.names.now c.front_field.new.names c.sign_share.new.names c.in_ok-front.ensures.ok.moves.grows c.sign_share.ensures.grows
+
+pub front_field-requires : goal.front_field-requires
+front_field-requires c = record { end = c.requires.end; room = c.requires.room }

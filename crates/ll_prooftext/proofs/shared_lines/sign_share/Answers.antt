@@ -1,5 +1,6 @@
+use Rattle.ll_prooftext.proofs.spelling.Kept.{below, grows_on}
 use Rattle.std.proofs.Common.{length, subst, []}
-use Rattle.std.proofs.lemmas.Result.{err_from_is_err_and}
+use Rattle.std.proofs.lemmas.Result.{err_from_is_err_and, IfOk-from_err}
 use Rattle.std.proofs.lemmas.List.{length-map}
 use Rattle.ll_bank.specs.declared.At.{At}
 use Rattle.ll_bank.specs.Nodes.{term_tree, term_trees}
@@ -8,6 +9,7 @@ use Rattle.ll_prooftext.specs.Fields.{LacksField, StopsAt}
 use Rattle.ll_prooftext.specs.Cells.{IsCellField}
 use Rattle.ll_prooftext.proofs.reading.CellsRead.{stops_cell, cell_then, rows_same, rows_stay}
 use Rattle.ll_prooftext.proofs.reading.LinesOver.{pair_made}
+use Rattle.ll_prooftext.proofs.reading.Calls.{pair_inside}
 use Rattle.ll_prooftext.proofs.reading.Rest.{stops_here, refuses_weaker}
 use Rattle.ll_prooftext.proofs.shared_lines.sign_share.Goals as goal
 
@@ -42,3 +44,44 @@ returns-clause-ok c =
     c.cell_field.new.bank c.in_ok-first.first c.in_ok-first.behind_first.now c.last_cell.new.names c.last_cell.new.bank c.app.new.self c.in_ok-second.second
     c.in_ok-app.field-0.0
     c.requires.sign c.in_ok-first.ensures.ok t c.in_ok-app.ensures.shows c.in_ok-app.ensures.keeps
+
+pub returns-in_err-first-clause-ok : goal.returns-in_err-first-clause-ok
+returns-in_err-first-clause-ok c = IfOk-from_err c.from_residual.result _ c.from_residual.ensures.0
+
+pub returns-in_err-second-clause-ok : goal.returns-in_err-second-clause-ok
+returns-in_err-second-clause-ok c = IfOk-from_err c.from_residual-in_err-second.result _ c.from_residual-in_err-second.ensures.0
+
+pub returns-in_err-app-clause-ok : goal.returns-in_err-app-clause-ok
+returns-in_err-app-clause-ok c = IfOk-from_err c.from_residual-in_err-app.result _ c.from_residual-in_err-app.ensures.0
+
+pub returns-in_err-app-clause-err : goal.returns-in_err-app-clause-err
+returns-in_err-app-clause-err c = let p = err_from_is_err_and c.from_residual-in_err-app.result c.from_residual-in_err-app.ensures.1 in rw (p.1, p.2) tt
+
+pub returns-in_err-first-clause-grows : goal.returns-in_err-first-clause-grows
+returns-in_err-first-clause-grows c = c.cell_field.ensures.grows
+
+pub last_cell-requires-clause-few : goal.last_cell-requires-clause-few
+last_cell-requires-clause-few c = c.requires.few
+
+pub cell_field-requires : goal.cell_field-requires
+cell_field-requires c = record { end = c.requires.end; room = c.requires.room; few = c.requires.few; rows = c.requires.rows }
+
+pub last_cell-requires-clause-end : goal.last_cell-requires-clause-end
+last_cell-requires-clause-end c = c.in_ok-first.ensures.ok.end
+
+pub last_cell-requires-clause-room : goal.last_cell-requires-clause-room
+last_cell-requires-clause-room c = below _ _ _ c.in_ok-first.ensures.ok.moves.few c.requires.room
+
+pub returns-in_err-second-clause-grows : goal.returns-in_err-second-clause-grows
+returns-in_err-second-clause-grows c =
+    grows_on c.args.names.now c.cell_field.new.names c.last_cell.new.names c.in_ok-first.ensures.ok.moves.grows c.last_cell.ensures.grows
+
+pub returns-in_err-app-clause-grows : goal.returns-in_err-app-clause-grows
+returns-in_err-app-clause-grows c =
+    grows_on c.args.names.now c.cell_field.new.names c.last_cell.new.names c.in_ok-first.ensures.ok.moves.grows c.last_cell.ensures.grows
+
+pub returns-clause-grows : goal.returns-clause-grows
+returns-clause-grows c = grows_on c.args.names.now c.cell_field.new.names c.last_cell.new.names c.in_ok-first.ensures.ok.moves.grows c.last_cell.ensures.grows
+
+pub app-requires : goal.app-requires
+app-requires c = pair_inside c.in_ok-first.first c.in_ok-second.second c.in_ok-first.ensures.ok c.in_ok-second.ensures.ok

@@ -1,3 +1,4 @@
+use Rattle.std.proofs.lemmas.Result.{IfOk-from_err}
 use Rattle.std.proofs.Common.{arith, ap, ◌∙◌, ◌++◌}
 use Rattle.ll_laws.specs.declared.Rule.{Rule}
 use Rattle.ll_prooftext.specs.Short.{rule_places}
@@ -12,3 +13,9 @@ loop-i-preserved c =
 
 pub returns : goal.returns
 returns c = places_whole c.args.asked.now c.args.nodes.now c.loop-i.i c.loop-i.places.items c.loop-i.invariant (omega arith)
+
+pub returns-in_err-extend_from_slice : goal.returns-in_err-extend_from_slice
+returns-in_err-extend_from_slice c = IfOk-from_err c.from_residual.result _ c.from_residual.ensures.0
+
+pub returns-in_err-push_places : goal.returns-in_err-push_places
+returns-in_err-push_places c = IfOk-from_err c.from_residual-in_err-push_places.result _ c.from_residual-in_err-push_places.ensures.0

@@ -1,3 +1,4 @@
+use Rattle.std.proofs.lemmas.Result.{IfOk-from_err}
 use Rattle.std.proofs.Common.{◌++◌, ap, sym, subst, ◌∙◌, append_assoc, codes, decimal}
 use Rattle.std.specs.Prelude.{unwrap_or}
 use Rattle.std.proofs.lemmas.List.{length-map}
@@ -40,3 +41,6 @@ returns-in_ok-push-in-Rows c =
     (field_itself c.args.names.now rows tree (sym c.has_any_arguments.ensures ∙ c.if-has_any_arguments.false)
     ∙ ap (λ (f : Fields). shown c.args.names.now bank f tree) (sym c.in-Rows.is)))))
     c.term.ensures.text
+
+pub returns-in_err-push-in-Rows : goal.returns-in_err-push-in-Rows
+returns-in_err-push-in-Rows c = IfOk-from_err c.from_residual.result _ c.from_residual.ensures.0

@@ -1,3 +1,4 @@
+use Rattle.std.proofs.lemmas.Result.{IfOk-from_err}
 use Rattle.std.proofs.Common.{◌++◌, arith, ap, ◌∙◌}
 use Rattle.ll_bank.specs.declared.At.{At}
 use Rattle.ll_bank.specs.Nodes.{term_tree}
@@ -25,3 +26,6 @@ write_field-requires c = record {
   rows = c.requires.rows;
   numbered = c.requires.numbered c.loop-i.i (record { 0 = 0 }) (omega arith);
 }
+
+pub returns-in_err-write_field : goal.returns-in_err-write_field
+returns-in_err-write_field c = IfOk-from_err c.from_residual.result _ c.from_residual.ensures.0

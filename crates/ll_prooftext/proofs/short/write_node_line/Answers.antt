@@ -1,3 +1,6 @@
+use Rattle.ll_lists.proofs.CallerLemmas.{OnOk-weaker as on_ok}
+use Rattle.ll_prooftext.proofs.writing.Signs.{termless}
+use Rattle.std.proofs.lemmas.Result.{IfOk-from_err}
 use Rattle.std.proofs.Common.{List, ◌++◌, map, ap, sym, ◌∙◌}
 use Rattle.std.specs.List.{flat_map}
 use Rattle.ll_bank.specs.declared.At.{At}
@@ -12,6 +15,7 @@ use Rattle.ll_prooftext.specs.Short.{shown}
 use Rattle.ll_prooftext.proofs.writing.ShortLines.{exists_written, clause_written}
 use Rattle.ll_prooftext.proofs.short.write_node_line.Goals as goal
 use Rattle.ll_prooftext.proofs.short.write_node_line.Goals.{in-Exists+in_ok-extend_from_slice-in-Exists+in_ok-write_field-in-Exists}
+use Rattle.ll_prooftext.proofs.short.write_node_line.Goals.{}
 use Rattle.ll_prooftext.proofs.short.write_node_line.Goals.{in-Clause+in_ok-extend_from_slice-in-Clause+in_ok-write_number_field-in-Clause+in_ok-write_number_field-in-Clause-2+in_ok-write_fields-in-Clause+in_ok-write_part_fields-in-Clause}
 
 pub returns : goal.returns
@@ -38,3 +42,40 @@ returns c =
           end
           ∙ ap (λ (r : Rule). c.args.out.now.items ++ line (node_text_by show (line_of bank r))) (sym w.in-Clause.is)
     ]
+
+pub returns-in_err-extend_from_slice-in-Exists : goal.returns-in_err-extend_from_slice-in-Exists
+returns-in_err-extend_from_slice-in-Exists c = IfOk-from_err c.from_residual.result _ c.from_residual.ensures.0
+
+pub returns-in_err-write_field-in-Exists : goal.returns-in_err-write_field-in-Exists
+returns-in_err-write_field-in-Exists c =
+    IfOk-from_err c.from_residual-in_err-write_field-in-Exists.result _ c.from_residual-in_err-write_field-in-Exists.ensures.0
+
+pub returns-in_err-extend_from_slice-in-Clause : goal.returns-in_err-extend_from_slice-in-Clause
+returns-in_err-extend_from_slice-in-Clause c =
+    IfOk-from_err c.from_residual-in_err-extend_from_slice-in-Clause.result _ c.from_residual-in_err-extend_from_slice-in-Clause.ensures.0
+
+pub returns-in_err-write_number_field-in-Clause : goal.returns-in_err-write_number_field-in-Clause
+returns-in_err-write_number_field-in-Clause c =
+    IfOk-from_err c.from_residual-in_err-write_number_field-in-Clause.result _ c.from_residual-in_err-write_number_field-in-Clause.ensures.0
+
+pub returns-in_err-write_number_field-in-Clause-2 : goal.returns-in_err-write_number_field-in-Clause-2
+returns-in_err-write_number_field-in-Clause-2 c =
+    IfOk-from_err c.from_residual-in_err-write_number_field-in-Clause-2.result _ c.from_residual-in_err-write_number_field-in-Clause-2.ensures.0
+
+pub returns-in_err-write_fields-in-Clause : goal.returns-in_err-write_fields-in-Clause
+returns-in_err-write_fields-in-Clause c =
+    IfOk-from_err c.from_residual-in_err-write_fields-in-Clause.result _ c.from_residual-in_err-write_fields-in-Clause.ensures.0
+
+pub returns-in_err-write_part_fields-in-Clause : goal.returns-in_err-write_part_fields-in-Clause
+returns-in_err-write_part_fields-in-Clause c =
+    IfOk-from_err c.from_residual-in_err-write_part_fields-in-Clause.result _ c.from_residual-in_err-write_part_fields-in-Clause.ensures.0
+
+pub returns-in_err-push : goal.returns-in_err-push
+returns-in_err-push c = IfOk-from_err c.from_residual-in_err-push.result _ c.from_residual-in_err-push.ensures.0
+
+pub returns-in_default : goal.returns-in_default
+returns-in_default c =
+    on_ok c.write_plain_node.result (λ e. e (shown c.args.names.now c.args.bank.now c.args.fields)) c.write_plain_node.ensures
+
+pub write_plain_node-requires : goal.write_plain_node-requires
+write_plain_node-requires c = record { inside = c.requires.inside; plain = termless c.args.node.now c.in_default.not-Exists c.in_default.not-Clause }

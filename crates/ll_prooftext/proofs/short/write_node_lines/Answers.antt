@@ -1,3 +1,4 @@
+use Rattle.std.proofs.lemmas.Result.{IfOk-from_err}
 use Rattle.std.proofs.Common.{◌++◌, All, arith, ap, sym, subst, ◌∙◌}
 use Rattle.ll_laws.specs.declared.Rule.{Rule}
 use Rattle.ll_laws.specs.declared.Rule.TheVariants.{One}
@@ -31,3 +32,6 @@ write_node_line-requires c = record {
   numbered = subst (λ (r : Rule). All (HasField c.args.fields) (rule_places r)) (sym c.index-nodes-i.is)
       (c.requires.numbered c.loop-i.i c.index-nodes-i.result (omega arith));
 }
+
+pub returns-in_err-write_node_line : goal.returns-in_err-write_node_line
+returns-in_err-write_node_line c = IfOk-from_err c.from_residual.result _ c.from_residual.ensures.0

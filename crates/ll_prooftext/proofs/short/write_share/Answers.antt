@@ -1,3 +1,4 @@
+use Rattle.std.proofs.lemmas.Result.{IfOk-from_err}
 use Rattle.std.proofs.Common.{get_or, ap, ◌∙◌, arith}
 use Rattle.ll_bank.specs.Nodes.{term_tree, term_trees}
 use Rattle.ll_prooftext.specs.ProofText2.{spine_text}
@@ -33,3 +34,15 @@ write_fields-requires-clause-numbered c =
     λ k d l. argument_numbered c.args.bank.now c.args.table.now (term_trees c.args.bank.now c.args.table.now.rows.items) c.requires.table
     (get_or c.in-App.args.now k d).0
     (let low = c.in-App.ensures.shown.1 k d l in let here = c.requires.numbered.inside in omega arith)
+
+pub returns-in_err-extend_from_slice : goal.returns-in_err-extend_from_slice
+returns-in_err-extend_from_slice c = IfOk-from_err c.from_residual.result _ c.from_residual.ensures.0
+
+pub returns-in_err-write_head-in-App : goal.returns-in_err-write_head-in-App
+returns-in_err-write_head-in-App c = IfOk-from_err c.from_residual-in_err-write_head-in-App.result _ c.from_residual-in_err-write_head-in-App.ensures.0
+
+pub returns-in_err-write_fields-in-App : goal.returns-in_err-write_fields-in-App
+returns-in_err-write_fields-in-App c = IfOk-from_err c.from_residual-in_err-write_fields-in-App.result _ c.from_residual-in_err-write_fields-in-App.ensures.0
+
+pub returns-in_err-push : goal.returns-in_err-push
+returns-in_err-push c = IfOk-from_err c.from_residual-in_err-push.result _ c.from_residual-in_err-push.ensures.0

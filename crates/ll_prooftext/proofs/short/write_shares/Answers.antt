@@ -1,3 +1,4 @@
+use Rattle.std.proofs.lemmas.Result.{IfOk-from_err}
 use Rattle.std.proofs.Common.{List, ◌++◌, ◌<◌, length, get_or, All, arith, ap, sym, subst, ◌∙◌}
 use Rattle.std.specs.List.{flat_map}
 use Rattle.ll_bank.specs.declared.At.{At}
@@ -37,3 +38,6 @@ write_share-requires c =
       inside = let w = c.requires.classes.numbers.inside in omega (arith, low, w);
       numbered = argument_numbered bank t (term_trees bank t.rows.items) c.requires (get_or c.as_slice-rows.result.now c.loop-i.i (record { 0 = 0 })).0 low;
     }
+
+pub returns-in_err-write_share : goal.returns-in_err-write_share
+returns-in_err-write_share c = IfOk-from_err c.from_residual.result _ c.from_residual.ensures.0

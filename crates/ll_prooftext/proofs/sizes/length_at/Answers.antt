@@ -1,3 +1,4 @@
+use Rattle.std.proofs.lemmas.Result.{IfOk-from_err}
 use Rattle.std.proofs.Common.{◌<◌, ◌++◌, ◌&&◌, eqb, All, false, ap, sym, subst, ◌∙◌, arith, length, codes}
 use Rattle.std.specs.Str.{bytes_eq}
 use Rattle.std.proofs.lemmas.List.{length-map}
@@ -50,3 +51,9 @@ fields_length-requires c = record {
   inside = λ k d l. let low = c.spine_at-head.ensures.lower k d l in let i = c.requires.inside in omega arith;
   reach = λ k d l. let low = c.spine_at-head.ensures.lower k d l in let n = c.requires.next in omega arith;
 }
+
+pub returns-in_err-term : goal.returns-in_err-term
+returns-in_err-term c = IfOk-from_err c.from_residual.result _ c.from_residual.ensures.0
+
+pub returns-in_err-write_head : goal.returns-in_err-write_head
+returns-in_err-write_head c = IfOk-from_err c.from_residual-in_err-write_head.result _ c.from_residual-in_err-write_head.ensures.0

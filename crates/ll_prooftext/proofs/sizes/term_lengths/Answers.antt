@@ -1,3 +1,4 @@
+use Rattle.std.proofs.lemmas.Result.{IfOk-from_err}
 use Rattle.std.proofs.Common.{◌<◌, arith, subst, length, take, All}
 use Rattle.std.proofs.lemmas.List.{take_all}
 use Rattle.std.proofs.lemmas.List.Elements.{All-more, All-weaker}
@@ -17,3 +18,9 @@ loop-i-preserved c = (
 pub returns-clause-reach : goal.returns-clause-reach
 returns-clause-reach c =
     subst (λ ps. All (λ (a : At). a.0 < length c.loop-i.lengths.items) ps) (take_all c.loop-i.i c.args.places.now (omega arith)) c.loop-i.invariant.1
+
+pub returns-in_err-lengths_up_to-clause-lengths : goal.returns-in_err-lengths_up_to-clause-lengths
+returns-in_err-lengths_up_to-clause-lengths c = IfOk-from_err c.from_residual.result _ c.from_residual.ensures.0
+
+pub returns-in_err-lengths_up_to-clause-reach : goal.returns-in_err-lengths_up_to-clause-reach
+returns-in_err-lengths_up_to-clause-reach c = IfOk-from_err c.from_residual.result _ c.from_residual.ensures.0

@@ -1,3 +1,4 @@
+use Rattle.std.proofs.lemmas.Result.{IfOk-from_err}
 use Rattle.std.proofs.Common.{List, ◌+◌, ◌<◌, ◌++◌, length, map, All, ap, sym, subst, ◌∙◌, append_assoc, codes}
 use Rattle.std.specs.List.{flat_map}
 use Rattle.std.proofs.lemmas.List.Elements.{All-append}
@@ -77,3 +78,18 @@ returns c =
     ∙ ap cut_count
     ((λ i. start i + length (flat_map (term_field names) ((ap (term_trees bank) places ∙ fields_of bank asked nodes) i)))
     ∙ (whole_length names d ∙ ap (λ e. length (proof_text names e)) c.derivation.view_is))
+
+pub returns-in_err-places : goal.returns-in_err-places
+returns-in_err-places c = IfOk-from_err c.from_residual.result _ c.from_residual.ensures.0
+
+pub returns-in_err-lengths : goal.returns-in_err-lengths
+returns-in_err-lengths c = IfOk-from_err c.from_residual-in_err-lengths.result _ c.from_residual-in_err-lengths.ensures.0
+
+pub returns-in_err-extend_from_slice : goal.returns-in_err-extend_from_slice
+returns-in_err-extend_from_slice c = IfOk-from_err c.from_residual-in_err-extend_from_slice.result _ c.from_residual-in_err-extend_from_slice.ensures.0
+
+pub returns-in_err-write_lets : goal.returns-in_err-write_lets
+returns-in_err-write_lets c = IfOk-from_err c.from_residual-in_err-write_lets.result _ c.from_residual-in_err-write_lets.ensures.0
+
+pub returns-in_err-write_node_lines : goal.returns-in_err-write_node_lines
+returns-in_err-write_node_lines c = IfOk-from_err c.from_residual-in_err-write_node_lines.result _ c.from_residual-in_err-write_node_lines.ensures.0

@@ -1,3 +1,5 @@
+use Rattle.ll_prooftext.proofs.tabling.Tasks.{task_numbered, task_inside}
+use Rattle.std.proofs.lemmas.Result.{IfOk-from_err}
 use Rattle.std.proofs.Common.{◌<◌, ◌++◌, length, get_or, ap, sym, subst, ◌∙◌, refl, rules}
 use Rattle.std.specs.List.{flat_map}
 use Rattle.ll_bank.specs.Nodes.{term_trees}
@@ -49,3 +51,40 @@ returns-clause-reach c =
 
 pub returns-clause-same : goal.returns-clause-same
 returns-clause-same c = c.loop-task.invariant.1
+
+pub returns-in_err-vec-clause-table : goal.returns-in_err-vec-clause-table
+returns-in_err-vec-clause-table c = IfOk-from_err c.from_residual.result _ c.from_residual.ensures.0
+
+pub returns-in_err-vec-clause-same : goal.returns-in_err-vec-clause-same
+returns-in_err-vec-clause-same c = IfOk-from_err c.from_residual.result _ c.from_residual.ensures.0
+
+pub returns-in_err-vec-clause-reach : goal.returns-in_err-vec-clause-reach
+returns-in_err-vec-clause-reach c = IfOk-from_err c.from_residual.result _ c.from_residual.ensures.0
+
+pub returns-in_err-push_entries-clause-table : goal.returns-in_err-push_entries-clause-table
+returns-in_err-push_entries-clause-table c = IfOk-from_err c.from_residual-in_err-push_entries.result _ c.from_residual-in_err-push_entries.ensures.0
+
+pub returns-in_err-push_entries-clause-same : goal.returns-in_err-push_entries-clause-same
+returns-in_err-push_entries-clause-same c = IfOk-from_err c.from_residual-in_err-push_entries.result _ c.from_residual-in_err-push_entries.ensures.0
+
+pub returns-in_err-push_entries-clause-reach : goal.returns-in_err-push_entries-clause-reach
+returns-in_err-push_entries-clause-reach c = IfOk-from_err c.from_residual-in_err-push_entries.result _ c.from_residual-in_err-push_entries.ensures.0
+
+pub returns-in_err-take-clause-table : goal.returns-in_err-take-clause-table
+returns-in_err-take-clause-table c = IfOk-from_err c.from_residual-in_err-take.result _ c.from_residual-in_err-take.ensures.0
+
+pub returns-in_err-take-clause-same : goal.returns-in_err-take-clause-same
+returns-in_err-take-clause-same c = IfOk-from_err c.from_residual-in_err-take.result _ c.from_residual-in_err-take.ensures.0
+
+pub returns-in_err-take-clause-reach : goal.returns-in_err-take-clause-reach
+returns-in_err-take-clause-reach c = IfOk-from_err c.from_residual-in_err-take.result _ c.from_residual-in_err-take.ensures.0
+
+pub take-requires-clause-numbered : goal.take-requires-clause-numbered
+take-requires-clause-numbered c =
+    task_numbered c.args.bank.now (flat_map completed (term_trees c.args.bank.now c.args.fields.now)) c.loop-task.table c.loop-task.tasks.items
+    c.pop.new.self.items c.in-Some.task c.in-Some.ensures.items c.loop-task.invariant.0
+
+pub take-requires-clause-inside : goal.take-requires-clause-inside
+take-requires-clause-inside c =
+    task_inside c.args.bank.now (flat_map completed (term_trees c.args.bank.now c.args.fields.now)) c.loop-task.table c.loop-task.tasks.items
+    c.pop.new.self.items c.in-Some.task c.in-Some.ensures.items c.loop-task.invariant.0

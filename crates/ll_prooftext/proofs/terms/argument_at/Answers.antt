@@ -1,3 +1,4 @@
+use Rattle.std.proofs.lemmas.Result.{IfOk-from_err}
 use Rattle.ll_prooftext.proofs.spelling.Arguments.{no_argument, other_end, word_argument, not_ended}
 use Rattle.ll_prooftext.proofs.terms.argument_at.Goals as goal
 
@@ -15,3 +16,25 @@ returns-then-not-is_at_end-clause-found c =
 
 pub returns-in-None-clause-found : goal.returns-in-None-clause-found
 returns-in-None-clause-found c = no_argument c.args.bytes.now c.in_default.ensures (rw c.in-None.is at c.in_ok-word.ensures.found)
+
+pub returns-in_err-word-clause-found : goal.returns-in_err-word-clause-found
+returns-in_err-word-clause-found c = IfOk-from_err c.from_residual.result _ c.from_residual.ensures.0
+
+pub returns-in_err-term_of-in-Some-2-clause-found : goal.returns-in_err-term_of-in-Some-2-clause-found
+returns-in_err-term_of-in-Some-2-clause-found c =
+    IfOk-from_err c.from_residual-in_err-term_of-in-Some-2.result _ c.from_residual-in_err-term_of-in-Some-2.ensures.0
+
+pub returns-in_err-word-clause-grows : goal.returns-in_err-word-clause-grows
+returns-in_err-word-clause-grows c = c.word_at.ensures.grows
+
+pub returns-in_err-term_of-in-Some-2-clause-grows : goal.returns-in_err-term_of-in-Some-2-clause-grows
+returns-in_err-term_of-in-Some-2-clause-grows c = c.word_at.ensures.grows
+
+pub returns-in_ok-term_of-in-Some-2-clause-grows : goal.returns-in_ok-term_of-in-Some-2-clause-grows
+returns-in_ok-term_of-in-Some-2-clause-grows c = c.word_at.ensures.grows
+
+pub returns-then-not-is_at_end-clause-grows : goal.returns-then-not-is_at_end-clause-grows
+returns-then-not-is_at_end-clause-grows c = c.word_at.ensures.grows
+
+pub returns-in-None-clause-grows : goal.returns-in-None-clause-grows
+returns-in-None-clause-grows c = c.word_at.ensures.grows

@@ -1,3 +1,5 @@
+use Rattle.std.proofs.lemmas.Result.{IfOk-from_err}
+use Rattle.ll_prooftext.proofs.spelling.Kept.{grows_none}
 use Rattle.std.proofs.Common.{arith, rules}
 use Rattle.ll_bank.proofs.CallerLemmas.{Extends-refl}
 use Rattle.ll_prooftext.proofs.spelling.Spellings.{no_variable, no_eigen}
@@ -50,3 +52,44 @@ returns-in_ok-add-in-Some-name_of-clause-moves c =
 pub returns-in_ok-add-in-Some-name_of-clause-grows : goal.returns-in_ok-add-in-Some-name_of-clause-grows
 returns-in_ok-add-in-Some-name_of-clause-grows c = grows_name c.args.names.now c.add.new.self c.in-Some-name_of.text.now
     c.in_ok-add-in-Some-name_of.ensures.added
+
+pub returns-in_err-var-in-Some-wide_number_of-clause-found : goal.returns-in_err-var-in-Some-wide_number_of-clause-found
+returns-in_err-var-in-Some-wide_number_of-clause-found c = IfOk-from_err c.from_residual.result _ c.from_residual.ensures.0
+
+pub returns-in_err-var-in-Some-wide_number_of-clause-moves : goal.returns-in_err-var-in-Some-wide_number_of-clause-moves
+returns-in_err-var-in-Some-wide_number_of-clause-moves c = IfOk-from_err c.from_residual.result _ c.from_residual.ensures.0
+
+pub returns-in_err-int-clause-found : goal.returns-in_err-int-clause-found
+returns-in_err-int-clause-found c = IfOk-from_err c.from_residual-in_err-int.result _ c.from_residual-in_err-int.ensures.0
+
+pub returns-in_err-int-clause-moves : goal.returns-in_err-int-clause-moves
+returns-in_err-int-clause-moves c = IfOk-from_err c.from_residual-in_err-int.result _ c.from_residual-in_err-int.ensures.0
+
+pub returns-in_err-add-in-Some-name_of-clause-found : goal.returns-in_err-add-in-Some-name_of-clause-found
+returns-in_err-add-in-Some-name_of-clause-found c =
+    IfOk-from_err c.from_residual-in_err-add-in-Some-name_of.result _ c.from_residual-in_err-add-in-Some-name_of.ensures.0
+
+pub returns-in_err-add-in-Some-name_of-clause-moves : goal.returns-in_err-add-in-Some-name_of-clause-moves
+returns-in_err-add-in-Some-name_of-clause-moves c =
+    IfOk-from_err c.from_residual-in_err-add-in-Some-name_of.result _ c.from_residual-in_err-add-in-Some-name_of.ensures.0
+
+pub returns-in_err-var-in-Some-wide_number_of-clause-grows : goal.returns-in_err-var-in-Some-wide_number_of-clause-grows
+returns-in_err-var-in-Some-wide_number_of-clause-grows c = grows_none c.args.names.now
+
+pub returns-in_ok-var-in-Some-wide_number_of-clause-grows : goal.returns-in_ok-var-in-Some-wide_number_of-clause-grows
+returns-in_ok-var-in-Some-wide_number_of-clause-grows c = grows_none c.args.names.now
+
+pub returns-in-None-clause-grows : goal.returns-in-None-clause-grows
+returns-in-None-clause-grows c = grows_none c.args.names.now
+
+pub returns-in-Some-number_of-clause-grows : goal.returns-in-Some-number_of-clause-grows
+returns-in-Some-number_of-clause-grows c = grows_none c.args.names.now
+
+pub returns-in-None-number_of-clause-grows : goal.returns-in-None-number_of-clause-grows
+returns-in-None-number_of-clause-grows c = grows_none c.args.names.now
+
+pub returns-in_err-int-clause-grows : goal.returns-in_err-int-clause-grows
+returns-in_err-int-clause-grows c = grows_none c.args.names.now
+
+pub returns-in-Some-integer_of-clause-grows : goal.returns-in-Some-integer_of-clause-grows
+returns-in-Some-integer_of-clause-grows c = grows_none c.args.names.now

@@ -1,3 +1,4 @@
+use Rattle.std.proofs.lemmas.Result.{IfOk-from_err}
 use Rattle.std.proofs.Common.{◌<◌, ◌++◌, List, length, get_or, All, ap, sym, subst, ◌∙◌, MatchOption}
 use Rattle.std.specs.List.{flat_map}
 use Rattle.std.proofs.lemmas.List.Elements.{All-append}
@@ -63,3 +64,18 @@ returns c =
     off_found o table c.deref-6.result.now c.first_off.result (c.deref-6.ensures.value ∙ fields) c.in_ok-table.ensures.table numbered
     (subst (λ (ps : List At). MatchOption c.first_off.result (AreInPlace table ps (length ps)) (IsFirstOff table ps)) c.deref-7.ensures.value
     c.first_off.ensures)
+
+pub returns-in_err-fields : goal.returns-in_err-fields
+returns-in_err-fields c = IfOk-from_err c.from_residual.result _ c.from_residual.ensures.0
+
+pub returns-in_err-extend_from_slice : goal.returns-in_err-extend_from_slice
+returns-in_err-extend_from_slice c = IfOk-from_err c.from_residual-in_err-extend_from_slice.result _ c.from_residual-in_err-extend_from_slice.ensures.0
+
+pub returns-in_err-extend_from_slice-2 : goal.returns-in_err-extend_from_slice-2
+returns-in_err-extend_from_slice-2 c = IfOk-from_err c.from_residual-in_err-extend_from_slice-2.result _ c.from_residual-in_err-extend_from_slice-2.ensures.0
+
+pub returns-in_err-classes : goal.returns-in_err-classes
+returns-in_err-classes c = IfOk-from_err c.from_residual-in_err-classes.result _ c.from_residual-in_err-classes.ensures.0
+
+pub returns-in_err-table : goal.returns-in_err-table
+returns-in_err-table c = IfOk-from_err c.from_residual-in_err-table.result _ c.from_residual-in_err-table.ensures.0

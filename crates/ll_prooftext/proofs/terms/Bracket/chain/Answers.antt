@@ -1,3 +1,4 @@
+use Rattle.std.proofs.lemmas.Result.{IfOk-from_err}
 use Rattle.std.proofs.Common.{◌≡◌, length, arith, rules}
 use Rattle.ll_bank.proofs.CallerLemmas.{Extends-refl}
 use Rattle.ll_prooftext.proofs.spelling.Chains.{chain_none, chain_more, chain_keeps}
@@ -22,3 +23,9 @@ loop-left-preserved c =
           c.loop-left.invariant.shows c.loop-left.invariant.keeps c.in_ok-term.ensures.shows;
       keeps = chain_keeps c.args.bank.now c.loop-left.bank c.app.new.self c.loop-left.invariant.keeps c.in_ok-term.ensures.keeps;
     }
+
+pub returns-in_err-term-clause-term : goal.returns-in_err-term-clause-term
+returns-in_err-term-clause-term c = IfOk-from_err c.from_residual.result _ c.from_residual.ensures.0
+
+pub returns-in_err-term-clause-keeps : goal.returns-in_err-term-clause-keeps
+returns-in_err-term-clause-keeps c = IfOk-from_err c.from_residual.result _ c.from_residual.ensures.0

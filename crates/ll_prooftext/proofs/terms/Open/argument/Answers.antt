@@ -1,3 +1,5 @@
+use Rattle.std.proofs.lemmas.Result.{IfOk-from_err}
+use Rattle.ll_prooftext.proofs.spelling.Kept.{grows_none}
 use Rattle.std.proofs.Common.{sym, subst, refl, ap, ◌∙◌, ◌∷◌, Some}
 use Rattle.ll_prooftext.specs.Brackets.{Turns}
 use Rattle.ll_prooftext.proofs.spelling.Steps.{argument_opened, argument_put, argument_stuck}
@@ -21,3 +23,36 @@ returns-in_ok-push-in-Some-2-clause-step c =
 pub returns-in-None-clause-step : goal.returns-in-None-clause-step
 returns-in-None-clause-step c = argument_stuck c.args.self.now c.args.part c.args.rest.now c.requires.part c.in_default-behind.ensures
     (rw c.in-None.is at c.in_ok-word.ensures.found)
+
+pub returns-in_err-open-clause-step : goal.returns-in_err-open-clause-step
+returns-in_err-open-clause-step c = IfOk-from_err c.from_residual.result _ c.from_residual.ensures.0
+
+pub returns-in_err-word-clause-step : goal.returns-in_err-word-clause-step
+returns-in_err-word-clause-step c = IfOk-from_err c.from_residual-in_err-word.result _ c.from_residual-in_err-word.ensures.0
+
+pub returns-in_err-at-in-Some-2-clause-step : goal.returns-in_err-at-in-Some-2-clause-step
+returns-in_err-at-in-Some-2-clause-step c = IfOk-from_err c.from_residual-in_err-at-in-Some-2.result _ c.from_residual-in_err-at-in-Some-2.ensures.0
+
+pub returns-in_err-push-in-Some-2-clause-step : goal.returns-in_err-push-in-Some-2-clause-step
+returns-in_err-push-in-Some-2-clause-step c = IfOk-from_err c.from_residual-in_err-push-in-Some-2.result _ c.from_residual-in_err-push-in-Some-2.ensures.0
+
+pub returns-in_err-word-clause-grows : goal.returns-in_err-word-clause-grows
+returns-in_err-word-clause-grows c = c.word_at.ensures.grows
+
+pub returns-in_err-at-in-Some-2-clause-grows : goal.returns-in_err-at-in-Some-2-clause-grows
+returns-in_err-at-in-Some-2-clause-grows c = c.word_at.ensures.grows
+
+pub returns-in_err-push-in-Some-2-clause-grows : goal.returns-in_err-push-in-Some-2-clause-grows
+returns-in_err-push-in-Some-2-clause-grows c = c.word_at.ensures.grows
+
+pub returns-in_ok-push-in-Some-2-clause-grows : goal.returns-in_ok-push-in-Some-2-clause-grows
+returns-in_ok-push-in-Some-2-clause-grows c = c.word_at.ensures.grows
+
+pub returns-in-None-clause-grows : goal.returns-in-None-clause-grows
+returns-in-None-clause-grows c = c.word_at.ensures.grows
+
+pub returns-in-Some-clause-grows : goal.returns-in-Some-clause-grows
+returns-in-Some-clause-grows c = grows_none c.args.names.now
+
+pub returns-in_err-open-clause-grows : goal.returns-in_err-open-clause-grows
+returns-in_err-open-clause-grows c = grows_none c.args.names.now

@@ -1,3 +1,5 @@
+use Rattle.ll_prooftext.proofs.reading.Calls.{fewer}
+use Rattle.std.proofs.lemmas.Result.{IfOk-from_err}
 use Rattle.std.proofs.Common.{sym, ap, subst, ◌∙◌, refl, Some}
 use Rattle.ll_lists.proofs.CallerLemmas.{IfOk-each as if_ok}
 use Rattle.ll_bank.specs.Nodes.{AllInTerms}
@@ -71,3 +73,18 @@ returns-in_ok-push-in-Head-clause-grows c = grows_none c.args.names.now
 
 pub returns-in-Term-clause-grows : goal.returns-in-Term-clause-grows
 returns-in-Term-clause-grows c = grows_none c.args.names.now
+
+pub returns-in_err-last-clause-step : goal.returns-in_err-last-clause-step
+returns-in_err-last-clause-step c = IfOk-from_err c.from_residual.result _ c.from_residual.ensures.0
+
+pub returns-in_err-at-clause-step : goal.returns-in_err-at-clause-step
+returns-in_err-at-clause-step c = IfOk-from_err c.from_residual-in_err-at.result _ c.from_residual-in_err-at.ensures.0
+
+pub returns-in_err-push-in-Head-clause-step : goal.returns-in_err-push-in-Head-clause-step
+returns-in_err-push-in-Head-clause-step c = IfOk-from_err c.from_residual-in_err-push-in-Head.result _ c.from_residual-in_err-push-in-Head.ensures.0
+
+pub close_item-requires : goal.close_item-requires
+close_item-requires c = fewer _ _ _ c.requires.room
+
+pub returns-in_default-part-clause-grows : goal.returns-in_default-part-clause-grows
+returns-in_default-part-clause-grows c = c.close_item.ensures.grows

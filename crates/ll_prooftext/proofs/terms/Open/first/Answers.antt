@@ -1,3 +1,5 @@
+use Rattle.std.proofs.lemmas.Result.{IfOk-from_err}
+use Rattle.ll_prooftext.proofs.spelling.Kept.{grows_none}
 use Rattle.std.proofs.Common.{sym, subst, refl}
 use Rattle.ll_prooftext.specs.Brackets.{Turns}
 use Rattle.ll_prooftext.proofs.spelling.Steps.{first_opened, first_put, first_stuck}
@@ -17,3 +19,24 @@ returns-in-Some-2-clause-step c =
 
 pub returns-in-None-clause-step : goal.returns-in-None-clause-step
 returns-in-None-clause-step c = first_stuck c.args.self.now c.args.rest.now c.requires.part c.in_default.ensures (rw c.in-None.is at c.in_ok-word.ensures.found)
+
+pub returns-in_err-open-clause-step : goal.returns-in_err-open-clause-step
+returns-in_err-open-clause-step c = IfOk-from_err c.from_residual.result _ c.from_residual.ensures.0
+
+pub returns-in_err-word-clause-step : goal.returns-in_err-word-clause-step
+returns-in_err-word-clause-step c = IfOk-from_err c.from_residual-in_err-word.result _ c.from_residual-in_err-word.ensures.0
+
+pub returns-in_err-word-clause-grows : goal.returns-in_err-word-clause-grows
+returns-in_err-word-clause-grows c = c.word_at.ensures.grows
+
+pub returns-in-Some-2-clause-grows : goal.returns-in-Some-2-clause-grows
+returns-in-Some-2-clause-grows c = c.word_at.ensures.grows
+
+pub returns-in-None-clause-grows : goal.returns-in-None-clause-grows
+returns-in-None-clause-grows c = c.word_at.ensures.grows
+
+pub returns-in-Some-clause-grows : goal.returns-in-Some-clause-grows
+returns-in-Some-clause-grows c = grows_none c.args.names.now
+
+pub returns-in_err-open-clause-grows : goal.returns-in_err-open-clause-grows
+returns-in_err-open-clause-grows c = grows_none c.args.names.now

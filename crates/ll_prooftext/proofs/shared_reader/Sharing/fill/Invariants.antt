@@ -1,9 +1,9 @@
 use Rattle.std.proofs.Common.{length}
 use Rattle.ll_prooftext.proofs.reading.SoFarOver.{IsSoFarOver}
-use Rattle.ll_prooftext.proofs.shared_reader.read2.Given as goal
+use Rattle.ll_prooftext.proofs.shared_reader.Sharing.fill.Given as goal
 
 abbrev pub invariant-loop-line : goal.invariant-loop-line
-invariant-loop-line l = IsSoFarOver l.text l.initial.names l.names l.reading l.lines
+invariant-loop-line l = IsSoFarOver l.text l.initial.names l.names l.self l.lines
 
 abbrev pub decreases-loop-line : goal.decreases-loop-line
 decreases-loop-line l = length l.lines.rest.now

@@ -1,0 +1,129 @@
+use Rattle.std.proofs.Common.{arith, length}
+use Rattle.std.specs.Prelude.{◌&&◌}
+use Rattle.ll_prooftext.specs.Reading.{is_none}
+use Rattle.ll_prooftext.specs.SharedLines.{want_over}
+use Rattle.ll_prooftext.proofs.reading.Faults.{refused_within}
+use Rattle.ll_prooftext.proofs.reading.FaultsOver.{no_version2_cause, left_over_cause, refused_over_cause, missing_over_cause, off_cause, off_few, text2_read}
+use Rattle.ll_prooftext.proofs.reading.FaultsOver.{names2_read}
+use Rattle.ll_prooftext.proofs.spelling.Kept.{grows_none, grows_on}
+use Rattle.ll_prooftext.proofs.reading.SoFarOver.{over_none, over_more, rows_few}
+use Rattle.ll_prooftext.proofs.reading.TakesRead.{next_begins}
+use Rattle.ll_prooftext.proofs.reading.Whole.{terms_inside, rules_inside}
+use Rattle.ll_prooftext.proofs.shared_reader.Sharing.fill.Goals as goal
+
+pub behind_version-requires : goal.behind_version-requires
+behind_version-requires c = c.requires.short
+
+pub returns-in_default-clause-err : goal.returns-in_default-clause-err
+returns-in_default-clause-err c = no_version2_cause c.args.text.now _ c.in_default.ensures c.fault.ensures
+
+pub returns-in_default-clause-grows : goal.returns-in_default-clause-grows
+returns-in_default-clause-grows c = grows_none c.args.names.now
+
+pub loop-line-init : goal.loop-line-init
+loop-line-init c = over_none c.args.text.now c.args.names.now c.args.self.now c.in-Some.lines c.in-Some.ensures c.requires.rows
+    c.requires.asked c.requires.nodes c.requires.lacking
+
+pub next-requires-clause-begins : goal.next-requires-clause-begins
+next-requires-clause-begins c = next_begins _ c.loop-line.lines.rest.now c.loop-line.lines.at c.loop-line.invariant.next
+
+pub next-requires-clause-room : goal.next-requires-clause-room
+next-requires-clause-room c = let low = c.loop-line.invariant.low in let short = c.requires.short in omega arith
+
+pub returns-then-self-eq0-clause-err : goal.returns-then-self-eq0-clause-err
+returns-then-self-eq0-clause-err c =
+    left_over_cause c.args.text.now c.args.names.now c.loop-line.names c.loop-line.self c.loop-line.lines c.in-Some-next.line c.next.new.self
+    c.loop-line.invariant c.in-Some-next.ensures _ c.if-self-eq0.true c.fault-then-self-eq0.ensures
+
+pub returns-then-self-eq0-clause-grows : goal.returns-then-self-eq0-clause-grows
+returns-then-self-eq0-clause-grows c = c.loop-line.invariant.grows
+
+pub take-requires-clause-lacks : goal.take-requires-clause-lacks
+take-requires-clause-lacks c = let more = c.if-self-eq0.false in omega arith
+
+pub take-requires-clause-count : goal.take-requires-clause-count
+take-requires-clause-count c = let few = c.loop-line.invariant.few in let room = c.in-Some-next.ensures.room in let short = c.requires.short in omega arith
+
+pub take-requires-clause-room : goal.take-requires-clause-room
+take-requires-clause-room c = let so_far = c.loop-line.invariant.room in let room = c.in-Some-next.ensures.room in let all = c.requires.room in omega arith
+
+pub take-requires-clause-few : goal.take-requires-clause-few
+take-requires-clause-few c = let r = rows_few c.args.text.now c.args.names.now c.loop-line.names c.loop-line.self c.loop-line.lines c.next.new.self
+    c.in-Some-next.line c.loop-line.invariant c.in-Some-next.ensures in let short = c.requires.short in omega arith
+
+pub take-requires-clause-rows : goal.take-requires-clause-rows
+take-requires-clause-rows c = c.loop-line.invariant.rows
+
+pub line_fault-requires-clause-within : goal.line_fault-requires-clause-within
+line_fault-requires-clause-within c =
+    let o = c.loop-line.self in
+    refused_within (want_over (length o.rows.items) (is_none o.asked.items && is_none o.nodes.items) (is_none o.nodes.items)) c.in-Some-next.line.bytes.now
+    c.in-Err.refusal c.in-Err.ensures.err
+
+pub line_fault-requires-clause-short : goal.line_fault-requires-clause-short
+line_fault-requires-clause-short c = let few = c.loop-line.invariant.few in let room = c.in-Some-next.ensures.room in let short = c.requires.short in
+    omega arith
+
+pub returns-in-Err-clause-err : goal.returns-in-Err-clause-err
+returns-in-Err-clause-err c =
+    refused_over_cause c.args.text.now c.args.names.now c.loop-line.names c.loop-line.self c.loop-line.lines c.in-Some-next.line c.next.new.self
+    c.loop-line.invariant c.in-Some-next.ensures c.in-Err.refusal _ (let more = c.if-self-eq0.false in omega arith) c.in-Err.ensures.err
+    c.line_fault.ensures
+
+pub returns-in-Err-clause-grows : goal.returns-in-Err-clause-grows
+returns-in-Err-clause-grows c = grows_on c.args.names.now c.loop-line.names c.take.new.names c.loop-line.invariant.grows c.take.ensures.grows
+
+pub loop-line-smaller : goal.loop-line-smaller
+loop-line-smaller c = c.in-Some-next.ensures.shorter
+
+pub loop-line-preserved : goal.loop-line-preserved
+loop-line-preserved c =
+    over_more c.args.text.now c.args.names.now c.loop-line.names c.loop-line.self c.loop-line.lines c.in-Some-next.line c.next.new.self c.take.new.names
+    c.take.new.self c.loop-line.invariant c.in-Some-next.ensures (let more = c.if-self-eq0.false in omega arith)
+    c.in_default-take.ensures.ok
+
+pub returns-then-self-gt0-clause-err : goal.returns-then-self-gt0-clause-err
+returns-then-self-gt0-clause-err c =
+    missing_over_cause c.args.text.now c.args.names.now c.loop-line.names c.loop-line.self c.loop-line.lines c.next.new.self.at _ c.loop-line.invariant
+    c.in_default-next.ensures.rest c.in_default-next.ensures.at c.if-self-gt0.true c.fault-then-self-gt0.ensures
+
+pub returns-then-self-gt0-clause-grows : goal.returns-then-self-gt0-clause-grows
+returns-then-self-gt0-clause-grows c = c.loop-line.invariant.grows
+
+pub overflow_cast-row : goal.overflow_cast-row
+overflow_cast-row c = let h = off_few c.args.text.now c.args.names.now c.loop-line.names c.loop-line.self c.loop-line.lines c.in-Some-2.row
+    c.loop-line.invariant (rw c.in-Some-2.is at c.in_ok-row.ensures) in let s = c.requires.short in omega arith
+
+pub overflow_add-row : goal.overflow_add-row
+overflow_add-row c = let h = off_few c.args.text.now c.args.names.now c.loop-line.names c.loop-line.self c.loop-line.lines c.in-Some-2.row
+    c.loop-line.invariant (rw c.in-Some-2.is at c.in_ok-row.ensures) in let s = c.requires.short in omega arith
+
+pub returns-in-Some-2-clause-err : goal.returns-in-Some-2-clause-err
+returns-in-Some-2-clause-err c =
+    off_cause c.args.text.now c.args.names.now c.loop-line.names c.loop-line.self c.loop-line.lines c.in-Some-2.row _ c.loop-line.invariant
+    c.in_default-next.ensures.rest (let none = c.if-self-gt0.false in
+    omega arith) c.len-count.ensures.distinct (rw c.in-Some-2.is at c.in_ok-row.ensures) c.fault-in-Some-2.ensures
+
+pub returns-clause-ok : goal.returns-clause-ok
+returns-clause-ok c = text2_read c.args.text.now c.args.names.now c.loop-line.names c.loop-line.self c.loop-line.lines c.loop-line.invariant
+    c.in_default-next.ensures.rest (let none = c.if-self-gt0.false in omega arith) (rw c.in_default-2.is at c.in_ok-row.ensures)
+
+pub returns-clause-names : goal.returns-clause-names
+returns-clause-names c = names2_read c.args.text.now c.args.names.now c.loop-line.names c.loop-line.self c.loop-line.lines c.loop-line.invariant
+    c.in_default-next.ensures.rest
+
+pub returns-clause-terms : goal.returns-clause-terms
+returns-clause-terms c = terms_inside c.loop-line.names c.loop-line.self.bank c.loop-line.self.asked.items c.loop-line.invariant.asked
+
+pub returns-clause-rules : goal.returns-clause-rules
+returns-clause-rules c = rules_inside c.loop-line.names c.loop-line.self.bank c.loop-line.self.nodes.items c.loop-line.invariant.nodes
+
+pub returns-clause-grows : goal.returns-clause-grows
+returns-clause-grows c = c.loop-line.invariant.grows
+
+pub off_row-requires : goal.off_row-requires
+off_row-requires c = record {
+  asked = terms_inside c.loop-line.names c.loop-line.self.bank c.loop-line.self.asked.items c.loop-line.invariant.asked;
+  nodes = rules_inside c.loop-line.names c.loop-line.self.bank c.loop-line.self.nodes.items c.loop-line.invariant.nodes;
+  rows = terms_inside c.loop-line.names c.loop-line.self.bank c.loop-line.self.rows.items c.loop-line.invariant.rows;
+}

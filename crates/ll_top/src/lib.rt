@@ -194,10 +194,8 @@ fn serve_search<R: Threads + Wait + Sync, F: Shelf, O: Sink, G: Gate>(
         Command::Session(session) => serve_session(&team, &session, shelf, sink),
         Command::Deepen(deepen) => serve_deepen(&team, &deepen, shelf, sink),
         Command::MadeRun(made) => serve_made_run(&team, made, sink),
-        Command::Print(_) => unreachable!(),
-        Command::Check(_) => unreachable!(),
-        Command::Convert(_) => unreachable!(),
-        Command::Make(_) => unreachable!(),
+        // The others have no workers.
+        _ => unreachable!(),
     }
 }
 
@@ -222,14 +220,14 @@ fn serve_plain<F: Shelf, O: Sink>(
     ensures misused { (IsInForm (word_texts words.now) → ⊥) → (result ≡ Some 3) ⊎ (result ≡ Some 6) }
 {
     match read_command(words) {
-        Ok(Command::Run(_)) => None,
-        Ok(Command::Session(_)) => None,
-        Ok(Command::Deepen(_)) => None,
-        Ok(Command::MadeRun(_)) => None,
-        Ok(Command::Print(name)) => Some(serve_print(alloc, name, shelf, sink)),
-        Ok(Command::Check(check)) => Some(serve_check(alloc, &check, shelf, sink)),
-        Ok(Command::Convert(convert)) => Some(serve_convert(alloc, &convert, shelf, sink)),
-        Ok(Command::Make(make)) => Some(serve_make(alloc, make, sink)),
+        Ok(command) => match command {
+            Command::Print(name) => Some(serve_print(alloc, name, shelf, sink)),
+            Command::Check(check) => Some(serve_check(alloc, &check, shelf, sink)),
+            Command::Convert(convert) => Some(serve_convert(alloc, &convert, shelf, sink)),
+            Command::Make(make) => Some(serve_make(alloc, make, sink)),
+            // The others have workers.
+            _ => None,
+        },
         Err(number) => Some(refuse(Cause::Usage(number), sink)),
     }
 }

@@ -28,7 +28,7 @@ use std::sync::{Arc, Wait};
 use std::thread::Threads;
 
 /// What a run found.
-#[derive(Clone, Copy, Debug, PartialEq, Eq)]
+#[derive(Clone, Copy)]
 pub enum Found {
     /// Some answer.
     Answer,

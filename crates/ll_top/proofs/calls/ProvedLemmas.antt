@@ -110,3 +110,16 @@ refused-past cause w before after status r h =
 pub shown-run : (words : List (List ℕ)) (told : Option Texts) (run other : RunWords) (before after : Option (List ℕ)) → IsRun words run → IsRun words other
     → WritesShown told run before after → WritesShown told other before after
 shown-run words told run other before after h k s = subst (λ r. WritesShown told r before after) (one-run words run other h k) s
+
+-- neither have a write that failed and want of memory
+pub six-past : {P : Type 0} → 6 ≤ 2 → P
+six-past h = absurd (omega arith)
+
+pub ten-past : {P : Type 0} → 10 ≤ 2 → P
+ten-past h = absurd (omega arith)
+
+pub six-apart : {P : Type 0} → ◌≡◌ {A = ℕ} 6 1 → P
+six-apart e = absurd (omega arith)
+
+pub ten-apart : {P : Type 0} → ◌≡◌ {A = ℕ} 10 1 → P
+ten-apart e = absurd (omega arith)

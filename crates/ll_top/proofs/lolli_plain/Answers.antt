@@ -26,3 +26,25 @@ returns-clause-uncovered g c = plain-uncovered (word_texts c.args.words.now) _ _
 
 pub returns-clause-complete : goal.returns-clause-complete
 returns-clause-complete g c = plain-completes (word_texts c.args.words.now) _ _ _ _ _ _ c.serve_plain.result c.serve_plain.ensures.outcome c.one_text.ensures
+
+pub returns-clause-workers : goal.returns-clause-workers
+returns-clause-workers g c = c.serve_plain.ensures.workers
+
+pub returns-clause-untouched : goal.returns-clause-untouched
+returns-clause-untouched g c = c.serve_plain.ensures.untouched
+
+pub returns-clause-outcome : goal.returns-clause-outcome
+returns-clause-outcome g c = c.serve_plain.ensures.outcome
+
+pub returns-clause-misused : goal.returns-clause-misused
+returns-clause-misused g c = c.serve_plain.ensures.misused
+
+pub returns-clause-same_texts : goal.returns-clause-same_texts
+returns-clause-same_texts g c = c.serve_plain.ensures.same_texts
+
+pub returns-clause-counts_kept : goal.returns-clause-counts_kept
+returns-clause-counts_kept g c = (
+  c.serve_plain.ensures.shelf_faults_kept,
+  c.serve_plain.ensures.absences_kept,
+  c.serve_plain.ensures.sink_faults_kept,
+)

@@ -1,5 +1,5 @@
 -- What a call comes to, from the way its command ended, and what that says.
-use Rattle.std.proofs.Common.{◌≡◌, ◌⊎◌, ◌≤◌, ℕ, refl, ap, sym, subst, ◌∙◌, Bool, true, false, List, [], ◌∷◌, inl, inr, arith}
+use Rattle.std.proofs.Common.{◌≡◌, ◌⊎◌, ◌≤◌, ◌↔◌, ℕ, refl, ap, sym, subst, ◌∙◌, Bool, true, false, List, [], ◌∷◌, inl, inr, arith}
 use Rattle.std.specs.Prelude.{Option, None, Some, is_some, IfSome, if◌then◌else◌}
 use Rattle.std.specs.Io.KnownBytes.{append_known}
 use Rattle.std.specs.List.{list_any}
@@ -8,7 +8,7 @@ use Rattle.ll_laws.specs.Problem.{ProblemTree, problem_events}
 use Rattle.ll_laws.specs.Search.{is_answer, is_reached}
 use Rattle.ll_laws.specs.Output.{run_status, status_by}
 use Rattle.ll_words.specs.Words.{RunWords, SessionWords, DeepenWords, CheckWords, ConvertWords, FitsForm, cover_form, IsCheckForm, IsInForm, IsRun, IsSession}
-use Rattle.ll_words.specs.Words.{IsDeepen, IsPrint, IsCheck, IsConvert, IsMake, IsMadeRun, IsBadWord}
+use Rattle.ll_words.specs.Words.{IsDeepen, IsPrint, IsCheck, IsConvert, IsMake, IsMadeRun, IsBadWord, IsInWorkersForm, run_form}
 use Rattle.ll_top.specs.Making.{MakeComesTo}
 use Rattle.ll_words.specs.Making.{MakeWords, MadeRunWords}
 use Rattle.ll_top.specs.MadeRuns.{MadeRunComesTo}
@@ -565,3 +565,18 @@ module _ (words : List (List ℕ)) (told : Option Texts) (absence read_failed wr
       → ComesTo words (Some texts) (Unit {0}) ⊥ other more → (status ≡ other) × (text ≡ more))
       → (status : ℕ) → answer ≡ Some status → Headline words told before after status
   plain-heads one status e = heads one words told absence read_failed write_failed before after status (at-status_of status e)
+
+-- no words of a run were served
+pub no-plain-run : (words : List (List ℕ)) (status : ℕ) → ((Some status ≡ None) ↔ IsInWorkersForm words) → FitsForm run_form words → ⊥
+no-plain-run words status h f = let e = h.1 (inl (inl f)) in cc
+
+-- a status that is one of two
+pub plain-misused : (status first second : ℕ) → (Some status ≡ Some first) ⊎ (Some status ≡ Some second) → (status ≡ first) ⊎ (status ≡ second)
+plain-misused status first second (inl e) = inl cc
+plain-misused status first second (inr e) = inr cc
+
+-- words in no form end with one of two
+pub usage-misused : (number : ℕ) (write_failed : Type 0) (before after : Option (List ℕ)) (status : ℕ)
+    → Refuses (Usage number) write_failed before after status → (Some status ≡ Some 3) ⊎ (Some status ≡ Some 6)
+usage-misused number write_failed before after status (line s a) = inl (ap (λ n. Some n) s)
+usage-misused number write_failed before after status (cut s w a) = inr (ap (λ n. Some n) s)

@@ -1,97 +1,178 @@
-use Rattle.std.proofs.Common.{refl, ap}
-use Rattle.ll_words.specs.Words.{shown_check, shown_convert, shown_make, word_texts}
+use Rattle.std.proofs.Common.{◌≡◌, List, ℕ, true, refl, ap, sym, subst, le_refl}
+use Rattle.std.specs.Borrow.{Bor}
+use Rattle.ll_words.specs.declared.words.CheckCommand.{CheckCommand}
+use Rattle.ll_words.specs.declared.words.ConvertCommand.{ConvertCommand}
+use Rattle.ll_words.specs.declared.making.MakeCommand.{MakeCommand}
+use Rattle.ll_words.specs.declared.words.Command.{Command}
+use Rattle.ll_words.specs.declared.words.Command.TheVariants as command
+use Rattle.ll_words.specs.Words.{IsCommand, IsBounded, shown_check, shown_convert, shown_make, word_texts}
 use Rattle.ll_words.specs.CommandKinds.{command_kind, has_team}
+use Rattle.ll_lists.proofs.CallerLemmas.{none_not_some}
 use Rattle.ll_words.proofs.CallerLemmas.{asked-workers, asked-alone, asked-in-form, workers-in-form, bad-not-in-form}
-use Rattle.ll_top.proofs.outcomes.CallLemmas.{print-call, check-call, convert-call, make-call, usage-call}
+use Rattle.ll_top.proofs.outcomes.CallLemmas.{print-call, check-call, convert-call, make-call, usage-call, usage-misused}
 use Rattle.ll_top.proofs.serve_plain.Goals as goal
 
-pub returns-in-Ok-Run-clause-workers : goal.returns-in-Ok-Run-clause-workers
-returns-in-Ok-Run-clause-workers g c = (
-  λ e. asked-workers (word_texts c.args.words.now) c.in-Ok-Run.field-0 c.in-Ok-Run.ensures.command
-      (ap (λ x. has_team (command_kind x)) c.in-Ok-Run.field-0-is),
+-- what is none of these says how many search
+has-workers : (c : Command) → ((name : Bor (List ℕ)) → c ≡ command.Print name → ⊥) → ((check : CheckCommand) → c ≡ command.Check check → ⊥)
+    → ((convert : ConvertCommand) → c ≡ command.Convert convert → ⊥) → ((make : MakeCommand) → c ≡ command.Make make → ⊥)
+    → has_team (command_kind c) ≡ true
+has-workers (command.Print name) p q r s = absurd (p name refl)
+has-workers (command.Check check) p q r s = absurd (q check refl)
+has-workers (command.Convert convert) p q r s = absurd (r convert refl)
+has-workers (command.Make make) p q r s = absurd (s make refl)
+has-workers (command.Run run) p q r s = refl
+has-workers (command.Session session) p q r s = refl
+has-workers (command.Deepen deepen) p q r s = refl
+has-workers (command.MadeRun run) p q r s = refl
+
+pub returns-in-Print-clause-workers : goal.returns-in-Print-clause-workers
+returns-in-Print-clause-workers g c = (
+  λ e. cc,
+  λ f. absurd (asked-alone (word_texts c.args.words.now) c.in-Ok.command c.in-Ok.ensures.command
+      (ap (λ x. has_team (command_kind x)) c.in-Print.is) f),
+)
+
+pub returns-in-Print-clause-untouched : goal.returns-in-Print-clause-untouched
+returns-in-Print-clause-untouched g c = λ e. absurd (none_not_some _ (sym e))
+
+pub returns-in-Print-clause-outcome : goal.returns-in-Print-clause-outcome
+returns-in-Print-clause-outcome g c =
+    let words = word_texts c.args.words.now in
+    print-call words _ _ _ _ _ _ _ c.in-Print.name.now (subst (IsCommand words) c.in-Print.is c.in-Ok.ensures.command) c.serve_print.ensures.ends
+
+pub returns-in-Print-clause-misused : goal.returns-in-Print-clause-misused
+returns-in-Print-clause-misused g c = λ h. absurd (h (asked-in-form (word_texts c.args.words.now) c.in-Ok.command c.in-Ok.ensures.command))
+
+pub returns-in-Print-clause-same_texts : goal.returns-in-Print-clause-same_texts
+returns-in-Print-clause-same_texts g c = c.serve_print.ensures.same_texts
+
+pub returns-in-Print-clause-shelf_faults_kept : goal.returns-in-Print-clause-shelf_faults_kept
+returns-in-Print-clause-shelf_faults_kept g c = c.serve_print.ensures.shelf_faults_kept
+
+pub returns-in-Print-clause-absences_kept : goal.returns-in-Print-clause-absences_kept
+returns-in-Print-clause-absences_kept g c = c.serve_print.ensures.absences_kept
+
+pub returns-in-Print-clause-sink_faults_kept : goal.returns-in-Print-clause-sink_faults_kept
+returns-in-Print-clause-sink_faults_kept g c = c.serve_print.ensures.sink_faults_kept
+
+pub returns-in-Check-clause-workers : goal.returns-in-Check-clause-workers
+returns-in-Check-clause-workers g c = (
+  λ e. cc,
+  λ f. absurd (asked-alone (word_texts c.args.words.now) c.in-Ok.command c.in-Ok.ensures.command
+      (ap (λ x. has_team (command_kind x)) c.in-Check.is) f),
+)
+
+pub returns-in-Check-clause-untouched : goal.returns-in-Check-clause-untouched
+returns-in-Check-clause-untouched g c = λ e. absurd (none_not_some _ (sym e))
+
+pub returns-in-Check-clause-outcome : goal.returns-in-Check-clause-outcome
+returns-in-Check-clause-outcome g c =
+    let words = word_texts c.args.words.now in
+    check-call words _ _ _ _ _ _ _ (shown_check c.in-Check.check) (subst (IsCommand words) c.in-Check.is c.in-Ok.ensures.command) c.serve_check.ensures.ends
+
+pub returns-in-Check-clause-misused : goal.returns-in-Check-clause-misused
+returns-in-Check-clause-misused g c = λ h. absurd (h (asked-in-form (word_texts c.args.words.now) c.in-Ok.command c.in-Ok.ensures.command))
+
+pub returns-in-Check-clause-same_texts : goal.returns-in-Check-clause-same_texts
+returns-in-Check-clause-same_texts g c = c.serve_check.ensures.same_texts
+
+pub returns-in-Check-clause-shelf_faults_kept : goal.returns-in-Check-clause-shelf_faults_kept
+returns-in-Check-clause-shelf_faults_kept g c = c.serve_check.ensures.shelf_faults_kept
+
+pub returns-in-Check-clause-absences_kept : goal.returns-in-Check-clause-absences_kept
+returns-in-Check-clause-absences_kept g c = c.serve_check.ensures.absences_kept
+
+pub returns-in-Check-clause-sink_faults_kept : goal.returns-in-Check-clause-sink_faults_kept
+returns-in-Check-clause-sink_faults_kept g c = c.serve_check.ensures.sink_faults_kept
+
+pub returns-in-Convert-clause-workers : goal.returns-in-Convert-clause-workers
+returns-in-Convert-clause-workers g c = (
+  λ e. cc,
+  λ f. absurd (asked-alone (word_texts c.args.words.now) c.in-Ok.command c.in-Ok.ensures.command
+      (ap (λ x. has_team (command_kind x)) c.in-Convert.is) f),
+)
+
+pub returns-in-Convert-clause-untouched : goal.returns-in-Convert-clause-untouched
+returns-in-Convert-clause-untouched g c = λ e. absurd (none_not_some _ (sym e))
+
+pub returns-in-Convert-clause-outcome : goal.returns-in-Convert-clause-outcome
+returns-in-Convert-clause-outcome g c =
+    let words = word_texts c.args.words.now in
+    convert-call words _ _ _ _ _ _ _ (shown_convert c.in-Convert.convert)
+    (subst (IsCommand words) c.in-Convert.is c.in-Ok.ensures.command) c.serve_convert.ensures.ends
+
+pub returns-in-Convert-clause-misused : goal.returns-in-Convert-clause-misused
+returns-in-Convert-clause-misused g c = λ h. absurd (h (asked-in-form (word_texts c.args.words.now) c.in-Ok.command c.in-Ok.ensures.command))
+
+pub returns-in-Convert-clause-same_texts : goal.returns-in-Convert-clause-same_texts
+returns-in-Convert-clause-same_texts g c = c.serve_convert.ensures.same_texts
+
+pub returns-in-Convert-clause-shelf_faults_kept : goal.returns-in-Convert-clause-shelf_faults_kept
+returns-in-Convert-clause-shelf_faults_kept g c = c.serve_convert.ensures.shelf_faults_kept
+
+pub returns-in-Convert-clause-absences_kept : goal.returns-in-Convert-clause-absences_kept
+returns-in-Convert-clause-absences_kept g c = c.serve_convert.ensures.absences_kept
+
+pub returns-in-Convert-clause-sink_faults_kept : goal.returns-in-Convert-clause-sink_faults_kept
+returns-in-Convert-clause-sink_faults_kept g c = c.serve_convert.ensures.sink_faults_kept
+
+pub returns-in-Make-clause-workers : goal.returns-in-Make-clause-workers
+returns-in-Make-clause-workers g c = (
+  λ e. cc,
+  λ f. absurd (asked-alone (word_texts c.args.words.now) c.in-Ok.command c.in-Ok.ensures.command
+      (ap (λ x. has_team (command_kind x)) c.in-Make.is) f),
+)
+
+pub returns-in-Make-clause-untouched : goal.returns-in-Make-clause-untouched
+returns-in-Make-clause-untouched g c = λ e. absurd (none_not_some _ (sym e))
+
+pub returns-in-Make-clause-outcome : goal.returns-in-Make-clause-outcome
+returns-in-Make-clause-outcome g c =
+    let words = word_texts c.args.words.now in
+    make-call words _ _ _ _ _ _ _ (shown_make c.in-Make.make) (subst (IsCommand words) c.in-Make.is c.in-Ok.ensures.command) c.serve_make.ensures.ends
+
+pub returns-in-Make-clause-misused : goal.returns-in-Make-clause-misused
+returns-in-Make-clause-misused g c = λ h. absurd (h (asked-in-form (word_texts c.args.words.now) c.in-Ok.command c.in-Ok.ensures.command))
+
+pub returns-in-Make-clause-same_texts : goal.returns-in-Make-clause-same_texts
+returns-in-Make-clause-same_texts g c = refl
+
+pub returns-in-Make-clause-shelf_faults_kept : goal.returns-in-Make-clause-shelf_faults_kept
+returns-in-Make-clause-shelf_faults_kept g c = le_refl _
+
+pub returns-in-Make-clause-absences_kept : goal.returns-in-Make-clause-absences_kept
+returns-in-Make-clause-absences_kept g c = le_refl _
+
+pub returns-in-Make-clause-sink_faults_kept : goal.returns-in-Make-clause-sink_faults_kept
+returns-in-Make-clause-sink_faults_kept g c = c.serve_make.ensures.faults_kept
+
+pub returns-in_default-clause-workers : goal.returns-in_default-clause-workers
+returns-in_default-clause-workers g c = (
+  λ e. asked-workers (word_texts c.args.words.now) c.in-Ok.command c.in-Ok.ensures.command
+      (has-workers c.in-Ok.command c.in_default.not-Print c.in_default.not-Check c.in_default.not-Convert c.in_default.not-Make),
   λ f. refl,
 )
 
-pub returns-in-Ok-Session-clause-workers : goal.returns-in-Ok-Session-clause-workers
-returns-in-Ok-Session-clause-workers g c = (
-  λ e. asked-workers (word_texts c.args.words.now) c.in-Ok-Session.field-0 c.in-Ok-Session.ensures.command
-      (ap (λ x. has_team (command_kind x)) c.in-Ok-Session.field-0-is),
-  λ f. refl,
-)
+pub returns-in_default-clause-untouched : goal.returns-in_default-clause-untouched
+returns-in_default-clause-untouched g c = λ e. (refl, refl)
 
-pub returns-in-Ok-Deepen-clause-workers : goal.returns-in-Ok-Deepen-clause-workers
-returns-in-Ok-Deepen-clause-workers g c = (
-  λ e. asked-workers (word_texts c.args.words.now) c.in-Ok-Deepen.field-0 c.in-Ok-Deepen.ensures.command
-      (ap (λ x. has_team (command_kind x)) c.in-Ok-Deepen.field-0-is),
-  λ f. refl,
-)
+pub returns-in_default-clause-outcome : goal.returns-in_default-clause-outcome
+returns-in_default-clause-outcome g c = tt
 
-pub returns-in-Ok-MadeRun-clause-workers : goal.returns-in-Ok-MadeRun-clause-workers
-returns-in-Ok-MadeRun-clause-workers g c = (
-  λ e. asked-workers (word_texts c.args.words.now) c.in-Ok-MadeRun.field-0 c.in-Ok-MadeRun.ensures.command
-      (ap (λ x. has_team (command_kind x)) c.in-Ok-MadeRun.field-0-is),
-  λ f. refl,
-)
+pub returns-in_default-clause-misused : goal.returns-in_default-clause-misused
+returns-in_default-clause-misused g c = λ h. absurd (h (asked-in-form (word_texts c.args.words.now) c.in-Ok.command c.in-Ok.ensures.command))
 
-pub returns-in-Ok-Print-clause-workers : goal.returns-in-Ok-Print-clause-workers
-returns-in-Ok-Print-clause-workers g c = (
-  λ e. cc,
-  λ f. absurd (asked-alone (word_texts c.args.words.now) c.in-Ok-Print.field-0 c.in-Ok-Print.ensures.command
-      (ap (λ x. has_team (command_kind x)) c.in-Ok-Print.field-0-is) f),
-)
+pub returns-in_default-clause-same_texts : goal.returns-in_default-clause-same_texts
+returns-in_default-clause-same_texts g c = refl
 
-pub returns-in-Ok-Print-clause-outcome : goal.returns-in-Ok-Print-clause-outcome
-returns-in-Ok-Print-clause-outcome g c =
-    print-call (word_texts c.args.words.now) _ _ _ _ _ _ _ c.in-Ok-Print.name.now (rw c.in-Ok-Print.field-0-is at c.in-Ok-Print.ensures.command)
-    c.serve_print.ensures.ends
+pub returns-in_default-clause-shelf_faults_kept : goal.returns-in_default-clause-shelf_faults_kept
+returns-in_default-clause-shelf_faults_kept g c = le_refl _
 
-pub returns-in-Ok-Print-clause-misused : goal.returns-in-Ok-Print-clause-misused
-returns-in-Ok-Print-clause-misused g c = λ h. absurd (h (asked-in-form (word_texts c.args.words.now) c.in-Ok-Print.field-0 c.in-Ok-Print.ensures.command))
+pub returns-in_default-clause-absences_kept : goal.returns-in_default-clause-absences_kept
+returns-in_default-clause-absences_kept g c = le_refl _
 
-pub returns-in-Ok-Check-clause-workers : goal.returns-in-Ok-Check-clause-workers
-returns-in-Ok-Check-clause-workers g c = (
-  λ e. cc,
-  λ f. absurd (asked-alone (word_texts c.args.words.now) c.in-Ok-Check.field-0 c.in-Ok-Check.ensures.command
-      (ap (λ x. has_team (command_kind x)) c.in-Ok-Check.field-0-is) f),
-)
-
-pub returns-in-Ok-Check-clause-outcome : goal.returns-in-Ok-Check-clause-outcome
-returns-in-Ok-Check-clause-outcome g c =
-    check-call (word_texts c.args.words.now) _ _ _ _ _ _ _ (shown_check c.in-Ok-Check.check) (rw c.in-Ok-Check.field-0-is at c.in-Ok-Check.ensures.command)
-    c.serve_check.ensures.ends
-
-pub returns-in-Ok-Check-clause-misused : goal.returns-in-Ok-Check-clause-misused
-returns-in-Ok-Check-clause-misused g c = λ h. absurd (h (asked-in-form (word_texts c.args.words.now) c.in-Ok-Check.field-0 c.in-Ok-Check.ensures.command))
-
-pub returns-in-Ok-Convert-clause-workers : goal.returns-in-Ok-Convert-clause-workers
-returns-in-Ok-Convert-clause-workers g c = (
-  λ e. cc,
-  λ f. absurd (asked-alone (word_texts c.args.words.now) c.in-Ok-Convert.field-0 c.in-Ok-Convert.ensures.command
-      (ap (λ x. has_team (command_kind x)) c.in-Ok-Convert.field-0-is) f),
-)
-
-pub returns-in-Ok-Convert-clause-outcome : goal.returns-in-Ok-Convert-clause-outcome
-returns-in-Ok-Convert-clause-outcome g c =
-    convert-call (word_texts c.args.words.now) _ _ _ _ _ _ _ (shown_convert c.in-Ok-Convert.convert)
-    (rw c.in-Ok-Convert.field-0-is at c.in-Ok-Convert.ensures.command) c.serve_convert.ensures.ends
-
-pub returns-in-Ok-Convert-clause-misused : goal.returns-in-Ok-Convert-clause-misused
-returns-in-Ok-Convert-clause-misused g c = λ h. absurd (h (asked-in-form (word_texts c.args.words.now) c.in-Ok-Convert.field-0 c.in-Ok-Convert.ensures.command))
-
-pub returns-in-Ok-Make-clause-workers : goal.returns-in-Ok-Make-clause-workers
-returns-in-Ok-Make-clause-workers g c = (
-  λ e. cc,
-  λ f. absurd (asked-alone (word_texts c.args.words.now) c.in-Ok-Make.field-0 c.in-Ok-Make.ensures.command
-      (ap (λ x. has_team (command_kind x)) c.in-Ok-Make.field-0-is) f),
-)
-
-pub returns-in-Ok-Make-clause-outcome : goal.returns-in-Ok-Make-clause-outcome
-returns-in-Ok-Make-clause-outcome g c =
-    make-call (word_texts c.args.words.now) _ _ _ _ _ _ _ (shown_make c.in-Ok-Make.make) (rw c.in-Ok-Make.field-0-is at c.in-Ok-Make.ensures.command)
-    c.serve_make.ensures.ends
-
-pub returns-in-Ok-Make-clause-misused : goal.returns-in-Ok-Make-clause-misused
-returns-in-Ok-Make-clause-misused g c = λ h. absurd (h (asked-in-form (word_texts c.args.words.now) c.in-Ok-Make.field-0 c.in-Ok-Make.ensures.command))
+pub returns-in_default-clause-sink_faults_kept : goal.returns-in_default-clause-sink_faults_kept
+returns-in_default-clause-sink_faults_kept g c = le_refl _
 
 pub returns-in-Err-clause-workers : goal.returns-in-Err-clause-workers
 returns-in-Err-clause-workers g c =
@@ -99,3 +180,30 @@ returns-in-Err-clause-workers g c =
 
 pub returns-in-Err-clause-outcome : goal.returns-in-Err-clause-outcome
 returns-in-Err-clause-outcome g c = usage-call (word_texts c.args.words.now) _ _ _ _ _ _ _ c.in-Err.number c.in-Err.ensures.command c.refuse.ensures.refuses
+
+pub returns-in-Err-clause-untouched : goal.returns-in-Err-clause-untouched
+returns-in-Err-clause-untouched g c = λ e. absurd (none_not_some _ (sym e))
+
+pub returns-in-Err-clause-misused : goal.returns-in-Err-clause-misused
+returns-in-Err-clause-misused g c = λ h. usage-misused c.in-Err.number _ _ _ _ c.refuse.ensures.refuses
+
+pub returns-in-Err-clause-same_texts : goal.returns-in-Err-clause-same_texts
+returns-in-Err-clause-same_texts g c = refl
+
+pub returns-in-Err-clause-shelf_faults_kept : goal.returns-in-Err-clause-shelf_faults_kept
+returns-in-Err-clause-shelf_faults_kept g c = le_refl _
+
+pub returns-in-Err-clause-absences_kept : goal.returns-in-Err-clause-absences_kept
+returns-in-Err-clause-absences_kept g c = le_refl _
+
+pub returns-in-Err-clause-sink_faults_kept : goal.returns-in-Err-clause-sink_faults_kept
+returns-in-Err-clause-sink_faults_kept g c = c.refuse.ensures.faults_kept
+
+pub serve_check-requires : goal.serve_check-requires
+serve_check-requires g c = record { bound = subst IsBounded c.in-Check.is c.in-Ok.ensures.bound }
+
+pub serve_convert-requires : goal.serve_convert-requires
+serve_convert-requires g c = record { version = subst IsBounded c.in-Convert.is c.in-Ok.ensures.bound }
+
+pub serve_make-requires : goal.serve_make-requires
+serve_make-requires g c = subst IsBounded c.in-Make.is c.in-Ok.ensures.bound

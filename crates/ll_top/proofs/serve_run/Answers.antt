@@ -1,11 +1,11 @@
-use Rattle.std.proofs.Common.{ap, ◌∙◌, arith}
+use Rattle.std.proofs.Common.{ap, ◌∙◌, arith, le_trans}
 use Rattle.ll_edge.proofs.CallerLemmas.{Rose-later}
 use Rattle.ll_words.specs.Words.{shown_words}
 use Rattle.ll_judge.specs.Endings.{cause_of}
 use Rattle.ll_judge.specs.Outcome.{name_of}
 use Rattle.ll_top.proofs.outcomes.OutcomeLemmas.{found-ends, cut-ends, memory-ends, refusal-ends}
 use Rattle.ll_judge.proofs.CallerLemmas.{refuses-later}
-use Rattle.ll_top.proofs.calls.ProvedLemmas.{run-shown, refused-past}
+use Rattle.ll_top.proofs.calls.ProvedLemmas.{run-shown, refused-past, six-past, ten-past, six-apart, ten-apart}
 use Rattle.ll_top.proofs.calls.NothingLemmas.{asks-in-vain}
 use Rattle.ll_top.proofs.serve_run.Goals as goal
 
@@ -41,3 +41,63 @@ returns-in-Ok-clause-nothing g c = λ one.
 
 pub returns-in-Err-Text-clause-nothing : goal.returns-in-Err-Text-clause-nothing
 returns-in-Err-Text-clause-nothing g c = λ one. absurd (refused-past _ _ _ _ _ c.refuse.ensures.refuses (omega (arith, one)))
+
+pub returns-in-Ok-clause-same_texts : goal.returns-in-Ok-clause-same_texts
+returns-in-Ok-clause-same_texts g c = c.in-Ok.ensures.same_texts
+
+pub returns-in-Ok-clause-shelf_faults_kept : goal.returns-in-Ok-clause-shelf_faults_kept
+returns-in-Ok-clause-shelf_faults_kept g c = c.in-Ok.ensures.shelf_faults_kept
+
+pub returns-in-Ok-clause-absences_kept : goal.returns-in-Ok-clause-absences_kept
+returns-in-Ok-clause-absences_kept g c = c.in-Ok.ensures.absences_kept
+
+pub returns-in-Ok-clause-sink_faults_kept : goal.returns-in-Ok-clause-sink_faults_kept
+returns-in-Ok-clause-sink_faults_kept g c = c.in-Ok.ensures.sink_faults_kept
+
+pub returns-in-Err-Unwritable-clause-same_texts : goal.returns-in-Err-Unwritable-clause-same_texts
+returns-in-Err-Unwritable-clause-same_texts g c = c.in-Err-Unwritable.ensures.same_texts
+
+pub returns-in-Err-Unwritable-clause-shelf_faults_kept : goal.returns-in-Err-Unwritable-clause-shelf_faults_kept
+returns-in-Err-Unwritable-clause-shelf_faults_kept g c = c.in-Err-Unwritable.ensures.shelf_faults_kept
+
+pub returns-in-Err-Unwritable-clause-absences_kept : goal.returns-in-Err-Unwritable-clause-absences_kept
+returns-in-Err-Unwritable-clause-absences_kept g c = c.in-Err-Unwritable.ensures.absences_kept
+
+pub returns-in-Err-Unwritable-clause-sink_faults_kept : goal.returns-in-Err-Unwritable-clause-sink_faults_kept
+returns-in-Err-Unwritable-clause-sink_faults_kept g c = c.in-Err-Unwritable.ensures.sink_faults_kept
+
+pub returns-in-Err-OutOfMemory-clause-same_texts : goal.returns-in-Err-OutOfMemory-clause-same_texts
+returns-in-Err-OutOfMemory-clause-same_texts g c = c.in-Err-OutOfMemory.ensures.same_texts
+
+pub returns-in-Err-OutOfMemory-clause-shelf_faults_kept : goal.returns-in-Err-OutOfMemory-clause-shelf_faults_kept
+returns-in-Err-OutOfMemory-clause-shelf_faults_kept g c = c.in-Err-OutOfMemory.ensures.shelf_faults_kept
+
+pub returns-in-Err-OutOfMemory-clause-absences_kept : goal.returns-in-Err-OutOfMemory-clause-absences_kept
+returns-in-Err-OutOfMemory-clause-absences_kept g c = c.in-Err-OutOfMemory.ensures.absences_kept
+
+pub returns-in-Err-OutOfMemory-clause-sink_faults_kept : goal.returns-in-Err-OutOfMemory-clause-sink_faults_kept
+returns-in-Err-OutOfMemory-clause-sink_faults_kept g c = c.in-Err-OutOfMemory.ensures.sink_faults_kept
+
+pub returns-in-Err-Text-clause-same_texts : goal.returns-in-Err-Text-clause-same_texts
+returns-in-Err-Text-clause-same_texts g c = c.in-Err-Text.ensures.same_texts
+
+pub returns-in-Err-Text-clause-shelf_faults_kept : goal.returns-in-Err-Text-clause-shelf_faults_kept
+returns-in-Err-Text-clause-shelf_faults_kept g c = c.in-Err-Text.ensures.shelf_faults_kept
+
+pub returns-in-Err-Text-clause-absences_kept : goal.returns-in-Err-Text-clause-absences_kept
+returns-in-Err-Text-clause-absences_kept g c = c.in-Err-Text.ensures.absences_kept
+
+pub returns-in-Err-Text-clause-sink_faults_kept : goal.returns-in-Err-Text-clause-sink_faults_kept
+returns-in-Err-Text-clause-sink_faults_kept g c = le_trans c.in-Err-Text.ensures.sink_faults_kept c.refuse.ensures.faults_kept
+
+pub returns-in-Err-Unwritable-clause-proved : goal.returns-in-Err-Unwritable-clause-proved
+returns-in-Err-Unwritable-clause-proved g c = λ h. six-past h
+
+pub returns-in-Err-OutOfMemory-clause-proved : goal.returns-in-Err-OutOfMemory-clause-proved
+returns-in-Err-OutOfMemory-clause-proved g c = λ h. ten-past h
+
+pub returns-in-Err-Unwritable-clause-nothing : goal.returns-in-Err-Unwritable-clause-nothing
+returns-in-Err-Unwritable-clause-nothing g c = λ e. six-apart e
+
+pub returns-in-Err-OutOfMemory-clause-nothing : goal.returns-in-Err-OutOfMemory-clause-nothing
+returns-in-Err-OutOfMemory-clause-nothing g c = λ e. ten-apart e

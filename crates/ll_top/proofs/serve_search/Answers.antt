@@ -1,10 +1,43 @@
-use Rattle.std.proofs.Common.{sym, subst}
-use Rattle.ll_words.specs.Words.{IsCommand, shown_words, shown_session, shown_deepen, shown_made_run, word_texts}
+use Rattle.std.proofs.Common.{◌≡◌, ℕ, refl, sym, subst, le_refl}
+use Rattle.std.specs.Prelude.{Some}
+use Rattle.ll_words.specs.declared.words.RunCommand.{RunCommand}
+use Rattle.ll_words.specs.declared.words.SessionCommand.{SessionCommand}
+use Rattle.ll_words.specs.declared.words.DeepenCommand.{DeepenCommand}
+use Rattle.ll_words.specs.declared.making.MadeRunCommand.{MadeRunCommand}
+use Rattle.ll_words.specs.declared.words.Command.{Command}
+use Rattle.ll_words.specs.declared.words.Command.TheVariants as command
+use Rattle.ll_words.specs.FormWords.{workers_of}
+use Rattle.ll_words.specs.Words.{IsCommand, IsBounded, IsWorkerCount, shown_words, shown_session, shown_deepen, shown_made_run, word_texts}
+use Rattle.ll_lists.proofs.CallerLemmas.{some_is}
 use Rattle.ll_words.proofs.CallerLemmas.{asked-alone, asked-run, no-team, workers-in-form, bad-not-in-form}
 use Rattle.ll_top.proofs.outcomes.CallLemmas.{run-call, session-call, deepen-call, made-run-call}
 use Rattle.ll_top.proofs.calls.ProvedLemmas.{shown-run}
 use Rattle.ll_top.proofs.calls.NothingLemmas.{vain-run}
 use Rattle.ll_top.proofs.serve_search.Goals as goal
+
+-- what says how many search is one of these
+no-other : (c : Command) (w : ℕ) → Some w ≡ workers_of c → ((run : RunCommand) → c ≡ command.Run run → ⊥)
+    → ((session : SessionCommand) → c ≡ command.Session session → ⊥) → ((deepen : DeepenCommand) → c ≡ command.Deepen deepen → ⊥)
+    → ((made : MadeRunCommand) → c ≡ command.MadeRun made → ⊥) → ⊥
+no-other (command.Run run) w e p q r s = p run refl
+no-other (command.Session session) w e p q r s = q session refl
+no-other (command.Deepen deepen) w e p q r s = r deepen refl
+no-other (command.MadeRun made) w e p q r s = s made refl
+no-other (command.Print name) w e p q r s = cc
+no-other (command.Check check) w e p q r s = cc
+no-other (command.Convert convert) w e p q r s = cc
+no-other (command.Make make) w e p q r s = cc
+
+-- they are from 1 to 64
+worker-count : (c : Command) (w : ℕ) → Some w ≡ workers_of c → IsBounded c → IsWorkerCount w
+worker-count (command.Run run) w e b = subst IsWorkerCount (some_is run.workers w (sym e)) b.1
+worker-count (command.Session session) w e b = subst IsWorkerCount (some_is session.workers w (sym e)) b.1
+worker-count (command.Deepen deepen) w e b = subst IsWorkerCount (some_is deepen.workers w (sym e)) b.1
+worker-count (command.MadeRun run) w e b = subst IsWorkerCount (some_is run.workers w (sym e)) b.2
+worker-count (command.Print name) w e b = cc
+worker-count (command.Check check) w e b = cc
+worker-count (command.Convert convert) w e b = cc
+worker-count (command.Make make) w e b = cc
 
 pub unreachable-requires : goal.unreachable-requires
 unreachable-requires g c =
@@ -72,3 +105,68 @@ returns-in-MadeRun-clause-proved g c = λ run is small.
 pub returns-in-MadeRun-clause-nothing : goal.returns-in-MadeRun-clause-nothing
 returns-in-MadeRun-clause-nothing g c = λ run is one.
     absurd (let k = asked-run (word_texts c.args.words.now) c.in-Ok.command _ c.in-MadeRun.is c.in-Ok.ensures.command is.form in cc)
+
+pub returns-in-Run-clause-same_texts : goal.returns-in-Run-clause-same_texts
+returns-in-Run-clause-same_texts g c = c.serve_run.ensures.same_texts
+
+pub returns-in-Run-clause-shelf_faults_kept : goal.returns-in-Run-clause-shelf_faults_kept
+returns-in-Run-clause-shelf_faults_kept g c = c.serve_run.ensures.shelf_faults_kept
+
+pub returns-in-Run-clause-absences_kept : goal.returns-in-Run-clause-absences_kept
+returns-in-Run-clause-absences_kept g c = c.serve_run.ensures.absences_kept
+
+pub returns-in-Run-clause-sink_faults_kept : goal.returns-in-Run-clause-sink_faults_kept
+returns-in-Run-clause-sink_faults_kept g c = c.serve_run.ensures.sink_faults_kept
+
+pub returns-in-Session-clause-same_texts : goal.returns-in-Session-clause-same_texts
+returns-in-Session-clause-same_texts g c = c.serve_session.ensures.same_texts
+
+pub returns-in-Session-clause-shelf_faults_kept : goal.returns-in-Session-clause-shelf_faults_kept
+returns-in-Session-clause-shelf_faults_kept g c = c.serve_session.ensures.shelf_faults_kept
+
+pub returns-in-Session-clause-absences_kept : goal.returns-in-Session-clause-absences_kept
+returns-in-Session-clause-absences_kept g c = c.serve_session.ensures.absences_kept
+
+pub returns-in-Session-clause-sink_faults_kept : goal.returns-in-Session-clause-sink_faults_kept
+returns-in-Session-clause-sink_faults_kept g c = c.serve_session.ensures.sink_faults_kept
+
+pub returns-in-Deepen-clause-same_texts : goal.returns-in-Deepen-clause-same_texts
+returns-in-Deepen-clause-same_texts g c = c.serve_deepen.ensures.same_texts
+
+pub returns-in-Deepen-clause-shelf_faults_kept : goal.returns-in-Deepen-clause-shelf_faults_kept
+returns-in-Deepen-clause-shelf_faults_kept g c = c.serve_deepen.ensures.shelf_faults_kept
+
+pub returns-in-Deepen-clause-absences_kept : goal.returns-in-Deepen-clause-absences_kept
+returns-in-Deepen-clause-absences_kept g c = c.serve_deepen.ensures.absences_kept
+
+pub returns-in-Deepen-clause-sink_faults_kept : goal.returns-in-Deepen-clause-sink_faults_kept
+returns-in-Deepen-clause-sink_faults_kept g c = c.serve_deepen.ensures.sink_faults_kept
+
+pub returns-in-MadeRun-clause-same_texts : goal.returns-in-MadeRun-clause-same_texts
+returns-in-MadeRun-clause-same_texts g c = refl
+
+pub returns-in-MadeRun-clause-shelf_faults_kept : goal.returns-in-MadeRun-clause-shelf_faults_kept
+returns-in-MadeRun-clause-shelf_faults_kept g c = le_refl _
+
+pub returns-in-MadeRun-clause-absences_kept : goal.returns-in-MadeRun-clause-absences_kept
+returns-in-MadeRun-clause-absences_kept g c = le_refl _
+
+pub returns-in-MadeRun-clause-sink_faults_kept : goal.returns-in-MadeRun-clause-sink_faults_kept
+returns-in-MadeRun-clause-sink_faults_kept g c = c.serve_made_run.ensures.faults_kept
+
+pub unreachable-requires-in_default-command : goal.unreachable-requires-in_default-command
+unreachable-requires-in_default-command g c =
+    no-other c.in-Ok.command c.in-Some.workers c.in-Some.ensures c.in_default-command.not-Run c.in_default-command.not-Session
+    c.in_default-command.not-Deepen c.in_default-command.not-MadeRun
+
+pub invariant_of-team : goal.invariant_of-team
+invariant_of-team g c = record { few = worker-count c.in-Ok.command c.in-Some.workers c.in-Some.ensures c.in-Ok.ensures.bound }
+
+pub invariant_of-team-in-Session : goal.invariant_of-team-in-Session
+invariant_of-team-in-Session g c = record { few = worker-count c.in-Ok.command c.in-Some.workers c.in-Some.ensures c.in-Ok.ensures.bound }
+
+pub invariant_of-team-in-Deepen : goal.invariant_of-team-in-Deepen
+invariant_of-team-in-Deepen g c = record { few = worker-count c.in-Ok.command c.in-Some.workers c.in-Some.ensures c.in-Ok.ensures.bound }
+
+pub invariant_of-team-in-MadeRun : goal.invariant_of-team-in-MadeRun
+invariant_of-team-in-MadeRun g c = record { few = worker-count c.in-Ok.command c.in-Some.workers c.in-Some.ensures c.in-Ok.ensures.bound }

@@ -1,4 +1,5 @@
-use Rattle.std.proofs.lemmas.Result.{err_from_is_err_and}
+use Rattle.std.proofs.Common.{le_trans}
+use Rattle.std.proofs.lemmas.Result.{IfOk-from_err, err_from_is_err_and}
 use Rattle.std.specs.Prelude.{codes, decimal, ◌++◌}
 use Rattle.ll_lists.proofs.CallerLemmas.{OnErr-always as on_err}
 use Rattle.ll_laws.specs.Output.{line}
@@ -26,3 +27,23 @@ pub returns-clause-text : goal.returns-clause-text
 returns-clause-text g c =
     both-written _ _ _ (line (codes "query " ++ decimal c.args.number)) (whole_text c.args.session.now.proofs c.args.problem.now)
     c.in_ok-write_heading.ensures.line c.in_ok-run_with.ensures.text
+
+pub returns-in_err-write_heading-clause-faults_kept : goal.returns-in_err-write_heading-clause-faults_kept
+returns-in_err-write_heading-clause-faults_kept g c = c.in_err-write_heading.ensures.faults_kept
+
+pub returns-in_err-write_heading-clause-text : goal.returns-in_err-write_heading-clause-text
+returns-in_err-write_heading-clause-text g c = IfOk-from_err c.from_residual.result _ c.from_residual.ensures.0
+
+pub returns-in_err-write_heading-clause-refused : goal.returns-in_err-write_heading-clause-refused
+returns-in_err-write_heading-clause-refused g c =
+    let p = err_from_is_err_and c.from_residual.result c.from_residual.ensures.1 in
+    rw (p.1, p.2) c.in_err-write_heading.ensures.failed
+
+pub returns-in_err-run_with-clause-faults_kept : goal.returns-in_err-run_with-clause-faults_kept
+returns-in_err-run_with-clause-faults_kept g c = le_trans c.in_ok-write_heading.ensures.faults_kept c.in_err-run_with.ensures.faults_kept
+
+pub returns-in_err-run_with-clause-text : goal.returns-in_err-run_with-clause-text
+returns-in_err-run_with-clause-text g c = IfOk-from_err c.from_residual-in_err-run_with.result _ c.from_residual-in_err-run_with.ensures.0
+
+pub returns-clause-faults_kept : goal.returns-clause-faults_kept
+returns-clause-faults_kept g c = le_trans c.in_ok-write_heading.ensures.faults_kept c.in_ok-run_with.ensures.faults_kept

@@ -93,10 +93,10 @@ impl<'p> Frozen<'p> {
         requires index { IsIndexOf problem.now (arc_value index) }
         ensures { IfOk result (λ f. f ≡ opening problem.entry.now f.base) }
     {
+        let untried = vec![in alloc; Candidate { label: 0, leaf: 0 }]?;
         let machine = Machine::start(alloc, problem)?;
         let (rest, store) = machine.parted();
         let layers = Layers::whole(alloc, store)?;
-        let untried = vec![in alloc; Candidate { label: 0, leaf: 0 }]?;
         Ok(Frozen {
             rest,
             layers,
@@ -184,8 +184,7 @@ impl<'p> Frozen<'p> {
         ensures { IfOk result (λ m. Thaws self.entry.now (parts_of m)) }
     {
         let _k = k;
-        let machine = self.machine()?;
-        Ok(machine)
+        self.machine()
     }
 
     /// A machine of its own in the state as it was frozen.

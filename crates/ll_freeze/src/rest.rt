@@ -1,6 +1,7 @@
 //! Machines without their stores, and their images.
 ghost use Rattle.std.specs.Prelude.{◌≡◌, ◌≤◌, length, take, IfOk};
-ghost use Rattle.ll_store.specs.Stored.{stored, state_of as store_of, state_at};
+ghost use Rattle.ll_agenda.specs.Frames.{HasTop};
+ghost use Rattle.ll_store.specs.Stored.{State as StoreState, stored, state_of as store_of, state_at};
 ghost use Rattle.ll_freeze.specs.Parts.{parts_of, parts_at, IsGood};
 ghost use Rattle.ll_freeze.specs.Rested.{parts_with};
 ghost use Rattle.ll_freeze.specs.Fits.{Fits};
@@ -84,24 +85,54 @@ impl<'p> Machine<'p> {
 }
 
 impl<'p> Rest<'p> {
-    /// A machine with an image of this and with this store.
-    pub fn machine(&self, store: Store) -> Result<Machine<'p>, OutOfMemory>
-        requires fits { Fits (parts_with self.now (store_of (stored store))) }
-        ensures { IfOk result (λ m. IsImage (parts_with self.entry.now (store_of (stored store))) (parts_of m)) }
+    // An image of this.
+    fn image(&self) -> Result<Rest<'p>, OutOfMemory>
+        requires { HasTop self.now.agenda self.now.top }
+        ensures { IfOk result (λ r. (s : StoreState) → Fits (parts_with self.entry.now s)
+            → IsImage (parts_with self.entry.now s) (parts_with r s)) }
     {
         let context = self.context.image(self.context.mark())?;
         let (agenda, top) = self.agenda.image(self.top)?;
         let terms = first(&self.terms, self.terms.len())?;
         let steps = first(&self.steps, self.steps.len())?;
-        Ok(Machine {
+        Ok(Rest {
             problem: self.problem,
             modules: self.modules,
-            store,
             context,
             agenda,
             top,
             left: self.left,
             eigens: self.eigens,
+            terms,
+            steps,
+        })
+    }
+
+    /// A machine with an image of this and with this store.
+    pub fn machine(&self, store: Store) -> Result<Machine<'p>, OutOfMemory>
+        requires fits { Fits (parts_with self.now (store_of (stored store))) }
+        ensures { IfOk result (λ m. IsImage (parts_with self.entry.now (store_of (stored store))) (parts_of m)) }
+    {
+        let Rest {
+            problem,
+            modules,
+            context,
+            agenda,
+            top,
+            left,
+            eigens,
+            terms,
+            steps,
+        } = self.image()?;
+        Ok(Machine {
+            problem,
+            modules,
+            store,
+            context,
+            agenda,
+            top,
+            left,
+            eigens,
             terms,
             steps,
         })

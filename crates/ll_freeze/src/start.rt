@@ -20,15 +20,11 @@ impl<'p> Machine<'p> {
         requires valid { IsValid problem.now }
         ensures { IfOk result (λ m. IsStart problem.entry.now (parts_of m)) }
     {
-        let size = problem.bank.size();
-        let mut bank = problem.bank.image(size)?;
-        let count = problem.asked.len();
-        let terms = first_variables(alloc, &mut bank, count)?;
-        let store = first_cells(alloc, bank, count)?;
         let clauses = resources_of(alloc, &problem.clauses)?;
         let context = Context::start(alloc, &clauses)?;
         let mut agenda = Agenda::new(alloc);
         let top = agenda.push(Item::Goal(problem.goal), Agenda::<Item>::none())?;
+        let (store, terms) = first_store(alloc, &problem.bank, problem.asked.len())?;
         Ok(Machine {
             problem,
             modules: &problem.modules,
@@ -42,6 +38,19 @@ impl<'p> Machine<'p> {
             steps: Vec::new(alloc),
         })
     }
+}
+
+// A store over an image of this bank, with the first variables and, for each, an unbound cell of level 0.
+fn first_store(alloc: Global, bank: &Bank, count: usize) -> Result<(Store, Vec<At>), OutOfMemory>
+    ensures keeps { IfOk result (λ made. Extends bank.now made.0.bank) }
+    ensures cells { IfOk result (λ made. made.0.cells.cells ≡ replicate count (record { to = None; level = 0 })) }
+    ensures inside { IfOk result (λ made. AllInTerms made.0.bank made.1.items) }
+    ensures shows { IfOk result (λ made. term_trees made.0.bank made.1.items ≡ vars_from 0 count) }
+{
+    let mut bank = bank.image(bank.size())?;
+    let terms = first_variables(alloc, &mut bank, count)?;
+    let store = first_cells(alloc, bank, count)?;
+    Ok((store, terms))
 }
 
 // The first variables, in the order of their numbers.

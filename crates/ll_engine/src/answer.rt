@@ -13,6 +13,7 @@ use ll_freeze::Machine;
 use ll_laws::{Branch, Step};
 use ll_resources::Context;
 use std::alloc::Global;
+use std::marker::Model;
 
 /// Whether nothing is left to prove.
 pub fn is_empty(machine: &Machine<'_>) -> bool
@@ -30,12 +31,18 @@ pub fn answers(machine: &Machine<'_>) -> bool
     machine.context.flag() || !has_live(&machine.context)
 }
 
-/// What branches are made with. It is kept, so that many branches take memory for it once.
+/// What branches are made with. It is kept, so that many branches take memory for it once. Contracts see nothing of it.
 #[derive(Drop)]
 pub struct Workshop {
     carrier: Carrier,
     // Terms of a branch, before they are copied into a bank of their size.
     grown: Bank,
+}
+
+impl Model for Workshop {
+    ghost Value = { Unit {0} };
+
+    ghost view = { λ _. tt };
 }
 
 impl Workshop {

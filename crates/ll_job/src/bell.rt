@@ -1,10 +1,12 @@
 //! Where a worker waits that finds nothing to claim.
+use std::marker::Model;
 use std::sync::{Condvar, Mutex, Wait};
 use std::thread;
 
 /// Counts how often something happened to the pool for which a worker may wait, and wakes those that do.
 ///
-/// A worker that asks `heard` before it claims, and then waits for more, misses nothing that happened after its claim.
+/// A worker that asks `heard` before it claims, and then waits for more, misses nothing that happened after its claim. Contracts see nothing
+/// of it.
 #[derive(Drop)]
 pub struct Bell {
     // No worker rings it, and none waits.
@@ -12,6 +14,12 @@ pub struct Bell {
     rings: Mutex<u64>,
     helpers: Condvar,
     leader: Condvar,
+}
+
+impl Model for Bell {
+    ghost Value = { Unit {0} };
+
+    ghost view = { λ _. tt };
 }
 
 impl Bell {

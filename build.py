@@ -28,6 +28,8 @@ C_LIBRARIES = ("libos_c.a", "liblibc_c.a")
 MOST_JOBS = 4
 # In KiB. A check takes up to 3 GB, most of them half as much.
 MEMORY_OF_A_JOB = 2_200_000
+# The prover's allocator keeps the memory that it has, which it would give back to the kernel and then ask for again.
+ALLOCATOR = {"MIMALLOC_PURGE_DELAY": "-1"}
 # How many states of a library are kept.
 MOST_KEPT = 2
 A_DAY = 24 * 60 * 60
@@ -311,7 +313,7 @@ class Build:
         with log.open("wb") as out:
             words = self.kit.prove(crate, libraries, jobs, made)
             how = {"stdin": subprocess.DEVNULL, "stdout": out, "stderr": subprocess.STDOUT, "start_new_session": True}
-            process = subprocess.Popen(words, cwd=crate.folder, **how)
+            process = subprocess.Popen(words, cwd=crate.folder, env={**ALLOCATOR, **os.environ}, **how)
         self.running[process.pid] = Check(crate, process, jobs, log, room, place)
 
     def end(self, check, status):

@@ -16,11 +16,17 @@ use ll_laws::Kind;
 use std::alloc::Global;
 
 /// An entry without its live mark.
-#[derive(Clone, Copy)]
+#[derive(Copy)]
 pub(crate) struct Stored<C: Copy> {
     pub(crate) label: u32,
     pub(crate) kind: Kind,
     pub(crate) clause: C,
+}
+
+impl<C: Copy> Clone for Stored<C> {
+    fn clone(&self) -> Result<Self, OutOfMemory> {
+        Ok(*self)
+    }
 }
 
 /// A context as it stands.
@@ -37,7 +43,7 @@ pub(crate) struct State<C: Copy> {
 }
 
 /// A change of a context, with what taking it back needs.
-#[derive(Clone, Copy)]
+#[derive(Copy)]
 pub(crate) enum Change<C: Copy> {
     /// A clause came in front, under this label. The flag is that from before.
     Loaded {
@@ -66,6 +72,12 @@ pub(crate) enum Change<C: Copy> {
         from: usize,
         flag: bool,
     },
+}
+
+impl<C: Copy> Clone for Change<C> {
+    fn clone(&self) -> Result<Self, OutOfMemory> {
+        Ok(*self)
+    }
 }
 
 impl<C: Copy> State<C> {

@@ -1,8 +1,9 @@
 -- The lists of an agenda: they stay as it grows, and each frame's is its item in front of the list at its rest.
 use Rattle.std.proofs.Common.{◌≡◌, ℕ, suc, ◌+◌, ◌<◌, ◌≤◌, true, false, List, [], ◌∷◌, ◌++◌, length, get_or, take, drop, refl, ap, sym, subst, ◌∙◌, arith}
-use Rattle.std.proofs.Common.{append_assoc, length-append}
+use Rattle.std.proofs.Common.{append_assoc, length-append, inl, inr}
+use Rattle.std.proofs.lemmas.Bool.{cases_lt}
 use Rattle.std.proofs.Math.Seq.{get_or-append_seam, take-suc}
-use Rattle.std.proofs.lemmas.List.{append-nil, take-append-drop, length-take-le}
+use Rattle.std.proofs.lemmas.List.{append-nil, take-append-drop, length-take-le, get_or-take, get_or_push, get_or_append_left}
 use Rattle.ll_bank.specs.Nodes.{grow}
 use Rattle.ll_bank.proofs.CallerLemmas.{grow-append, length-grow, get_or-grow}
 use Rattle.ll_agenda.specs.declared.agenda.Top.{Top}
@@ -84,6 +85,10 @@ module _ {T : Type 0} where
 
   -- ---- what a push leaves, and what is read at a top
 
+  -- the frames behind those inside are behind those that contracts see
+  pub seen_append : (inside now new more : Frames T) → inside ≡ now → new ≡ inside ++ more → new ≡ now ++ more
+  seen_append inside now new more view e = e ∙ ap (λ (frames : Frames T). frames ++ more) view
+
   -- the top of the new frame
   pub ShowsItems-push : (old new : Frames T) (item : T) (rest top : Top) → new ≡ old ++ (item, rest) ∷ [] → top.place ≡ length old + 1
       → ShowsItems new top (item ∷ items_at old rest)
@@ -92,6 +97,26 @@ module _ {T : Type 0} where
         inside = let l = length-append old ((item, rest) ∷ []) in omega arith;
         list = items_at-last old (item, rest) top is;
       })
+
+  -- the frames stay well founded with one more, the rest of which is a top of them
+  pub IsWellFounded-push : (old now new : Frames T) (item : T) (rest : Top) → IsWellFounded old → old ≡ now → HasTop now rest → new ≡ old ++ (item, rest) ∷ []
+      → IsWellFounded new
+  IsWellFounded-push old now new item rest low view inside e = subst (λ (frames : Frames T). IsWellFounded frames) (sym e) more
+    where
+      more : IsWellFounded (old ++ (item, rest) ∷ [])
+      more at d l = elim (cases_lt at (length old)) [
+        | inl h ↦ subst (λ (f : T × Top). f.1.place ≤ at) (sym (get_or_append_left old ((item, rest) ∷ []) d at h)) (low at d h)
+        | inr h ↦
+            let n = length-append old ((item, rest) ∷ []) in let v = ap length view in
+            let i : rest.place ≤ at = omega arith in
+            subst (λ (f : T × Top). f.1.place ≤ at) (sym (get_or_push old (item, rest) d at (omega arith))) i
+      ]
+
+  -- and with fewer
+  pub IsWellFounded-cut : (len : ℕ) (frames left : Frames T) → IsWellFounded frames → len ≤ length frames → left ≡ take len frames → IsWellFounded left
+  IsWellFounded-cut len frames left low within e = subst (λ (fs : Frames T). IsWellFounded fs) (sym e) (λ at d l.
+      let n = length-take-le len frames within in
+      subst (λ (f : T × Top). f.1.place ≤ at) (sym (get_or-take len frames at d (omega arith))) (low at d (omega arith)))
 
   -- a frame's list is its item in front of the list of its rest
   items_at-frame : (frames : Frames T) (top : Top) (at : ℕ) (d : T × Top) → IsWellFounded frames → at < length frames → top.place ≡ at + 1
@@ -125,6 +150,27 @@ module _ {T : Type 0} where
   -- so the list of such a top is not empty
   pub items_at-first : {frames : Frames T} {top rest : Top} {item : T} → BeginsWith frames top item rest → items_at frames top ≡ [] → true ≡ false
   items_at-first f e = let q = f.list in cc
+
+  -- ---- a list that is built or read item by item
+
+  -- one more item is in the agenda, which was the last of those before
+  pub built_more : (old new : Frames T) (rest top : Top) (item : T) (before after all : List T) → before ≡ after ++ item ∷ []
+      → before ++ items_at old rest ≡ all → length old ≡ length (items_at old rest) → length new ≡ length old + 1
+      → ShowsItems new top (item ∷ items_at old rest)
+      → (after ++ items_at new top ≡ all) × (length new ≡ length (items_at new top)) × HasTop new top
+  built_more old new rest top item before after all last is count one_more shown = (
+    ap (λ items. after ++ items) shown.list
+        ∙ (sym (append_assoc after (item ∷ []) (items_at old rest)) ∙ (ap (λ items. items ++ items_at old rest) (sym last) ∙ is)),
+    let n = ap length shown.list in omega arith,
+    shown.inside,
+  )
+
+  -- one more item was read
+  pub read_more : (frames : Frames T) (rest behind : Top) (item : T) (before after all : List T) → BeginsWith frames rest item behind
+      → after ≡ before ++ item ∷ [] → before ++ items_at frames rest ≡ all → after ++ items_at frames behind ≡ all
+  read_more frames rest behind item before after all first last is =
+      ap (λ items. items ++ items_at frames behind) last
+      ∙ (append_assoc before (item ∷ []) (items_at frames behind) ∙ (ap (λ items. before ++ items) (sym first.list) ∙ is))
 
 -- for callers whose agenda grows
 pub ruleset agenda_laws = (HasTop-extends, items_at-extends, ShowsItems-extends, Extends-trans, ShowsItems-cut)

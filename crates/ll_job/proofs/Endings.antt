@@ -1,6 +1,7 @@
 -- How a search begins and ends.
-use Rattle.std.proofs.Common.{◌≡◌, ℕ, ◌+◌, List, [], ◌∷◌, ◌++◌, Bool, true, refl, sym, ap, ◌∙◌, subst, append-nil, false, Some, Result, Ok, Err, IfOk, OnErr}
-use Rattle.std.specs.Prelude.{count_by}
+use Rattle.std.proofs.Common.{◌≡◌, ℕ, ◌+◌, List, [], ◌∷◌, ◌++◌, Bool, true, refl, sym, ap, ◌∙◌, subst, append-nil, false, inl, inr}
+use Rattle.std.proofs.Common.{Option, None, Some, Result, Ok, Err, IfOk, OnErr}
+use Rattle.std.specs.Prelude.{count_by, MatchOption}
 use Rattle.std.proofs.lemmas.List.Concat.{flat_map-append}
 use Rattle.std.proofs.lemmas.List.Sums.{sum_by-append}
 use Rattle.ll_lists.proofs.CallerLemmas.{some_is as some_same}
@@ -11,7 +12,9 @@ use Rattle.ll_laws.specs.Search.{cut_count, is_answer, is_reached}
 use Rattle.ll_laws.specs.Sound.{Every, Sound}
 use Rattle.ll_laws.specs.CoreEvents.{opening, reports_left}
 use Rattle.ll_core.proofs.CallerLemmas.{opening_sound, cut_sum, cut_twice, every_back, opening_given, all_events, all_costs, nothing_comes, given_later}
-use Rattle.ll_order.specs.Outlets.{Gives, Refuses, CountsOf, events_left, cost_left}
+use Rattle.ll_order.specs.Outlets.{Rose, Gives, GivesPrefix, Refuses, CountsOf, events_left, cost_left}
+use Rattle.ll_order.specs.declared.outlet.OutFault.{OutFault}
+use Rattle.ll_order.specs.declared.outlet.OutFault.TheVariants.{Write}
 use Rattle.ll_order.proofs.CallerLemmas.{gives_more, refuses_more}
 use Rattle.ll_pool.specs.Fits.{Fits}
 use Rattle.ll_pool.specs.declared.data.PoolProblem.{PoolProblem}
@@ -19,7 +22,7 @@ use Rattle.ll_laws.specs.Problem.{ProblemTree}
 use Rattle.ll_freeze.specs.Frozen.{FrozenSight, problem_owes, alternatives_in}
 use Rattle.ll_job.specs.Alternatives.{events_in, cost_in}
 use Rattle.ll_job.specs.Seats.{Sat, asked, of_batch, IsSound}
-use Rattle.ll_job.specs.Leading.{Leads, Stands}
+use Rattle.ll_job.specs.Leading.{Kept, Leads, Broke, Stands, Stopped, PrefixGiven}
 use Rattle.ll_job.specs.Turns.{Ended}
 use Rattle.ll_job.specs.declared.lead.Told.{Told}
 use Rattle.ll_job.proofs.Leadings.{kept_itself}
@@ -132,3 +135,29 @@ module _ {O : Type 0} (takes breaks : O → Event → O → Type 0) (welcome : O
       subst (λ m. Leads takes breaks welcome faults start problem m.seen out told.counts) (sym mine_is) st.2 in
       leads_closed takes breaks welcome faults start problem out told.counts c closed f (problem_is ∙ (same.problem ∙ is))
       (ap (λ m. m.worker) mine_is ∙ (same.worker ∙ zero)) (ap (λ m. m.seen.untried) mine_is ∙ e.untried) (ap (λ m. m.seen.busy) mine_is ∙ e.busy) l'
+
+  -- ---- what a worker that stopped has given
+
+  pub stopped_kept : told.leads ≡ true → Stopped takes breaks welcome faults start problem out told → Kept takes breaks welcome faults start out
+  stopped_kept leads s = (s leads).0
+
+  prefix_by : (f : Option OutFault) → MatchOption f (PrefixGiven takes breaks welcome faults start problem out)
+      (λ fault. Broke takes breaks welcome faults start problem out fault) → GivesPrefix takes breaks start (problem_owes problem).events out
+  prefix_by None h = inl h
+  prefix_by (Some fault) h = inr h.refused
+
+  pub stopped_prefix : told.leads ≡ true → Stopped takes breaks welcome faults start problem out told
+      → GivesPrefix takes breaks start (problem_owes problem).events out
+  stopped_prefix leads s = prefix_by told.fault (s leads).1
+
+  pub stopped_write : (fault : OutFault) → told.leads ≡ true → told.fault ≡ Some fault → Stopped takes breaks welcome faults start problem out told
+      → fault ≡ Write → Rose (faults start) (faults out)
+  stopped_write fault leads is s =
+      let b = subst (λ f. MatchOption f (PrefixGiven takes breaks welcome faults start problem out)
+      (λ fault. Broke takes breaks welcome faults start problem out fault)) is (s leads).1 in b.write
+
+-- what holds where the work was left or failed, holds where it did not come to the end
+pub left_or_failed : {E : Type 0} (done : Result Bool E) (X : Type 0) → (done ≡ Ok true → ⊥) → IfOk done (λ d. d ≡ false → X) → OnErr done X → X
+left_or_failed (Ok true) X not left failed = absurd (not refl)
+left_or_failed (Ok false) X not left failed = left refl
+left_or_failed (Err e) X not left failed = failed

@@ -11,6 +11,7 @@ pub mod BareTexts
 pub mod Decides
 pub mod Running
 pub mod Closing
+pub mod Dropped
 pub mod Newest
 pub mod NumberFrames
 pub mod Complete

@@ -85,14 +85,6 @@ begins_before before after text o q t b = record {
   begun = t ∙ (ap (λ xs. xs ++ after) b.begun ∙ append_assoc b.written b.rest after);
 }
 
--- a name and the sign behind it
-pub name_written : (o p q name : List ℕ) → p ≡ o ++ name → q ≡ p ++ codes " = " → q ≡ o ++ (name ++ codes " = ")
-name_written o p q name e f = f ∙ (ap (λ xs. xs ++ codes " = ") e ∙ append_assoc o name (codes " = "))
-
--- the parts of a line
-pub line_written : (name term : List ℕ) → line (name ++ codes " = " ++ term) ≡ (name ++ codes " = ") ++ (term ++ 10 ∷ [])
-line_written name term = append_assoc (name ++ codes " = ") term (10 ∷ [])
-
 -- what stands behind the first line
 pub lines_named : (p : ProblemTree) (a : Answered) → list_any is_named p.asked ≡ true → binding_lines p.names p.asked a.terms ≡ bindings_text p a
 lines_named p a h = sym (ap (λ b. if b then binding_lines p.names p.asked a.terms else line (codes "yes")) h)

@@ -4,3 +4,4 @@ pub mod Lines
 pub mod AnswerLines
 pub mod CallerLemmas
 mod Signs
+mod LinePieces

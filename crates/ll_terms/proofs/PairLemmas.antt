@@ -3,7 +3,7 @@ use Rattle.std.proofs.Common.{◌≡◌, ℕ, ◌+◌, ◌-◌, ◌<◌, true, f
 use Rattle.std.proofs.Common.{arith, true≢false, append_assoc}
 use Rattle.std.specs.Prelude.{IsTrue, Some, None}
 use Rattle.std.proofs.lemmas.List.{map-append, map_push, reverse-append, reverse-reverse, length-reverse, length-map, get_or-reverse, take_more}
-use Rattle.std.proofs.lemmas.List.Elements.{All-append, All-pop}
+use Rattle.std.proofs.lemmas.List.Elements.{All-append, All-cons, All-nil, All-pop}
 use Rattle.ll_bank.specs.declared.At.{At}
 use Rattle.ll_bank.specs.declared.Head.{Head}
 use Rattle.ll_terms.specs.declared.pairs.Pair.{Pair}
@@ -49,6 +49,9 @@ split-two (x ∷ xs) [] ts us n e = absurd (omega arith)
 split-two (x ∷ xs) (y ∷ ys) ts us n e =
     let h : x ≡ y = cc in let t : xs ++ ts ≡ ys ++ us = cc in let r = split-two xs ys ts us (omega arith) t in
     ((λ i. h i ∷ r.0 i), r.1)
+
+head-same : (t u : Term) → t ∷ [] ≡ u ∷ [] → t ≡ u
+head-same t u e = cc
 
 -- ---- one sign
 
@@ -124,3 +127,42 @@ module _ (mine theirs : Nodes) (now rest : List Pair) (p : Pair) (is : now ≡ r
       let r = All-pop (λ (a : At). HasTerm theirs a.0) (rights now) (rights rest) (Some p.right) (ap rights is ∙ map_push (λ (q : Pair). q.right) rest p)
       h.right in
       (record { left = l.0; right = r.0 }, (l.1, r.1))
+
+  pub last-equal : AreEqual mine theirs now ↔ (AreEqual mine theirs rest × (term_tree mine p.left.0 ≡ term_tree theirs p.right.0))
+  last-equal =
+      let l : term_trees mine (lefts now) ≡ term_trees mine (lefts rest) ++ term_tree mine p.left.0 ∷ [] =
+      ap (term_trees mine) (ap lefts is ∙ map_push (λ (q : Pair). q.left) rest p) ∙ map_push (λ (a : At). term_tree mine a.0) (lefts rest) p.left in
+      let r : term_trees theirs (rights now) ≡ term_trees theirs (rights rest) ++ term_tree theirs p.right.0 ∷ [] =
+      ap (term_trees theirs) (ap rights is ∙ map_push (λ (q : Pair). q.right) rest p) ∙ map_push (λ (a : At). term_tree theirs a.0) (rights rest) p.right in
+      let n : length (term_trees mine (lefts rest)) ≡ length (term_trees theirs (rights rest)) =
+      length-map (lefts rest) (λ (a : At). term_tree mine a.0)
+      ∙ (length-map rest (λ (q : Pair). q.left) ∙ (sym (length-map rest (λ (q : Pair). q.right))
+      ∙ sym (length-map (rights rest) (λ (a : At). term_tree theirs a.0)))) in (
+        (λ e.
+            let s = split-two (term_trees mine (lefts rest)) (term_trees theirs (rights rest)) (term_tree mine p.left.0 ∷ [])
+            (term_tree theirs p.right.0 ∷ []) n
+            (sym l ∙ (e ∙ r)) in
+            (s.0, head-same (term_tree mine p.left.0) (term_tree theirs p.right.0) s.1)),
+        λ e. l ∙ ((λ i. e.0 i ++ e.1 i ∷ []) ∙ sym r),
+      )
+
+-- ---- the first pair, and no pair
+
+pub first-inside : (mine theirs : Nodes) (now before : List Pair) (p : Pair) → before ≡ [] → now ≡ before ++ p ∷ [] → HasTerm mine p.left.0
+    → HasTerm theirs p.right.0 → AreInBanks mine theirs now
+first-inside mine theirs now before p none is l r =
+    subst (AreInBanks mine theirs) (sym (is ∙ ap (λ ps. ps ++ p ∷ []) none)) (record {
+      left = All-cons (λ (a : At). HasTerm mine a.0) p.left [] l (All-nil (λ (a : At). HasTerm mine a.0));
+      right = All-cons (λ (a : At). HasTerm theirs a.0) p.right [] r (All-nil (λ (a : At). HasTerm theirs a.0));
+    })
+
+pub first-equal : (mine theirs : Nodes) (now before : List Pair) (p : Pair) → before ≡ [] → now ≡ before ++ p ∷ []
+    → AreEqual mine theirs now ↔ (term_tree mine p.left.0 ≡ term_tree theirs p.right.0)
+first-equal mine theirs now before p none is =
+    let e : now ≡ p ∷ [] = is ∙ ap (λ ps. ps ++ p ∷ []) none in
+    subst (λ ps. AreEqual mine theirs ps ↔ (term_tree mine p.left.0 ≡ term_tree theirs p.right.0)) (sym e)
+    (head-same (term_tree mine p.left.0) (term_tree theirs p.right.0), λ q. (λ i. q i ∷ []))
+
+pub none-equal : (mine theirs : Nodes) (now : List Pair) → (0 < length now → false ≡ true) → AreEqual mine theirs now
+none-equal mine theirs [] h = refl
+none-equal mine theirs (p ∷ now) h = absurd (true≢false (sym (h (omega arith))))

@@ -1,8 +1,12 @@
-use Rattle.std.proofs.Common.{refl, arith, get_or}
+use Rattle.std.proofs.Common.{refl, ap, map, ◌∙◌, arith, get_or}
 use Rattle.std.specs.HashMap.{get}
+use Rattle.std.proofs.lemmas.List.{take_all}
+use Rattle.std.proofs.lemmas.Result.{IfOk-from_err}
 use Rattle.ll_bank.specs.declared.At.{At}
+use Rattle.ll_bank.specs.Term.{close}
+use Rattle.ll_bank.specs.Nodes.{term_trees}
 use Rattle.ll_bank.proofs.CallerLemmas.{Extends-refl, Extends-trans, HasTerm-extends, AllInTerms-extends}
-use Rattle.ll_close.specs.Closing.{env_of, same_spot}
+use Rattle.ll_close.specs.Closing.{env_of, under, same_spot}
 use Rattle.ll_close.proofs.Steps.{images_now, images_then, term_heads_now, term_shown, terms_more}
 use Rattle.ll_close.proofs.form.closed_terms.Goals as goal
 
@@ -88,3 +92,40 @@ loop-arg-preserved c =
       shows = more.1;
       images = images_then first now inv.keeps vs c.requires.values next (get same_spot c.closed_term.new.images.places) c.in_ok-image.ensures.images;
     }
+
+pub returns-in_err-image-clause-places : goal.returns-in_err-image-clause-places
+returns-in_err-image-clause-places c = IfOk-from_err c.from_residual.result _ c.from_residual.ensures.0
+
+pub returns-in_err-image-clause-shows : goal.returns-in_err-image-clause-shows
+returns-in_err-image-clause-shows c = IfOk-from_err c.from_residual.result _ c.from_residual.ensures.0
+
+pub returns-in_err-image-clause-terms : goal.returns-in_err-image-clause-terms
+returns-in_err-image-clause-terms c = IfOk-from_err c.from_residual.result _ c.from_residual.ensures.0
+
+pub returns-in_err-push-clause-places : goal.returns-in_err-push-clause-places
+returns-in_err-push-clause-places c = IfOk-from_err c.from_residual-in_err-push.result _ c.from_residual-in_err-push.ensures.0
+
+pub returns-in_err-push-clause-shows : goal.returns-in_err-push-clause-shows
+returns-in_err-push-clause-shows c = IfOk-from_err c.from_residual-in_err-push.result _ c.from_residual-in_err-push.ensures.0
+
+pub returns-in_err-push-clause-terms : goal.returns-in_err-push-clause-terms
+returns-in_err-push-clause-terms c = IfOk-from_err c.from_residual-in_err-push.result _ c.from_residual-in_err-push.ensures.0
+
+pub returns-in_err-push-clause-keeps : goal.returns-in_err-push-clause-keeps
+returns-in_err-push-clause-keeps c = Extends-trans c.loop-arg.invariant.keeps c.closed_term.ensures.keeps
+
+pub returns-clause-places : goal.returns-clause-places
+returns-clause-places c = c.loop-arg.invariant.places
+
+pub returns-clause-shows : goal.returns-clause-shows
+returns-clause-shows c =
+    let first = c.args.bank.now in
+    c.loop-arg.invariant.shows
+    ∙ ap (λ args. map (close (under (env_of first c.args.values.now) c.args.level)) (term_trees first args))
+    (take_all c.loop-arg.arg-index c.args.args.now (omega arith))
+
+pub returns-clause-terms : goal.returns-clause-terms
+returns-clause-terms c = c.loop-arg.invariant.images
+
+pub returns-clause-keeps : goal.returns-clause-keeps
+returns-clause-keeps c = c.loop-arg.invariant.keeps

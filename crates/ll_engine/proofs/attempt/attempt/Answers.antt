@@ -1,11 +1,12 @@
-use Rattle.std.proofs.Common.{refl, ap, sym, ◌≡◌, ◌∙◌, ◌∷◌}
+use Rattle.std.proofs.Common.{refl, ap, sym, ◌≡◌, ◌∙◌, ◌∷◌, subst, arith}
+use Rattle.std.proofs.lemmas.Result.{IfOk-from_err}
 use Rattle.ll_agenda.specs.Frames.{items_at}
 use Rattle.ll_freeze.specs.Parts.{parts_of}
-use Rattle.ll_engine.proofs.machine.MachineLemmas.{in_front}
+use Rattle.ll_engine.proofs.machine.MachineLemmas.{in_front, goal_inside}
 use Rattle.ll_engine.proofs.inferences.Quantifying.{forall_heads, exists_heads, forall_row, exists_row, not_empty, no_candidate}
 use Rattle.ll_bank.specs.Form.{Use}
-use Rattle.ll_bank.specs.Nodes.{term_trees, form_tree}
-use Rattle.ll_engine.proofs.inferences.Loading.{IsLoading, is_loading}
+use Rattle.ll_bank.specs.Nodes.{AllInTerms, term_trees, form_tree}
+use Rattle.ll_engine.proofs.inferences.Loading.{IsLoading, is_loading, is_known}
 use Rattle.ll_engine.proofs.attempt.attempt.Goals as goal
 use Rattle.ll_engine.proofs.attempt.attempt.Goals.{After-deref}
 
@@ -303,3 +304,75 @@ take_load-requires-clause-left c = c.requires.left
 
 pub returns-in_ok-take_load-in-Use-clause-later : goal.returns-in_ok-take_load-in-Use-clause-later
 returns-in_ok-take_load-in-Use-clause-later c = c.in_ok-take_load-in-Use.ensures.later
+
+pub item-requires : goal.item-requires
+item-requires c = c.requires.fits.top
+
+pub form_at-requires : goal.form_at-requires
+form_at-requires c =
+    let m = parts_of c.args.machine.now in
+    goal_inside m c.in-Goal.goal (items_at m.agenda c.in-Some.rest) c.requires.fits
+    (c.in-Some.ensures.some.list ∙ ap (λ x. x ∷ items_at m.agenda c.in-Some.rest) c.in-Goal.is)
+
+pub take_forall-requires-clause-eigens : goal.take_forall-requires-clause-eigens
+take_forall-requires-clause-eigens c = let e = c.requires.fits.eigens in let l = c.requires.left in omega (arith, e, l)
+
+pub take_forall-requires-clause-body : goal.take_forall-requires-clause-body
+take_forall-requires-clause-body c =
+    let m = parts_of c.args.machine.now in
+    let h = goal_inside m c.in-Goal.goal (items_at m.agenda c.in-Some.rest) c.requires.fits
+    (c.in-Some.ensures.some.list ∙ ap (λ x. x ∷ items_at m.agenda c.in-Some.rest) c.in-Goal.is) in
+    let p = c.in-Forall.ensures.shown.parts in omega (arith, h, p)
+
+pub take_load-requires-clause-args : goal.take_load-requires-clause-args
+take_load-requires-clause-args c =
+    let q : c.in-Use.args.now ≡ c.deref.result.now = sym (c.deref.ensures.value ∙ c.in_ok-args-in-Use.ensures.items) in
+    subst (AllInTerms c.args.machine.now.store.bank) q c.in-Use.ensures.shown.parts.0
+
+pub take_load-requires-clause-body : goal.take_load-requires-clause-body
+take_load-requires-clause-body c =
+    let m = parts_of c.args.machine.now in
+    let h = goal_inside m c.in-Goal.goal (items_at m.agenda c.in-Some.rest) c.requires.fits
+    (c.in-Some.ensures.some.list ∙ ap (λ x. x ∷ items_at m.agenda c.in-Some.rest) c.in-Goal.is) in
+    let p = c.in-Use.ensures.shown.parts.1 in omega (arith, h, p)
+
+pub bounds-modules-number : goal.bounds-modules-number
+bounds-modules-number c =
+    let m = parts_of c.args.machine.now in
+    is_known m c.in-Goal.goal c.in-Use.body c.in-Use.number c.in-Use.args.now (items_at m.agenda c.in-Some.rest) c.requires.fits
+    (c.in-Some.ensures.some.list ∙ ap (λ x. x ∷ items_at m.agenda c.in-Some.rest) c.in-Goal.is) c.in-Use.ensures.shown.tree
+
+pub returns-in_err-take_forall-in-Forall-clause-attempts : goal.returns-in_err-take_forall-in-Forall-clause-attempts
+returns-in_err-take_forall-in-Forall-clause-attempts c = IfOk-from_err c.from_residual.result _ c.from_residual.ensures.0
+
+pub returns-in_err-take_forall-in-Forall-clause-later : goal.returns-in_err-take_forall-in-Forall-clause-later
+returns-in_err-take_forall-in-Forall-clause-later c = IfOk-from_err c.from_residual.result _ c.from_residual.ensures.0
+
+pub returns-in_err-take_exists-in-Exists-clause-attempts : goal.returns-in_err-take_exists-in-Exists-clause-attempts
+returns-in_err-take_exists-in-Exists-clause-attempts c =
+    IfOk-from_err c.from_residual-in_err-take_exists-in-Exists.result _ c.from_residual-in_err-take_exists-in-Exists.ensures.0
+
+pub returns-in_err-take_exists-in-Exists-clause-later : goal.returns-in_err-take_exists-in-Exists-clause-later
+returns-in_err-take_exists-in-Exists-clause-later c =
+    IfOk-from_err c.from_residual-in_err-take_exists-in-Exists.result _ c.from_residual-in_err-take_exists-in-Exists.ensures.0
+
+pub returns-in_err-args-in-Use-clause-attempts : goal.returns-in_err-args-in-Use-clause-attempts
+returns-in_err-args-in-Use-clause-attempts c = IfOk-from_err c.from_residual-in_err-args-in-Use.result _ c.from_residual-in_err-args-in-Use.ensures.0
+
+pub returns-in_err-args-in-Use-clause-later : goal.returns-in_err-args-in-Use-clause-later
+returns-in_err-args-in-Use-clause-later c = IfOk-from_err c.from_residual-in_err-args-in-Use.result _ c.from_residual-in_err-args-in-Use.ensures.0
+
+pub returns-in_err-take_load-in-Use-clause-attempts : goal.returns-in_err-take_load-in-Use-clause-attempts
+returns-in_err-take_load-in-Use-clause-attempts c =
+    IfOk-from_err c.from_residual-in_err-take_load-in-Use.result _ c.from_residual-in_err-take_load-in-Use.ensures.0
+
+pub returns-in_err-take_load-in-Use-clause-later : goal.returns-in_err-take_load-in-Use-clause-later
+returns-in_err-take_load-in-Use-clause-later c =
+    IfOk-from_err c.from_residual-in_err-take_load-in-Use.result _ c.from_residual-in_err-take_load-in-Use.ensures.0
+
+pub take_exists-requires-clause-body : goal.take_exists-requires-clause-body
+take_exists-requires-clause-body c =
+    let m = parts_of c.args.machine.now in
+    let h = goal_inside m c.in-Goal.goal (items_at m.agenda c.in-Some.rest) c.requires.fits
+    (c.in-Some.ensures.some.list ∙ ap (λ x. x ∷ items_at m.agenda c.in-Some.rest) c.in-Goal.is) in
+    let p = c.in-Exists.ensures.shown.parts in omega (arith, h, p)

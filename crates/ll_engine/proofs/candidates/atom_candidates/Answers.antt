@@ -1,16 +1,45 @@
 use Rattle.std.proofs.Common.{length, refl, ap, subst, ◌∙◌, arith, ◌-◌}
 use Rattle.std.proofs.lemmas.List.{length-map}
+use Rattle.std.proofs.lemmas.Result.{IfOk-from_err}
 use Rattle.ll_laws.specs.Shown.{clause_tree}
 use Rattle.ll_freeze.specs.Parts.{parts_of}
 use Rattle.ll_freeze.specs.Reading.{read_term}
 use Rattle.ll_bank.specs.Nodes.{term_tree}
 use Rattle.ll_engine.specs.Matches.{Asks, AsksFor, all_found}
 use Rattle.ll_engine.proofs.inferences.AtomLemmas.{atom_front, splits, heads_below, has_head, name_read, arity_read, all_matches, loaded_match}
+use Rattle.ll_engine.proofs.machine.ReadLemmas.{fits_table}
 use Rattle.ll_engine.proofs.candidates.atom_candidates.Goals as goal
 use Rattle.ll_engine.proofs.candidates.atom_candidates.Goals.{in-Name+in_ok-add_program, in_default-head}
 
 pub asked_by-requires-clause-cells : goal.asked_by-requires-clause-cells
 asked_by-requires-clause-cells c = (atom_front (parts_of c.args.machine.now) c.args.atom c.requires.fits c.requires.front).variables
+
+pub asked_by-requires-clause-table : goal.asked_by-requires-clause-table
+asked_by-requires-clause-table c = fits_table (parts_of c.args.machine.now) c.requires.fits
+
+pub asked_by-requires-clause-inside : goal.asked_by-requires-clause-inside
+asked_by-requires-clause-inside c = c.requires.front.1.seen.parts
+
+pub returns-in_err-asked : goal.returns-in_err-asked
+returns-in_err-asked c = IfOk-from_err c.from_residual.result _ c.from_residual.ensures.0
+
+pub add_loaded-requires-clause-table : goal.add_loaded-requires-clause-table
+add_loaded-requires-clause-table c = fits_table (parts_of c.args.machine.now) c.requires.fits
+
+pub add_loaded-requires-clause-count : goal.add_loaded-requires-clause-count
+add_loaded-requires-clause-count c = let a = c.len.ensures in omega (arith, a)
+
+pub add_loaded-requires-clause-inside : goal.add_loaded-requires-clause-inside
+add_loaded-requires-clause-inside c = c.requires.fits.clauses
+
+pub returns-in_err-add_loaded : goal.returns-in_err-add_loaded
+returns-in_err-add_loaded c = IfOk-from_err c.from_residual-in_err-add_loaded.result _ c.from_residual-in_err-add_loaded.ensures.0
+
+pub add_program-requires-clause-index : goal.add_program-requires-clause-index
+add_program-requires-clause-index c = c.requires.index
+
+pub returns-in_err-add_program : goal.returns-in_err-add_program
+returns-in_err-add_program c = IfOk-from_err c.from_residual-in_err-add_program.result _ c.from_residual-in_err-add_program.ensures.0
 
 pub returns-in_default : goal.returns-in_default
 returns-in_default c = has_head (parts_of c.args.machine.now) c.args.atom _

@@ -1,9 +1,10 @@
-use Rattle.std.proofs.Common.{rules, sym, subst, ◌≡◌, true, false, [], ◌∷◌}
+use Rattle.std.proofs.Common.{rules, sym, subst, ◌∙◌, ◌≡◌, true, false, [], ◌∷◌}
+use Rattle.std.proofs.lemmas.Result.{IfOk-from_err}
 use Rattle.ll_laws.specs.declared.Event.TheVariants.{Answer}
 use Rattle.ll_laws.specs.Answered.{Answered}
 use Rattle.ll_freeze.specs.Parts.{parts_of}
 use Rattle.ll_freeze.specs.Shown.{state_of}
-use Rattle.ll_engine.specs.Pointed.{spine_of}
+use Rattle.ll_engine.specs.Pointed.{spine_of, IsSound}
 use Rattle.ll_engine.specs.Seen.{Spine}
 use Rattle.ll_engine.specs.Turned.{Turned}
 use Rattle.ll_engine.proofs.turns.Turns.{turned_fails, turned_over, turned_answer, turned_reached, turned_expand}
@@ -11,21 +12,21 @@ use Rattle.ll_engine.proofs.engine.search.Goals as goal
 
 pub returns-then-not-branch-clause-turned : goal.returns-then-not-branch-clause-turned
 returns-then-not-branch-clause-turned c =
-    turned_fails (spine_of c.args.spine.now) (spine_of c.settle.new.self) c.in_ok-settle.field-0 (search rules) c.in_ok-settle.ensures.settles
+    turned_fails (spine_of c.args.spine.now) (spine_of c.settle.new.self) c.in_ok-settle.field-0 c.if-not-branch.true c.in_ok-settle.ensures.settles
 
 pub returns-then-is_empty-clause-turned : goal.returns-then-is_empty-clause-turned
 returns-then-is_empty-clause-turned c =
-    turned_over (spine_of c.args.spine.now) (spine_of c.settle.new.self) c.in_ok-settle.field-0 (search rules) c.in_ok-settle.ensures.settles (search rules)
-    (search rules)
+    turned_over (spine_of c.args.spine.now) (spine_of c.settle.new.self) c.in_ok-settle.field-0 c.if-not-branch.false c.in_ok-settle.ensures.settles
+    (search rules) (search rules)
 
 pub returns-then-left-eq0-clause-turned : goal.returns-then-left-eq0-clause-turned
 returns-then-left-eq0-clause-turned c =
-    turned_reached (spine_of c.args.spine.now) (spine_of c.settle.new.self) c.in_ok-settle.field-0 (search rules) c.in_ok-settle.ensures.settles (search rules)
-    (search rules)
+    turned_reached (spine_of c.args.spine.now) (spine_of c.settle.new.self) c.in_ok-settle.field-0 c.if-not-branch.false c.in_ok-settle.ensures.settles
+    (search rules) (search rules)
 
 pub returns-then-answers-clause-turned : goal.returns-then-answers-clause-turned
 returns-then-answers-clause-turned c =
-    let a = turned_answer (spine_of c.args.spine.now) (spine_of c.settle.new.self) c.in_ok-settle.field-0 (search rules) c.in_ok-settle.ensures.settles
+    let a = turned_answer (spine_of c.args.spine.now) (spine_of c.settle.new.self) c.in_ok-settle.field-0 c.if-not-branch.false c.in_ok-settle.ensures.settles
     (search rules) (search rules) in
     let e : record { terms = (state_of (parts_of c.settle.new.self.machine)).terms; steps = (state_of (parts_of c.settle.new.self.machine)).steps }
     ≡ c.in_ok-branch.branch = sym c.in_ok-branch.ensures.branch in
@@ -36,5 +37,50 @@ returns-then-answers-clause-turned c =
 pub returns-clause-turned : goal.returns-clause-turned
 returns-clause-turned c =
     turned_expand (spine_of c.args.spine.now) (spine_of c.settle.new.self) (spine_of c.expand.new.self) c.in_ok-running.running c.in_ok-settle.field-0
-    (search rules) c.in_ok-settle.ensures.settles (search rules)
+    c.if-not-branch.false c.in_ok-settle.ensures.settles (sym c.is_empty.ensures ∙ c.if-is_empty.false)
     c.in_ok-running.ensures.expands
+
+pub settle-requires : goal.settle-requires
+settle-requires c = record { sound = c.requires.sound }
+
+pub returns-in_err-settle-clause-sound : goal.returns-in_err-settle-clause-sound
+returns-in_err-settle-clause-sound c = IfOk-from_err c.from_residual.result _ c.from_residual.ensures.0
+
+pub returns-in_err-settle-clause-turned : goal.returns-in_err-settle-clause-turned
+returns-in_err-settle-clause-turned c = IfOk-from_err c.from_residual.result _ c.from_residual.ensures.0
+
+pub returns-in_err-branch-clause-sound : goal.returns-in_err-branch-clause-sound
+returns-in_err-branch-clause-sound c = IfOk-from_err c.from_residual-in_err-branch.result _ c.from_residual-in_err-branch.ensures.0
+
+pub returns-in_err-branch-clause-turned : goal.returns-in_err-branch-clause-turned
+returns-in_err-branch-clause-turned c = IfOk-from_err c.from_residual-in_err-branch.result _ c.from_residual-in_err-branch.ensures.0
+
+pub returns-in_err-running-clause-sound : goal.returns-in_err-running-clause-sound
+returns-in_err-running-clause-sound c = IfOk-from_err c.from_residual-in_err-running.result _ c.from_residual-in_err-running.ensures.0
+
+pub returns-in_err-running-clause-turned : goal.returns-in_err-running-clause-turned
+returns-in_err-running-clause-turned c = IfOk-from_err c.from_residual-in_err-running.result _ c.from_residual-in_err-running.ensures.0
+
+pub returns-then-not-branch-clause-sound : goal.returns-then-not-branch-clause-sound
+returns-then-not-branch-clause-sound c = subst (λ b. IsSound b c.settle.new.self) c.if-not-branch.true c.in_ok-settle.ensures.sound
+
+pub is_empty-requires : goal.is_empty-requires
+is_empty-requires c = record { sound = subst (λ b. IsSound b c.settle.new.self) c.if-not-branch.false c.in_ok-settle.ensures.sound }
+
+pub answers-requires : goal.answers-requires
+answers-requires c = record { sound = subst (λ b. IsSound b c.settle.new.self) c.if-not-branch.false c.in_ok-settle.ensures.sound }
+
+pub branch-spine-requires : goal.branch-spine-requires
+branch-spine-requires c = record { sound = subst (λ b. IsSound b c.settle.new.self) c.if-not-branch.false c.in_ok-settle.ensures.sound }
+
+pub returns-then-answers-clause-sound : goal.returns-then-answers-clause-sound
+returns-then-answers-clause-sound c = c.branch-spine.ensures.sound
+
+pub expand-requires-clause-sound : goal.expand-requires-clause-sound
+expand-requires-clause-sound c = subst (λ b. IsSound b c.settle.new.self) c.if-not-branch.false c.in_ok-settle.ensures.sound
+
+pub expand-requires-clause-goal : goal.expand-requires-clause-goal
+expand-requires-clause-goal c = sym c.is_empty.ensures ∙ c.if-is_empty.false
+
+pub returns-clause-sound : goal.returns-clause-sound
+returns-clause-sound c = c.in_ok-running.ensures.sound

@@ -72,3 +72,52 @@ pub returns-in-Same-clause-fresh : goal.returns-in-Same-clause-fresh
 returns-in-Same-clause-fresh g c = λ e.
     leaves-all c.args.bank.now (g.T.Bindings.table c.args.table.now) (g.T.Bindings.table c.pairs.table) c.args.work.now.fresh c.pairs.work.fresh
     (lefts c.args.bank.now c.args.work.now.pairs.items) (lefts c.args.bank.now c.pairs.work.pairs.items) c.pairs.invariant.fresh
+
+pub next_difference-requires-clause-table : goal.next_difference-requires-clause-table
+next_difference-requires-clause-table g c = c.pairs.invariant.settling.table
+
+pub next_difference-requires-clause-classes : goal.next_difference-requires-clause-classes
+next_difference-requires-clause-classes g c = c.pairs.invariant.classes
+
+pub next_difference-requires-clause-pairs : goal.next_difference-requires-clause-pairs
+next_difference-requires-clause-pairs g c = c.pairs.invariant.settling.pairs
+
+pub bind-requires-clause-table : goal.bind-requires-clause-table
+bind-requires-clause-table g c = c.pairs.invariant.settling.table
+
+pub bind-requires-clause-meet : goal.bind-requires-clause-meet
+bind-requires-clause-meet g c =
+    (subst (IsDifference c.args.bank.now (g.T.Bindings.table c.pairs.table) c.pairs.work.pairs.items c.next_difference.new.pairs.items) c.in-Meet.is
+    c.in_ok-next_difference.ensures.difference).meeting
+
+pub returns-in_err-next_difference-clause-grows : goal.returns-in_err-next_difference-clause-grows
+returns-in_err-next_difference-clause-grows g c = c.pairs.invariant.grows
+
+pub returns-in-Same-clause-grows : goal.returns-in-Same-clause-grows
+returns-in-Same-clause-grows g c = c.pairs.invariant.grows
+
+pub returns-in-Same-clause-classes : goal.returns-in-Same-clause-classes
+returns-in-Same-clause-classes g c = λ _. c.in_ok-next_difference.ensures.classes
+
+pub returns-in-Clash-clause-grows : goal.returns-in-Clash-clause-grows
+returns-in-Clash-clause-grows g c = c.pairs.invariant.grows
+
+pub returns-in-Clash-clause-classes : goal.returns-in-Clash-clause-classes
+returns-in-Clash-clause-classes g c = λ _. c.in_ok-next_difference.ensures.classes
+
+pub returns-in-Clash-clause-fresh : goal.returns-in-Clash-clause-fresh
+returns-in-Clash-clause-fresh g c = λ e. cc
+
+pub returns-in_err-bind-in-Meet-clause-grows : goal.returns-in_err-bind-in-Meet-clause-grows
+returns-in_err-bind-in-Meet-clause-grows g c =
+    g.met.T.Bindings.again c.args.table.now c.pairs.table c.bind.new.table c.pairs.invariant.grows c.bind.ensures.grows
+
+pub returns-then-not-branch-clause-grows : goal.returns-then-not-branch-clause-grows
+returns-then-not-branch-clause-grows g c =
+    g.met.T.Bindings.again c.args.table.now c.pairs.table c.bind.new.table c.pairs.invariant.grows c.bind.ensures.grows
+
+pub returns-then-not-branch-clause-classes : goal.returns-then-not-branch-clause-classes
+returns-then-not-branch-clause-classes g c = λ e. cc
+
+pub returns-then-not-branch-clause-fresh : goal.returns-then-not-branch-clause-fresh
+returns-then-not-branch-clause-fresh g c = λ e. cc

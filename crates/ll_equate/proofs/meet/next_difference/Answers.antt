@@ -238,3 +238,27 @@ loop-pair-preserved g c =
           c.in-Some.pair (record { left = c.in-Some.pair.left; right = c.in-Some.pair.right; next = c.in-Some.pair.next + 1 }) c.in-Some-argument.left
           c.in-Some.ensures.items c.in-Some-argument.ensures.argument refl refl (c.loop-pair.invariant.clear x k h)));
     }
+
+pub loop-pair-init : goal.loop-pair-init
+loop-pair-init g c = record { classes = c.requires.classes; pairs = c.requires.pairs; alike = λ s o. refl; clear = λ x k h. h }
+
+pub compare-requires-clause-table : goal.compare-requires-clause-table
+compare-requires-clause-table g c = c.requires.table
+
+pub compare-requires-clause-classes : goal.compare-requires-clause-classes
+compare-requires-clause-classes g c = c.loop-pair.invariant.classes
+
+pub returns-in-Clash-clause-classes : goal.returns-in-Clash-clause-classes
+returns-in-Clash-clause-classes g c = c.in-Clash.ensures.classes
+
+pub returns-in-Meet-clause-classes : goal.returns-in-Meet-clause-classes
+returns-in-Meet-clause-classes g c = c.in-Meet.ensures.classes
+
+pub returns-clause-classes : goal.returns-clause-classes
+returns-clause-classes g c = c.loop-pair.invariant.classes
+
+pub argument-requires : goal.argument-requires
+argument-requires g c = (on_top g (goal.at.argument-requires g c).In-Some).pair.left_place.inside
+
+pub argument-requires-in-Some-argument : goal.argument-requires-in-Some-argument
+argument-requires-in-Some-argument g c = (on_top g (goal.at.argument-requires-in-Some-argument g c).In-Some).pair.right_place.inside

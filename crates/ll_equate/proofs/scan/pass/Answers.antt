@@ -1,13 +1,16 @@
-use Rattle.std.proofs.Common.{◌≡◌, ◌+◌, ◌++◌, ◌∷◌, [], length, arith, sym, ap, ◌∙◌, refl, subst}
+use Rattle.std.proofs.Common.{◌≡◌, ℕ, ◌<◌, ◌-◌, ◌+◌, ◌++◌, ◌∷◌, [], length, arith, sym, ap, ◌∙◌, refl, subst}
 use Rattle.std.specs.Prelude.{slice_index_or}
 use Rattle.ll_bank.specs.Term.{sub}
 use Rattle.ll_bank.specs.Nodes.{term_tree}
 use Rattle.ll_bindings.specs.Bindings.{found}
 use Rattle.ll_equate.specs.Scanned.{IsPassed}
 use Rattle.ll_equate.proofs.FreshLemmas.{both}
-use Rattle.ll_bindings.proofs.CallerLemmas.{step-inside, Obeys-found, weight-known, weight-opens}
+use Rattle.ll_bindings.proofs.CallerLemmas.{step-inside, Obeys-found, weight-known, weight-opens, weight-pops}
 use Rattle.ll_equate.proofs.Scans.{scan-top, scan-known, scan-opens, scan-done}
 use Rattle.ll_equate.proofs.scan.pass.Goals as goal
+
+falls_by_one : (i n : ℕ) → i < n → n - (i + 1) < n - i
+falls_by_one i n l = omega arith
 
 pub walk-end-requires-clause-place : goal.walk-end-requires-clause-place
 walk-end-requires-clause-place g c =
@@ -113,3 +116,41 @@ returns-clause-passed g c =
     (record { at = c.args.frame.at; next = c.loop-next.next }) b c.requires.table c.loop-next.invariant.scanned refl
     (let n = c.arguments-args.ensures.count in let k = c.loop-next-test.false in omega arith) look places)
     c.done-2.ensures.look c.done-2.ensures.places)
+
+pub loop-next-init : goal.loop-next-init
+loop-next-init g c = record { scanned = c.requires.scanned; frames = refl; less = omega arith }
+
+pub bounds-args-next : goal.bounds-args-next
+bounds-args-next g c = c.loop-next-test.true
+
+pub walk-end-requires-clause-table : goal.walk-end-requires-clause-table
+walk-end-requires-clause-table g c = c.requires.table
+
+pub arguments-args-requires : goal.arguments-args-requires
+arguments-args-requires g c =
+    (scan-top c.args.bank.now (g.T.Bindings.table c.args.table.now) c.args.var c.args.level c.args.seen.now.places.items c.args.seen.now.vars.items
+    (sub (found c.args.bank.now (g.T.Bindings.table c.args.table.now)) (term_tree c.args.bank.now c.args.start.0))
+    (c.args.frames.now.items ++ c.args.frame ∷ []) c.args.frames.now.items c.args.frame c.requires.scanned refl).frame.end.place.inside
+
+pub done-requires-2 : goal.done-requires-2
+done-requires-2 g c =
+    (scan-top c.args.bank.now (g.T.Bindings.table c.args.table.now) c.args.var c.args.level c.args.seen.now.places.items c.args.seen.now.vars.items
+    (sub (found c.args.bank.now (g.T.Bindings.table c.args.table.now)) (term_tree c.args.bank.now c.args.start.0))
+    (c.args.frames.now.items ++ c.args.frame ∷ []) c.args.frames.now.items c.args.frame c.requires.scanned refl).frame.end.place.inside
+
+pub arguments-requires : goal.arguments-requires
+arguments-requires g c = c.walk-end.ensures.end.place.inside
+
+pub done-requires : goal.done-requires
+done-requires g c = c.walk-end.ensures.end.place.inside
+
+pub returns-then-not-branch-clause-less : goal.returns-then-not-branch-clause-less
+returns-then-not-branch-clause-less g c =
+    rw c.loop-next.invariant.frames
+    (weight-pops c.args.bank.now (found c.args.bank.now (g.T.Bindings.table c.args.table.now)) c.args.frames.now.items c.args.frame)
+
+pub loop-next-smaller-else-not-branch : goal.loop-next-smaller-else-not-branch
+loop-next-smaller-else-not-branch g c = falls_by_one c.loop-next.next _ c.loop-next-test.true
+
+pub loop-next-smaller : goal.loop-next-smaller
+loop-next-smaller g c = falls_by_one c.loop-next.next _ c.loop-next-test.true

@@ -1,6 +1,6 @@
-use Rattle.std.proofs.Common.{◌≡◌, ◌⊎◌, true, inl, inr}
+use Rattle.std.proofs.Common.{◌≡◌, ◌⊎◌, true, false, inl, inr}
 use Rattle.ll_core.specs.Calls.{overview}
-use Rattle.ll_job.proofs.Goings.{looked, look_leaves}
+use Rattle.ll_job.proofs.Goings.{looked, look_goes, look_leaves, goes_on, goes_out}
 use Rattle.ll_job.proofs.lead.look.Goals as goal
 use Rattle.ll_job.proofs.lead.look.Goals.{Joined-then-look, then-look-via-then-look, then-look-via-else-look+then-look-2}
 
@@ -18,3 +18,21 @@ pub tell-requires-clause-stands : goal.tell-requires-clause-stands
 tell-requires-clause-stands g c κs within =
     looked g.O.Outlet.takes g.O.Outlet.breaks g.O.Outlet.welcome g.O.Outlet.faults c.args.job.now.start.now.value c.args.job.now.problem.now c.args.seat.now
     c.look-look.new.seat c.args.out.now c.args.told.now (overview c.look-look.result) c.look-look.ensures.turn c.requires.seat.problem c.requires.stands
+
+pub returns-then-not-tell-clause-left : goal.returns-then-not-tell-clause-left
+returns-then-not-tell-clause-left g c = λ e.
+    let go = look_goes g.O.Outlet.takes g.O.Outlet.breaks g.O.Outlet.welcome g.O.Outlet.faults c.args.job.now.start.now.value c.args.job.now.problem.now
+    c.args.seat.now c.look-look.new.seat c.args.out.now c.args.told.now (overview c.look-look.result) c.look-look.ensures.turn c.requires.seat.problem
+    c.requires.stands c.look-look.ensures.owes in
+    let no : c.tell.result ≡ false = cc in
+    goes_out g.O.Outlet.takes g.O.Outlet.breaks g.O.Outlet.welcome g.O.Outlet.faults c.args.job.now.start.now.value c.args.job.now.problem.now
+    c.args.told.now.leads c.args.seat.now c.look-look.new.seat c.tell.new.seat _ _ go (c.tell.ensures.left no)
+
+pub returns-clause-on : goal.returns-clause-on
+returns-clause-on g c = λ e.
+    let go = look_goes g.O.Outlet.takes g.O.Outlet.breaks g.O.Outlet.welcome g.O.Outlet.faults c.args.job.now.start.now.value c.args.job.now.problem.now
+    c.args.seat.now c.look-look.new.seat c.args.out.now c.args.told.now (overview c.look-look.result) c.look-look.ensures.turn c.requires.seat.problem
+    c.requires.stands c.look-look.ensures.owes in
+    let yes : c.tell.result ≡ true = cc in
+    goes_on g.O.Outlet.takes g.O.Outlet.breaks g.O.Outlet.welcome g.O.Outlet.faults c.args.job.now.start.now.value c.args.job.now.problem.now
+    c.args.seat.now c.look-look.new.seat c.tell.new.seat _ _ go (c.tell.ensures.on yes)

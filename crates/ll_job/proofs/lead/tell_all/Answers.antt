@@ -1,10 +1,21 @@
 use Rattle.std.specs.Prelude.{map}
-use Rattle.std.proofs.Common.{ap, Err}
+use Rattle.std.proofs.Common.{ap, refl, Err}
 use Rattle.ll_laws.specs.declared.Event.{Event}
 use Rattle.ll_laws.specs.Pool.{Owed}
 use Rattle.ll_job.proofs.Leadings.{calm_ready}
 use Rattle.ll_job.proofs.Goings.{goes_calm, told_welcome, told_more, told_refused}
 use Rattle.ll_job.proofs.lead.tell_all.Goals as goal
+
+pub loop-init : goal.loop-init
+loop-init g c = (
+  c.requires.leads,
+  record {
+    same = record { table = refl; problem = refl; worker = refl; given = refl };
+    piece = refl;
+    quit = refl;
+    stands = c.requires.stands;
+  },
+)
 
 pub returns-in_default : goal.returns-in_default
 returns-in_default g c =
@@ -40,6 +51,9 @@ loop-preserved g c =
           (record { answers = c.in-Ok.counts.answers; reached = c.in-Ok.counts.reached; inferences = c.saturating_add-inferences.result })
           c.in-Events.ensures.owes ok.given ok.answers ok.reached c.saturating_add-inferences.ensures ok.faults_kept ok.welcome_kept,
     )
+
+pub returns-in-Err-clause-leads : goal.returns-in-Err-clause-leads
+returns-in-Err-clause-leads g c = c.loop.invariant.0
 
 pub returns-in-Err-clause-left : goal.returns-in-Err-clause-left
 returns-in-Err-clause-left g c = λ f.

@@ -1,11 +1,12 @@
-use Rattle.std.proofs.Common.{◌<◌, ◌≤◌, ℕ, List, length, arith}
+use Rattle.std.proofs.Common.{◌<◌, ◌≤◌, ℕ, List, length, arith, codes}
 use Rattle.std.specs.Borrow.{Bor}
 use Rattle.std.proofs.lemmas.List.{length-map}
+use Rattle.std.proofs.lemmas.Result.{IfOk-from_err}
 use Rattle.ll_words.specs.Words.{word_texts}
 use Rattle.ll_words.specs.Words.{IsCommand}
 use Rattle.ll_words.specs.MakeForm.{IsBadMakeWord}
-use Rattle.ll_words.proofs.WordValues.{bad-answer}
-use Rattle.ll_words.proofs.MakeLemmas.{no-kind, no-number, at-options, whole-make, whole-run, number-inside}
+use Rattle.ll_words.proofs.WordValues.{bad-answer, word-inside, number-word-at, value-least, value-small}
+use Rattle.ll_words.proofs.MakeLemmas.{no-kind, no-number, at-options, whole-make, whole-run, number-inside, text-inside}
 use Rattle.ll_words.proofs.making.read_make.Goals as goal
 
 pub returns-in_err-kind-clause-command : goal.returns-in_err-kind-clause-command
@@ -50,3 +51,30 @@ returns-clause-command c =
     let words = word_texts c.args.words.now in
     whole-run words c.requires _ c.in_ok-kind.ensures _ (rw (c.least_number.ensures, c.greatest_number.ensures) at c.in_ok-number.ensures) _ _
     c.in_ok-options.ensures.options
+
+pub kind_at-requires : goal.kind_at-requires
+kind_at-requires c = let h = text-inside c.args.words.now 0 (codes "make") c.requires in omega arith
+
+pub number_at-requires : goal.number_at-requires
+number_at-requires c = let h = word-inside c.args.words.now 1 _ c.in_ok-kind.ensures in omega arith
+
+pub returns-in_err-kind-clause-bound : goal.returns-in_err-kind-clause-bound
+returns-in_err-kind-clause-bound c = IfOk-from_err c.from_residual.result _ c.from_residual.ensures.0
+
+pub returns-in_err-number-clause-bound : goal.returns-in_err-number-clause-bound
+returns-in_err-number-clause-bound c = IfOk-from_err c.from_residual-in_err-number.result _ c.from_residual-in_err-number.ensures.0
+
+pub returns-in_err-options-clause-bound : goal.returns-in_err-options-clause-bound
+returns-in_err-options-clause-bound c = IfOk-from_err c.from_residual-in_err-options.result _ c.from_residual-in_err-options.ensures.0
+
+pub returns-then-words-eq3-clause-bound : goal.returns-then-words-eq3-clause-bound
+returns-then-words-eq3-clause-bound c =
+    let v =
+    number-word-at (word_texts c.args.words.now) 2 _ _ _ (rw (c.least_number.ensures, c.greatest_number.ensures) at c.in_ok-number.ensures) in
+    (value-least _ _ v.word _ v.number, value-small _ _ v.word _ v.number)
+
+pub returns-clause-bound : goal.returns-clause-bound
+returns-clause-bound c =
+    let v =
+    number-word-at (word_texts c.args.words.now) 2 _ _ _ (rw (c.least_number.ensures, c.greatest_number.ensures) at c.in_ok-number.ensures) in
+    ((value-least _ _ v.word _ v.number, value-small _ _ v.word _ v.number), c.in_ok-options.ensures.bound, c.in_ok-options.ensures.workers)

@@ -1,4 +1,5 @@
 use Rattle.std.proofs.Common.{◌∙◌}
+use Rattle.std.proofs.lemmas.Result.{IfOk-from_err}
 use Rattle.std.specs.Arc.{arc_value}
 use Rattle.ll_engine.specs.Pointed.{spine_of}
 use Rattle.ll_engine.proofs.turns.Resuming.{healthy_begins, resumes_with, resumes_owing}
@@ -17,3 +18,21 @@ returns-clause-owes c =
     let z = c.in_ok-spine.spine in
     λ owes g. resumes_owing (arc_value c.args.to) c.args.k c.args.self.problem _ owes
     (c.begun.ensures ∙ resumes_with (arc_value c.args.to) c.args.k z.began (spine_of z) c.in_ok-spine.ensures.begins) c.requires.of g
+
+pub returns-in_err-spine-clause-resumed : goal.returns-in_err-spine-clause-resumed
+returns-in_err-spine-clause-resumed c = IfOk-from_err c.from_residual.result _ c.from_residual.ensures.0
+
+pub returns-in_err-spine-clause-owes : goal.returns-in_err-spine-clause-owes
+returns-in_err-spine-clause-owes c = IfOk-from_err c.from_residual.result _ c.from_residual.ensures.0
+
+pub resume_shared-requires-clause-inside : goal.resume_shared-requires-clause-inside
+resume_shared-requires-clause-inside c = c.requires.inside
+
+pub returns-then-spent-clause-resumed : goal.returns-then-spent-clause-resumed
+returns-then-spent-clause-resumed c = c.resume_shared.ensures.resumed
+
+pub advance-requires-clause-inside : goal.advance-requires-clause-inside
+advance-requires-clause-inside c = c.requires.inside
+
+pub begun-requires-clause-sound : goal.begun-requires-clause-sound
+begun-requires-clause-sound c = c.in_ok-spine.ensures.sound

@@ -26,6 +26,8 @@ TARGET = "x86_64-unknown-linux-gnu"
 C_LIBRARIES = ("libos_c.a", "liblibc_c.a")
 # How many processes may share the proof of one crate. More make it dearer, and hardly sooner done.
 MOST_JOBS = 4
+# So many times the processor time does a proof take by several processes.
+DEARER = 1.2
 # In KiB. A check takes up to 3 GB, most of them half as much.
 MEMORY_OF_A_JOB = 2_200_000
 # The prover's allocator keeps the memory that it has, which it would give back to the kernel and then ask for again.
@@ -36,11 +38,11 @@ A_DAY = 24 * 60 * 60
 # What the proof of a crate takes, in processor seconds (2026-11-29, four processors). They tell the order alone, so numbers that are out of date cost
 # little. A crate that is not among them counts by its lines.
 SECONDS = {
-    "ll_edge": 60, "ll_bank": 113, "ll_terms": 97, "ll_lexer": 38, "ll_parser": 203, "ll_laws": 40, "ll_polarity": 188, "ll_bindings": 11,
-    "ll_equate": 89, "ll_copy": 51, "ll_store": 64, "ll_close": 84, "ll_bind": 25, "ll_modules": 28, "ll_sequent": 168, "ll_resources": 95,
-    "ll_printer": 102, "ll_prooftext": 279, "ll_agenda": 12, "ll_core": 75, "ll_turn": 38, "ll_pool": 49, "ll_order": 19, "ll_first": 15,
-    "ll_index": 51, "ll_session": 39, "ll_freeze": 101, "ll_engine": 268, "ll_job": 120, "ll_crew": 297, "ll_trace": 102, "ll_deepen": 12,
-    "ll_make": 10, "ll_words": 61, "ll_made": 25, "ll_cover": 51, "ll_outlet": 45, "ll_judge": 72, "ll_check": 53, "ll_top": 146, "lolli": 95,
+    "ll_edge": 60, "ll_bank": 106, "ll_terms": 89, "ll_lexer": 38, "ll_parser": 195, "ll_laws": 40, "ll_polarity": 188, "ll_bindings": 11,
+    "ll_equate": 81, "ll_copy": 51, "ll_store": 64, "ll_close": 72, "ll_bind": 25, "ll_modules": 26, "ll_sequent": 168, "ll_resources": 85,
+    "ll_printer": 91, "ll_prooftext": 276, "ll_agenda": 9, "ll_core": 68, "ll_turn": 38, "ll_pool": 49, "ll_order": 19, "ll_first": 15,
+    "ll_index": 51, "ll_session": 39, "ll_freeze": 91, "ll_engine": 263, "ll_job": 116, "ll_crew": 297, "ll_trace": 102, "ll_deepen": 12,
+    "ll_make": 10, "ll_words": 59, "ll_made": 25, "ll_cover": 51, "ll_outlet": 45, "ll_judge": 72, "ll_check": 53, "ll_top": 146, "lolli": 95,
 }
 
 
@@ -226,11 +228,12 @@ class Store:
 
 @dataclass
 class Check:
-    """The proof of a crate under way: what it makes it makes in a room, and a library that is proved is to stand at a place."""
+    """The proof of a crate under way, and for how many processors it counts: what it makes it makes in a room, and a library that is proved is to stand at
+    a place."""
 
     crate: Crate
     process: subprocess.Popen
-    jobs: int
+    processors: int
     log: Path
     room: Path
     place: Path
@@ -242,15 +245,22 @@ class Plan:
     def __init__(self, crates):
         self.crates = crates
         self.seconds = {crate.name: crate.seconds() for crate in crates}
-        # The names of all crates that each one stands on, and how long the longest way from it to the program is.
-        self.below, self.ways = {}, {}
+        given = os.environ.get("RT_JOBS", "")
+        rooms = self.rooms()
+        self.processors = int(given) if given.isdigit() and int(given) else max(1, min(len(os.sched_getaffinity(0)), rooms))
+        # Whether more processes than processors may run. On two or three there is enough to do beside each crate.
+        self.may_share = self.processors > 3 and rooms >= 2 * self.processors
+        # The names of all crates that each one stands on, how long the longest way from it to the program is, and how long what comes after it on such a
+        # way takes by as many processes as may be.
+        self.below, self.ways, self.rests = {}, {}, {}
         for crate in crates:
             self.below[crate.name] = {name for used in crate.uses for name in (used, *self.below[used])}
+        most = min(MOST_JOBS, self.processors)
+        dearer = DEARER / most if most > 1 else 1
         for crate in reversed(crates):
-            above = [self.ways[other.name] for other in crates if crate.name in other.uses]
-            self.ways[crate.name] = self.seconds[crate.name] + max(above, default=0)
-        given = os.environ.get("RT_JOBS", "")
-        self.processors = int(given) if given.isdigit() and int(given) else max(1, min(len(os.sched_getaffinity(0)), self.rooms()))
+            above = [other for other in crates if crate.name in other.uses]
+            self.ways[crate.name] = self.seconds[crate.name] + max((self.ways[other.name] for other in above), default=0)
+            self.rests[crate.name] = max((self.seconds[other.name] * dearer + self.rests[other.name] for other in above), default=0)
 
     @staticmethod
     def rooms():
@@ -260,10 +270,13 @@ class Plan:
 
     def jobs(self, crate, unproved, idle):
         """How many processes are to prove a crate: as many as would else be idle for a quarter of the time or more, since there is too little that need not
-        wait for it."""
+        wait for it. Two, though only one processor is idle, where it and what waits for it would else take longer than all that is left takes on all
+        processors: those beside it are a little slower then, and what waits for it begins sooner."""
         beside = [other for other in unproved if other is not crate and crate.name not in self.below[other.name]]
         wanted = self.processors - sum(self.seconds[other.name] for other in beside) / self.seconds[crate.name]
-        return max(1, min(MOST_JOBS, self.processors, max(math.floor(wanted + 0.75), idle)))
+        share = sum(self.seconds[other.name] for other in unproved) / self.processors
+        is_late = self.may_share and self.seconds[crate.name] + self.rests[crate.name] > share
+        return max(2 if is_late else 1, min(MOST_JOBS, self.processors, max(math.floor(wanted + 0.75), idle)))
 
 
 def install(made, started):
@@ -293,15 +306,15 @@ class Build:
         """Starts as many proofs as there are processors for."""
         while ready := self.ready():
             running = [check.crate for check in self.running.values()]
-            idle = self.plan.processors - sum(check.jobs for check in self.running.values())
+            idle = self.plan.processors - sum(check.processors for check in self.running.values())
             crate = next((crate for crate in ready if crate.name not in self.killed or not running), None)
             if idle <= 0 or not crate or any(other.name in self.killed for other in running):
                 return
             jobs = self.plan.jobs(crate, [*self.left, *running], idle - len(ready) + 1)
-            self.start(crate, 1 if crate.name in self.killed else jobs)
+            self.start(crate, 1 if crate.name in self.killed else jobs, idle)
 
-    def start(self, crate, jobs):
-        """Takes the library that was proved of the same texts, or starts the proof."""
+    def start(self, crate, jobs, idle):
+        """Takes the library that was proved of the same texts, or starts the proof, which counts for no more than the processors that are idle."""
         self.left.remove(crate)
         libraries = {name: self.libraries[name] for name in self.plan.below[crate.name]}
         place = self.store.place(crate, libraries)
@@ -314,7 +327,7 @@ class Build:
             words = self.kit.prove(crate, libraries, jobs, made)
             how = {"stdin": subprocess.DEVNULL, "stdout": out, "stderr": subprocess.STDOUT, "start_new_session": True}
             process = subprocess.Popen(words, cwd=crate.folder, env={**ALLOCATOR, **os.environ}, **how)
-        self.running[process.pid] = Check(crate, process, jobs, log, room, place)
+        self.running[process.pid] = Check(crate, process, min(jobs, idle), log, room, place)
 
     def end(self, check, status):
         """Keeps what a proof made, or tells what the prover said."""

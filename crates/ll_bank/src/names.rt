@@ -13,11 +13,17 @@ use std::sync::Arc;
 /// The texts of names. Contracts see the list of the texts' bytes, in the order of their numbers.
 ///
 /// The first of them may stand in a front that copies share.
-#[derive(Drop)]
 pub struct Names {
     front: Option<Arc<Texts>>,
     // The texts behind the front.
     rest: Texts,
+}
+
+// Written out, so that a proof sees one call where it goes, and not one for each part.
+impl Drop for Names {
+    fn drop(self) {
+        let Names { front: _, rest: _ } = self;
+    }
 }
 
 impl Model for Names {

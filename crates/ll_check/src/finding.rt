@@ -11,7 +11,7 @@ use ll_edge::{Sink, WriteFailed};
 use ll_judge::write_parts;
 
 /// What a check or a cover finds of a derivation.
-#[derive(Clone, Copy, Debug, PartialEq, Eq)]
+#[derive(Clone, Copy)]
 pub enum Finding {
     /// It shows the query, and has so many nodes.
     Shows { nodes: usize },

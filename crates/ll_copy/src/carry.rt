@@ -154,13 +154,23 @@ fn carry_one<T: Bindings>(
 }
 
 /// What terms are carried into another bank with. It is kept, so that many calls take memory once.
-#[derive(Drop)]
 pub struct Carrier {
     // Copies by the places of the first bank, each in four bytes.
     known: Vec<u32>,
     // Terms whose copies are not done, and copies that wait for them.
     frames: Vec<Frame>,
     made: Vec<At>,
+}
+
+// Written out, so that a proof sees one call where it goes, and not one for each part.
+impl Drop for Carrier {
+    fn drop(self) {
+        let Carrier {
+            known: _,
+            frames: _,
+            made: _,
+        } = self;
+    }
 }
 
 impl Carrier {

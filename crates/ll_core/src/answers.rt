@@ -27,7 +27,7 @@ pub enum PublishFault<N: Drop> {
 }
 
 /// What a look at a pool shows.
-#[derive(Clone, Copy, Debug, PartialEq, Eq)]
+#[derive(Clone, Copy, PartialEq, Eq)]
 pub struct Look {
     /// How many alternatives are not claimed.
     pub untried: u32,

@@ -23,7 +23,6 @@ use std::sync::Arc;
 /// `claim`, `report`, `look` and a `ready` that finds no report take constant time, `publish` takes constant time for each alternative,
 /// and a `ready` that gives a report takes constant time for each batch that its piece published. `new` and `publish` alone take
 /// memory.
-#[derive(Drop)]
 pub struct Pool<N: Batch> {
     batches: Vec<Arc<N>>,
     pieces: Vec<Slot<N::Found>>,
@@ -37,6 +36,23 @@ pub struct Pool<N: Batch> {
     busy: u32,
     starved: bool,
     stopped: bool,
+}
+
+// Written out, so that a proof sees one call where it goes, and not one for each part.
+impl<N: Batch> Drop for Pool<N> {
+    fn drop(self) {
+        let Pool {
+            batches: _,
+            pieces: _,
+            waiting: _,
+            starts: _,
+            stack: _,
+            workers: _,
+            busy: _,
+            starved: _,
+            stopped: _,
+        } = self;
+    }
 }
 
 impl<N: Batch> Model for Pool<N> {

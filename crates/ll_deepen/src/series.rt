@@ -13,7 +13,7 @@ pub type OutOfMemory = AllocError;
 
 /// The bounds `from`, `from + by`, `from + 2 by` and so on, as far as they are at most `to`: `from` is at most `to`, which is at most
 /// 1,000,000, and `by` is from 1 to 1,000,000.
-#[derive(Clone, Copy, Debug, PartialEq, Eq)]
+#[derive(Clone, Copy)]
 pub struct Series {
     /// The first bound.
     pub from: u32,

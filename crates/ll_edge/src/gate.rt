@@ -7,7 +7,7 @@ pub trait Gate: Sync {
 }
 
 /// A gate that holds nobody.
-#[derive(Clone, Copy, Debug, Default, PartialEq, Eq)]
+#[derive(Clone, Copy, Default)]
 pub struct OpenGate;
 
 impl Gate for OpenGate {

@@ -4,7 +4,7 @@ ghost use Rattle.ll_edge.specs.Counts.{Rose};
 ghost use Rattle.ll_edge.specs.Texts.{Texts, text_of, PutsPart, IfBytes};
 
 /// What one call of a shelf gives.
-#[derive(Clone, Copy, Debug, PartialEq, Eq)]
+#[derive(Clone, Copy)]
 pub enum Got {
     /// So many bytes of the text are at the front of the buffer. None are left where it is 0.
     Bytes(usize),

@@ -32,11 +32,20 @@ pub fn answers(machine: &Machine<'_>) -> bool
 }
 
 /// What branches are made with. It is kept, so that many branches take memory for it once. Contracts see nothing of it.
-#[derive(Drop)]
 pub struct Workshop {
     carrier: Carrier,
     // Terms of a branch, before they are copied into a bank of their size.
     grown: Bank,
+}
+
+// Written out, so that a proof sees one call where it goes, and not one for each part.
+impl Drop for Workshop {
+    fn drop(self) {
+        let Workshop {
+            carrier: _,
+            grown: _,
+        } = self;
+    }
 }
 
 impl Model for Workshop {

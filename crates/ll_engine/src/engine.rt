@@ -97,7 +97,6 @@ fn turn(spine: &mut Spine<'_>, running: bool) -> Result<Move, OutOfMemory>
 /// A depth-first engine. Contracts see it as its problem, the events and the inferences that it still owes, the number of its
 /// choice points with a candidate that was not tried, the state in which it began, how many choice points were split off, and how far
 /// it is from its end.
-#[derive(Drop)]
 pub struct Engine<'p> {
     spine: Spine<'p>,
     // The state of the spine is still to be searched.
@@ -106,6 +105,19 @@ pub struct Engine<'p> {
     splits: u64,
     made: u64,
     spent: bool,
+}
+
+// Written out, so that a proof sees one call where it goes, and not one for each part.
+impl Drop for Engine<'_> {
+    fn drop(self) {
+        let Engine {
+            spine: _,
+            running: _,
+            splits: _,
+            made: _,
+            spent: _,
+        } = self;
+    }
 }
 
 impl<'p> Model for Engine<'p> {
@@ -216,7 +228,13 @@ impl<'p> Engine<'p> {
         ensures owes { IfOk result (λ e. (owes : Owed TheEvent) → slice_get (alternatives_in (arc_value to.entry)) k ≡ Some owes
             → Resumes self.entry.problem owes e) }
     {
-        let Engine { spine, spent, .. } = self;
+        let Engine {
+            spine,
+            running: _,
+            splits: _,
+            made: _,
+            spent,
+        } = self;
         if spent {
             return Engine::resume_shared(spine.alloc, spine.problem, to, k);
         }

@@ -16,7 +16,7 @@ use ll_store::Store;
 use std::alloc::AllocError;
 
 /// A head with a number of arguments.
-#[derive(Clone, Copy, PartialEq, Eq)]
+#[derive(Clone, Copy)]
 pub struct Predicate {
     pub head: Head,
     pub arity: usize,

@@ -1,6 +1,10 @@
 //! A machine: one state of a search, over cells with a trail and a bank.
 ghost use Rattle.std.specs.Prelude.{◌≡◌};
+ghost use Rattle.ll_store.specs.Stored.{state_of as store_of, stored};
+ghost use Rattle.ll_freeze.specs.Parts.{parts_of};
+ghost use Rattle.ll_freeze.specs.Rested.{parts_with};
 
+use crate::rest::Rest;
 use ll_agenda::{Agenda, Top};
 use ll_bank::{At, FormAt};
 use ll_laws::{Module, Problem, Step};
@@ -8,7 +12,7 @@ use ll_resources::{Context, Saved};
 use ll_store::Store;
 
 /// An item of an agenda: a goal, or the end of one.
-#[derive(Clone, Copy, Debug)]
+#[derive(Clone, Copy)]
 pub enum Item {
     /// A goal.
     Goal(FormAt),
@@ -30,7 +34,6 @@ pub enum Item {
 /// the state that this shows, and `Fits` says how the parts belong together. What it adds can be taken back to a [`ChoiceMark`].
 ///
 /// [`ChoiceMark`]: crate::ChoiceMark
-#[derive(Drop)]
 pub struct Machine<'p> {
     pub problem: &'p Problem,
     /// The problem's modules, whose clauses are places of the machine's bank too.
@@ -47,11 +50,59 @@ pub struct Machine<'p> {
     pub steps: Vec<Step>,
 }
 
+// Written out, so that a proof sees one call where it goes, and not one for each part.
+impl Drop for Machine<'_> {
+    fn drop(self) {
+        let Machine {
+            problem: _,
+            modules: _,
+            store: _,
+            context: _,
+            agenda: _,
+            top: _,
+            left: _,
+            eigens: _,
+            terms: _,
+            steps: _,
+        } = self;
+    }
+}
+
 impl<'p> Machine<'p> {
     /// The bound left.
     pub fn left(&self) -> u32
         ensures { result ≡ self.now.left }
     {
         self.left
+    }
+
+    /// The store, and all but the store.
+    pub fn parted(self) -> (Rest<'p>, Store)
+        ensures { parts_with result.0 (store_of (stored result.1)) ≡ parts_of self.entry }
+    {
+        let Machine {
+            problem,
+            modules,
+            store,
+            context,
+            agenda,
+            top,
+            left,
+            eigens,
+            terms,
+            steps,
+        } = self;
+        let rest = Rest {
+            problem,
+            modules,
+            context,
+            agenda,
+            top,
+            left,
+            eigens,
+            terms,
+            steps,
+        };
+        (rest, store)
     }
 }

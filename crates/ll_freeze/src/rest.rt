@@ -52,36 +52,6 @@ impl<'p> Machine<'p> {
             steps,
         })
     }
-
-    /// The store, and all but the store.
-    pub fn parted(self) -> (Rest<'p>, Store)
-        ensures { parts_with result.0 (store_of (stored result.1)) ≡ parts_of self.entry }
-    {
-        let Machine {
-            problem,
-            modules,
-            store,
-            context,
-            agenda,
-            top,
-            left,
-            eigens,
-            terms,
-            steps,
-        } = self;
-        let rest = Rest {
-            problem,
-            modules,
-            context,
-            agenda,
-            top,
-            left,
-            eigens,
-            terms,
-            steps,
-        };
-        (rest, store)
-    }
 }
 
 impl<'p> Rest<'p> {

@@ -18,7 +18,6 @@ use std::alloc::Global;
 ///
 /// It has no lists but those of the premises: each leaf leads to the next one of its predicate, and to the next one of its predicate and
 /// sign. `IsIndex` says of which clauses it is, and in which bank its places are.
-#[derive(Drop)]
 pub struct Index {
     leaves: Vec<Leaf>,
     premises: Agenda<Premise>,
@@ -30,8 +29,20 @@ pub struct Index {
     ghost by_sign: { length signs.next.items ≡ length leaves.items },
 }
 
+// Written out, so that a proof sees one call where it goes, and not one for each part.
+impl Drop for Index {
+    fn drop(self) {
+        let Index {
+            leaves: _,
+            premises: _,
+            predicates: _,
+            signs: _,
+        } = self;
+    }
+}
+
 /// A place among the leaves of an index that match an atom. `left` is the list of those that are still to come.
-#[derive(Clone, Copy, Debug)]
+#[derive(Clone, Copy)]
 pub struct Cursor {
     by_sign: bool,
     // The next leaf of the atom's own sign, and the next one whose sign clashes with none.

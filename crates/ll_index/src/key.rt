@@ -9,7 +9,7 @@ use ll_bank::{At, Bank, Head, OutOfMemory, TermView};
 use std::alloc::AllocError;
 
 /// What a leaf is found by.
-#[derive(Clone, Copy, Debug, PartialEq, Eq, Hash)]
+#[derive(Clone, Copy, PartialEq, Eq, Hash)]
 pub(crate) enum Key {
     /// Its head has no name in front. No atom asks for it.
     Unnamed,

@@ -14,7 +14,7 @@ use ll_laws::{Candidate, Clause, Kind};
 use std::alloc::{AllocError, Global};
 
 /// A leaf of a clause of the program.
-#[derive(Clone, Copy, Debug)]
+#[derive(Clone, Copy)]
 pub struct Leaf {
     /// The clause's label, which is its place in the program, and the number of the leaf.
     pub candidate: Candidate,
@@ -27,7 +27,7 @@ pub struct Leaf {
 }
 
 /// A premise of a leaf.
-#[derive(Clone, Copy, Debug)]
+#[derive(Clone, Copy)]
 pub struct Premise {
     /// The goal as it stands in the clause.
     pub goal: FormAt,

@@ -126,11 +126,7 @@ fn finds_what_a_walk_finds(rt: HostRuntime) -> Result<(), Fail> {
         ] {
             let walked = walked(alloc, name, first)?;
             let looked_up = looked_up(alloc, &index, name, first)?;
-            assert_eq!(rt;
-                looked_up.as_slice(),
-                walked.as_slice(),
-                "name {name}, sign {first:?}"
-            );
+            assert_eq!(rt; looked_up.as_slice(), walked.as_slice(), "name {name}");
         }
     }
     Ok(())

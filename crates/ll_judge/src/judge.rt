@@ -9,7 +9,7 @@ use ll_parser::{RawProgram, RawQuery, program, query};
 use std::alloc::Global;
 
 /// Which text of a command.
-#[derive(Clone, Copy, Debug, PartialEq, Eq)]
+#[derive(Clone, Copy)]
 pub enum Role {
     Program,
     Query,

@@ -6,7 +6,7 @@ use ll_lexer::Fault;
 use std::alloc::AllocError;
 
 /// Why a text of a run is not gone on with.
-#[derive(Clone, Copy, Debug, PartialEq, Eq)]
+#[derive(Clone, Copy)]
 pub enum TextRefusal {
     /// There is no text of its name.
     Absent,
@@ -19,7 +19,7 @@ pub enum TextRefusal {
 }
 
 /// Why a run ends before all of its text is written.
-#[derive(Clone, Copy, Debug, PartialEq, Eq)]
+#[derive(Clone, Copy)]
 pub enum Refusal {
     /// One of its texts is refused.
     Text(Role, TextRefusal),

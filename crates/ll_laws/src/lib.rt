@@ -15,7 +15,7 @@ use std::alloc::Global;
 use std::marker::Model;
 
 /// Which resources a clause is among.
-#[derive(Clone, Copy, Debug, PartialEq, Eq)]
+#[derive(Clone, Copy, PartialEq, Eq)]
 pub enum Kind {
     /// It has to be used exactly once.
     Linear,
@@ -24,7 +24,7 @@ pub enum Kind {
 }
 
 /// A clause with its kind. Its formula is a place in the bank of what holds it.
-#[derive(Clone, Copy, Debug, PartialEq, Eq)]
+#[derive(Clone, Copy)]
 pub struct Clause {
     pub kind: Kind,
     pub form: FormAt,
@@ -32,7 +32,6 @@ pub struct Clause {
 
 /// A module. In its clauses bound places count as if each clause stood under one quantifier for each local, the first one
 /// outermost, and inside these under one for each parameter, the first one outermost.
-#[derive(Drop)]
 pub struct Module {
     /// The number of its name.
     pub name: u32,
@@ -44,8 +43,19 @@ pub struct Module {
     pub clauses: Vec<Clause>,
 }
 
+// Written out, so that a proof sees one call where it goes, and not one for each part.
+impl Drop for Module {
+    fn drop(self) {
+        let Module {
+            name: _,
+            params: _,
+            locals: _,
+            clauses: _,
+        } = self;
+    }
+}
+
 /// What a search is asked for. Contracts see the trees that its places show in its bank.
-#[derive(Drop)]
 pub struct Problem {
     pub bank: Bank,
     pub names: Names,
@@ -58,6 +68,21 @@ pub struct Problem {
     pub asked: Vec<Option<u32>>,
     /// How many inferences a branch may have, from 0 to 1,000,000.
     pub bound: u32,
+}
+
+// Written out, so that a proof sees one call where it goes, and not one for each part.
+impl Drop for Problem {
+    fn drop(self) {
+        let Problem {
+            bank: _,
+            names: _,
+            modules: _,
+            clauses: _,
+            goal: _,
+            asked: _,
+            bound: _,
+        } = self;
+    }
 }
 
 impl Model for Problem {
@@ -85,7 +110,7 @@ impl Model for Problem {
 }
 
 /// Which alternative an inference took.
-#[derive(Clone, Copy, Debug, PartialEq, Eq)]
+#[derive(Clone, Copy)]
 pub enum Step {
     /// The only one of a goal that is neither an atom nor a `;`.
     Plain,
@@ -98,20 +123,30 @@ pub enum Step {
 }
 
 /// One alternative of a goal: a label and a leaf for an atom, leaf 0 or 1 for the sides of `;`, and 0 and 0 for any other goal.
-#[derive(Clone, Copy, Debug, PartialEq, Eq)]
+#[derive(Clone, Copy)]
 pub struct Candidate {
     pub label: u32,
     pub leaf: u32,
 }
 
 /// A branch of the search that ended in an answer. Contracts see the trees that its places show in its bank.
-#[derive(Drop)]
 pub struct Branch {
     pub bank: Bank,
     /// One term for each variable, those asked for first.
     pub terms: Vec<At>,
     /// One step for each inference.
     pub steps: Vec<Step>,
+}
+
+// Written out, so that a proof sees one call where it goes, and not one for each part.
+impl Drop for Branch {
+    fn drop(self) {
+        let Branch {
+            bank: _,
+            terms: _,
+            steps: _,
+        } = self;
+    }
 }
 
 impl Model for Branch {
@@ -224,7 +259,7 @@ pub trait Batch: Drop + Send + Sync {
 }
 
 /// How many answers, branches cut off at the bound, and inferences a search has, each cut at the greatest `u64`.
-#[derive(Clone, Copy, Debug, PartialEq, Eq)]
+#[derive(Clone, Copy, PartialEq, Eq)]
 pub struct Counts {
     pub answers: u64,
     pub reached: u64,
@@ -232,7 +267,7 @@ pub struct Counts {
 }
 
 /// What a clause step of a derivation says of one premise.
-#[derive(Debug, PartialEq, Eq, Drop)]
+#[derive(Drop)]
 pub enum Part {
     /// A bounded premise, proved from the clauses with these labels.
     Bounded(Vec<u32>),
@@ -281,13 +316,23 @@ pub enum Rule {
 
 /// A derivation of a query. Contracts see the terms that its places show in its bank, and the tree that its nodes are
 /// (`IsWhole` says that they are one).
-#[derive(Drop)]
 pub struct Derivation {
     pub bank: Bank,
     /// The term for each variable of the query, in the order of their numbers.
     pub asked: Vec<At>,
     /// The nodes in prefix order.
     pub nodes: Vec<Rule>,
+}
+
+// Written out, so that a proof sees one call where it goes, and not one for each part.
+impl Drop for Derivation {
+    fn drop(self) {
+        let Derivation {
+            bank: _,
+            asked: _,
+            nodes: _,
+        } = self;
+    }
 }
 
 impl Model for Derivation {

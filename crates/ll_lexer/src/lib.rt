@@ -64,7 +64,7 @@ impl<T: Drop> From<AllocFailed<T>> for TextFault {
 }
 
 /// The kinds of tokens: words and numbers, the keywords, and the signs.
-#[derive(Clone, Copy, Debug, PartialEq, Eq)]
+#[derive(Clone, Copy, PartialEq, Eq)]
 pub enum TokenKind {
     Name,
     Variable,
@@ -101,7 +101,7 @@ pub enum TokenKind {
 }
 
 /// A token: its kind, the place of its first byte, and its bytes' range in the text.
-#[derive(Clone, Copy, Debug, PartialEq, Eq)]
+#[derive(Clone, Copy)]
 pub struct Token {
     pub kind: TokenKind,
     pub at: Place,

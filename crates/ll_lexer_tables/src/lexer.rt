@@ -71,7 +71,7 @@ fn reads_numbers(rt: HostRuntime) -> Result<(), Fail> {
     for i in 0..list.len() {
         let (kind, column, bytes) = NUMBER_TOKENS[i];
         let token = list.get(i);
-        assert_eq!(rt; token.kind, kind, "at {i}");
+        assert!(rt; token.kind == kind, "at {i}");
         assert_eq!(rt; token.at, Place { line: 1, column }, "at {i}");
         assert_eq!(rt; list.bytes(i), bytes, "at {i}");
     }
@@ -85,7 +85,7 @@ fn reads(rt: HostRuntime) -> Result<(), Fail> {
     for i in 0..list.len() {
         let (kind, line, column, bytes) = TOKENS[i];
         let token = list.get(i);
-        assert_eq!(rt; token.kind, kind, "at {i}");
+        assert!(rt; token.kind == kind, "at {i}");
         assert_eq!(rt; token.at, Place { line, column }, "at {i}");
         assert_eq!(rt; list.bytes(i), bytes, "at {i}");
     }
@@ -140,7 +140,7 @@ fn limits(rt: HostRuntime) -> Result<(), Fail> {
     let want = [9223372036854775807, -9223372036854775808, 0, 42];
     assert_eq!(rt; list.len(), want.len());
     for i in 0..list.len() {
-        assert_eq!(rt; list.get(i).kind, TokenKind::Number);
+        assert!(rt; list.get(i).kind == TokenKind::Number);
         assert_eq!(rt; list.number(i), want[i]);
     }
 

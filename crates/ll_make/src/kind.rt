@@ -3,7 +3,7 @@ ghost use Rattle.std.specs.Prelude.{◌≡◌, ◌↔◌, IsTrue};
 ghost use Rattle.ll_make.specs.Kinds.{least_number, greatest_number, Fits, query_text};
 
 /// What a program that is made does.
-#[derive(Clone, Copy, Debug, PartialEq, Eq)]
+#[derive(Clone, Copy)]
 pub enum MakeKind {
     /// It tells the permutations of the numbers from 1 up, by linear resources; 0 to 8 numbers.
     Perm,

@@ -17,7 +17,7 @@ pub use ends::settling_ends;
 use ll_laws::Kind;
 
 /// A clause in a context, with its label. Only a linear one can be live.
-#[derive(Clone, Copy, Debug, PartialEq, Eq)]
+#[derive(Clone, Copy, PartialEq, Eq)]
 pub struct Entry<C> {
     pub label: u32,
     pub kind: Kind,

@@ -45,7 +45,7 @@ fn shares_names(rt: HostRuntime) -> Result<(), Fail> {
 fn assert_term(rt: &impl Abort, bank: &Bank, at: At, want: TermView<'_>)
     requires { HasTerm bank.now at.0 }
 {
-    assert_eq!(rt; bank.term_at(at), want);
+    assert!(rt; bank.term_at(at) == want);
 }
 
 #[test]
@@ -70,7 +70,7 @@ fn read_back(rt: &impl Abort, bank: &mut Bank, node: FormNode<'_>) -> Result<For
     ensures forms { length bank.old.forms ≤ length bank.new.forms }
 {
     let at = bank.form(node)?;
-    assert_eq!(rt; bank.form_at(at), node);
+    assert!(rt; bank.form_at(at) == node);
     Ok(at)
 }
 
@@ -175,7 +175,7 @@ fn opens_what_is_shared_once(rt: HostRuntime) -> Result<(), Fail> {
     let value = bank.app(Head::Eigen(4), &[])?;
     let opened = instantiate(&mut bank, body, value)?;
     let atom = leftmost(&bank, opened, 120);
-    assert_eq!(rt; bank.form_at(atom), FormNode::Atom(value));
+    assert!(rt; bank.form_at(atom) == FormNode::Atom(value));
     Ok(())
 }
 
@@ -208,8 +208,8 @@ fn cuts_and_extends(rt: HostRuntime) -> Result<(), Fail> {
     let mut other = bank.image(from)?;
     let tail = longer(&mut bank, from)?;
     other.extend(&tail)?;
-    assert_eq!(rt; other.size(), bank.size());
+    assert!(rt; other.size() == bank.size());
     bank.cut(from);
-    assert_eq!(rt; bank.size(), from);
+    assert!(rt; bank.size() == from);
     Ok(())
 }

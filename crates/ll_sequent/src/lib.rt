@@ -34,7 +34,7 @@ use ll_laws::{Derivation, Problem};
 use std::alloc::Global;
 
 /// What the checker says of a derivation.
-#[derive(Clone, Copy, Debug, PartialEq, Eq)]
+#[derive(Clone, Copy)]
 pub enum Verdict {
     /// It shows the query.
     Yes,

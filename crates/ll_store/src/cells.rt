@@ -29,10 +29,16 @@ pub enum Change {
 ///
 /// There is no memory for a change of a variable past 32 bits, for a place from 4,294,967,295 on, nor for lowering the level
 /// 4,294,967,295.
-#[derive(Drop)]
 pub struct Cells {
     pub(crate) slots: Vec<Slot>,
     pub(crate) trail: Vec<Entry>,
+}
+
+// Written out, so that a proof sees one call where it goes, and not one for each part.
+impl Drop for Cells {
+    fn drop(self) {
+        let Cells { slots: _, trail: _ } = self;
+    }
 }
 
 impl Model for Cells {

@@ -14,10 +14,19 @@ use std::sync::Arc;
 /// A state of a store: a whole store, and segments that lead on from it to this state. States that follow on it share them.
 ///
 /// Contracts see the state, and the number of segments.
-#[derive(Drop)]
 pub struct Layers {
     whole: Arc<Store>,
     segments: Vec<Arc<Segment>>,
+}
+
+// Written out, so that a proof sees one call where it goes, and not one for each part.
+impl Drop for Layers {
+    fn drop(self) {
+        let Layers {
+            whole: _,
+            segments: _,
+        } = self;
+    }
 }
 
 impl Model for Layers {

@@ -167,10 +167,16 @@ fn set_slot(cells: &mut Vec<Slot>, at: usize, slot: Slot)
 /// What leads from one state of a store to a later one, which stores that stand in the first can take over.
 ///
 /// Contracts see the changes, the cells and the nodes that are new. They say which state is the first, and with it they fix the second.
-#[derive(Drop)]
 pub struct Segment {
     cells: CellSegment,
     nodes: BankTail,
+}
+
+// Written out, so that a proof sees one call where it goes, and not one for each part.
+impl Drop for Segment {
+    fn drop(self) {
+        let Segment { cells: _, nodes: _ } = self;
+    }
 }
 
 impl Model for Segment {

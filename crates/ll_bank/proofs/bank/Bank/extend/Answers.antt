@@ -44,3 +44,20 @@ returns-clause-same c =
     c.requires
     (extended_size _ c.args.tail.now c.tail.view_is c.tail.invariant c.args.self.now c.add_forms.new.bank c.requires is)
     (whole_of_size c.add_forms.new.bank c.size-size.result c.size-size.ensures.is c.size-size.ensures.had) same
+
+pub returns-clause-keeps : goal.returns-clause-keeps
+returns-clause-keeps c = Extends-trans c.in_ok-add_terms.ensures.keeps c.in_ok-add_forms.ensures.keeps
+
+pub returns-clause-added : goal.returns-clause-added
+returns-clause-added c =
+    c.in_ok-add_forms.ensures.added
+    ∙ (ap (λ (b : Nodes). with_forms b c.tail.inside.flat.nodes.forms) c.in_ok-add_terms.ensures.added
+    ∙ ap (λ (t : Tail). with_nodes c.args.self.now t.nodes) c.tail.view_is)
+
+pub returns-clause-size : goal.returns-clause-size
+returns-clause-size c =
+    let is : c.add_forms.new.bank ≡ with_nodes c.args.self.now c.args.tail.now.nodes =
+    c.in_ok-add_forms.ensures.added
+    ∙ (ap (λ (b : Nodes). with_forms b c.tail.inside.flat.nodes.forms) c.in_ok-add_terms.ensures.added
+    ∙ ap (λ (t : Tail). with_nodes c.args.self.now t.nodes) c.tail.view_is) in
+    extended_size _ c.args.tail.now c.tail.view_is c.tail.invariant c.args.self.now c.add_forms.new.bank c.requires is

@@ -1,3 +1,4 @@
+use Rattle.std.proofs.lemmas.Result.{IfOk-from_err}
 use Rattle.std.proofs.Common.{◌≡◌, drop, length, ap, sym, ◌∙◌, arith, map}
 use Rattle.std.proofs.lemmas.List.{drop_all}
 use Rattle.ll_bank.specs.Nodes.{term_trees, form_tree}
@@ -50,3 +51,6 @@ returns-clause-shows c =
           ∙ ap (λ n. load_all (arguments_env (term_trees c.args.bank.now c.args.args.now)) (map (clause_tree c.args.bank.now) (drop n c.args.clauses.now))
           (form_tree c.args.bank.now c.args.goal.0)) zero;
     }
+
+pub returns-in_err-at-clause-shows : goal.returns-in_err-at-clause-shows
+returns-in_err-at-clause-shows c = IfOk-from_err c.from_residual.result _ c.from_residual.ensures.0

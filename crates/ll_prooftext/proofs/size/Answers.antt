@@ -1,3 +1,4 @@
+use Rattle.std.proofs.lemmas.Result.{IfOk-from_err}
 use Rattle.std.proofs.Common.{◌≡◌, ℕ, sym, subst, ◌∙◌, ap, arith, length, IfOk}
 use Rattle.ll_prooftext.specs.Sizes.{size_in}
 use Rattle.ll_prooftext.proofs.writing.Sizing.{is_second}
@@ -14,3 +15,6 @@ returns-in_ok-text c =
     let fits = c.len.type_inv in
     subst (λ (v : ℕ). c.len.result ≡ size_in v c.args.names.now c.args.derivation.now) (sym (is_second c.args.version c.requires c.if-version-eq1.false))
     (omega arith)
+
+pub returns-in_err-text : goal.returns-in_err-text
+returns-in_err-text c = IfOk-from_err c.from_residual.result _ c.from_residual.ensures.0

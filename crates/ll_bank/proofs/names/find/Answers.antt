@@ -19,3 +19,9 @@ returns-in-Some-find-2-clause-number c =
     let before = c.len.ensures.len ∙ ap length c.deref-in-Some-find-2.ensures in
     rw c.in-Some.is (ap (λ n. let o : Option ℕ = Some (n + c.in-Some-find-2.place) in o) before
     ∙ sym (number_of-behind c.in-Some.texts.value c.args.rest.now c.args.text.now c.in-Some-find-2.place none (sym c.in-Some-find-2.ensures)))
+
+pub returns-in-Some-find-clause-neither : goal.returns-in-Some-find-clause-neither
+returns-in-Some-find-clause-neither c = _
+
+pub returns-in-Some-find-2-clause-neither : goal.returns-in-Some-find-2-clause-neither
+returns-in-Some-find-2-clause-neither c = _

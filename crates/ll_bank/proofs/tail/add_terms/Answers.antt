@@ -1,3 +1,4 @@
+use Rattle.std.proofs.lemmas.Result.{IfOk-from_err}
 use Rattle.std.proofs.Common.{◌<◌, length, arith, ap, ◌∙◌}
 use Rattle.std.proofs.lemmas.List.{take_all}
 use Rattle.ll_bank.specs.Nodes.{node_of_term}
@@ -25,3 +26,6 @@ pub returns-clause-added : goal.returns-clause-added
 returns-clause-added c =
     let s = ap (λ s. s.terms) c.size-i-end.ensures in
     c.loop-i.invariant.is ∙ ap (with_terms c.args.bank.now) (take_all c.loop-i.i c.args.flat.now.nodes.terms (omega arith))
+
+pub returns-in_err-add_term-clause-added : goal.returns-in_err-add_term-clause-added
+returns-in_err-add_term-clause-added c = IfOk-from_err c.from_residual.result _ c.from_residual.ensures.0

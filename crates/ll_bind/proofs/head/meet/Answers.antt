@@ -1,3 +1,4 @@
+use Rattle.std.proofs.lemmas.Result.{IfOk-from_err}
 use Rattle.std.proofs.Common.{[], ◌∷◌, sym, subst}
 use Rattle.std.proofs.lemmas.Result.{IfOk-weaker}
 use Rattle.ll_bank.specs.Term.{Term, close}
@@ -60,3 +61,9 @@ pub returns-clause-marks : goal.returns-clause-marks
 returns-clause-marks c =
     let new : Store = record { bank = c.closed.new.bank; cells = c.unify_end.new.table } in
     marks_more c.args.store.now new c.closed.ensures.keeps c.unify_end.ensures.grows
+
+pub returns-in_err-right-clause-settles : goal.returns-in_err-right-clause-settles
+returns-in_err-right-clause-settles c = IfOk-from_err c.from_residual.result _ c.from_residual.ensures.0
+
+pub returns-in_err-right-clause-fresh : goal.returns-in_err-right-clause-fresh
+returns-in_err-right-clause-fresh c = IfOk-from_err c.from_residual.result _ c.from_residual.ensures.0

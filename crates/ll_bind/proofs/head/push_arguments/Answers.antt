@@ -1,3 +1,4 @@
+use Rattle.std.proofs.lemmas.Result.{IfOk-from_err}
 use Rattle.std.proofs.Common.{◌-◌, ◌∙◌, arith}
 use Rattle.ll_bind.proofs.Heads.{popped, equate_empty, equate_first, equate_begin, equate_more}
 use Rattle.ll_bind.proofs.head.push_arguments.Goals as goal
@@ -28,3 +29,6 @@ pub returns : goal.returns
 returns c =
     equate_first c.args.places.now c.args.patterns.now (record { 0 = 0 }) c.args.equations.now.items c.loop-left.equations.items c.loop-left.left (omega arith)
     (omega arith) c.requires c.loop-left.invariant.pushed
+
+pub returns-in_err-push : goal.returns-in_err-push
+returns-in_err-push c = IfOk-from_err c.from_residual.result _ c.from_residual.ensures.0

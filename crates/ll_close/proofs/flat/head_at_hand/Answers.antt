@@ -28,3 +28,6 @@ returns-then-number-level-2 c =
       tree =
           sym (head_value bank vs c.args.level c.in-Bound.bound i none (omega arith) (omega arith) refl);
     })
+
+pub returns-else-number-level-2 : goal.returns-else-number-level-2
+returns-else-number-level-2 c = _

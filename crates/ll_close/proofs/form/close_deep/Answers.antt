@@ -1,3 +1,4 @@
+use Rattle.std.proofs.lemmas.Result.{IfOk-from_err}
 use Rattle.std.proofs.Common.{◌≡◌, ℕ, ◌+◌, ◌<◌, ◌≤◌, ◌-◌, List, ◌++◌, ◌∷◌, [], sym, length, take, map, ap, ◌∙◌, arith, rules}
 use Rattle.std.specs.Prelude.{reverse}
 use Rattle.std.specs.HashMap.{get}
@@ -287,3 +288,27 @@ index-requires c =
     let left = closing_ends (form_parts_at first) (IsGoodForm first (env, c.args.form.0)) (c.args.form.0, 0) (λ q (x : FormAt). IsFormImage now env q x.0)
     c.loop-task.made.items c.loop-task.tasks.items (let h = c.in_default.ensures.cases.0 in search rules) c.loop-task.invariant.closing in
     one_left {x = left.0} _ c.loop-task.made.ok.0 left.1
+
+pub returns-in_err-push_part-clause-shows : goal.returns-in_err-push_part-clause-shows
+returns-in_err-push_part-clause-shows c = IfOk-from_err c.from_residual.result _ c.from_residual.ensures.0
+
+pub returns-in_err-image-clause-shows : goal.returns-in_err-image-clause-shows
+returns-in_err-image-clause-shows c = IfOk-from_err c.from_residual-in_err-image.result _ c.from_residual-in_err-image.ensures.0
+
+pub returns-in_err-remember-clause-shows : goal.returns-in_err-remember-clause-shows
+returns-in_err-remember-clause-shows c = IfOk-from_err c.from_residual-in_err-remember.result _ c.from_residual-in_err-remember.ensures.0
+
+pub returns-in_err-push-clause-shows : goal.returns-in_err-push-clause-shows
+returns-in_err-push-clause-shows c = IfOk-from_err c.from_residual-in_err-push.result _ c.from_residual-in_err-push.ensures.0
+
+pub returns-in_err-push-2-clause-shows : goal.returns-in_err-push-2-clause-shows
+returns-in_err-push-2-clause-shows c = IfOk-from_err c.from_residual-in_err-push-2.result _ c.from_residual-in_err-push-2.ensures.0
+
+pub returns-in_err-image-2-clause-shows : goal.returns-in_err-image-2-clause-shows
+returns-in_err-image-2-clause-shows c = IfOk-from_err c.from_residual-in_err-image-2.result _ c.from_residual-in_err-image-2.ensures.0
+
+pub returns-in_err-push-3-clause-shows : goal.returns-in_err-push-3-clause-shows
+returns-in_err-push-3-clause-shows c = IfOk-from_err c.from_residual-in_err-push-3.result _ c.from_residual-in_err-push-3.ensures.0
+
+pub returns-in_err-push_form-clause-shows : goal.returns-in_err-push_form-clause-shows
+returns-in_err-push_form-clause-shows c = IfOk-from_err c.from_residual-in_err-push_form.result _ c.from_residual-in_err-push_form.ensures.0

@@ -1,3 +1,4 @@
+use Rattle.std.proofs.lemmas.Result.{IfOk-from_err}
 use Rattle.std.proofs.Common.{◌≡◌, ap, sym, subst, ◌∙◌, refl}
 use Rattle.std.specs.Prelude.{IfOk}
 use Rattle.std.specs.HashMap.{get}
@@ -229,3 +230,21 @@ returns-in_ok-left-in-Most-clause-terms c =
 pub returns-in_ok-left-in-Most-clause-keeps : goal.returns-in_ok-left-in-Most-clause-keeps
 returns-in_ok-left-in-Most-clause-keeps c =
     Extends-trans c.closed_two-in-Most.ensures.keeps c.share_form-in-Most.ensures.keeps
+
+pub returns-in_err-left-in-Is-clause-shows : goal.returns-in_err-left-in-Is-clause-shows
+returns-in_err-left-in-Is-clause-shows c = IfOk-from_err c.from_residual.result _ c.from_residual.ensures.0
+
+pub returns-in_err-left-in-Is-clause-terms : goal.returns-in_err-left-in-Is-clause-terms
+returns-in_err-left-in-Is-clause-terms c = IfOk-from_err c.from_residual.result _ c.from_residual.ensures.0
+
+pub returns-in_err-left-in-Less-clause-shows : goal.returns-in_err-left-in-Less-clause-shows
+returns-in_err-left-in-Less-clause-shows c = IfOk-from_err c.from_residual-in_err-left-in-Less.result _ c.from_residual-in_err-left-in-Less.ensures.0
+
+pub returns-in_err-left-in-Less-clause-terms : goal.returns-in_err-left-in-Less-clause-terms
+returns-in_err-left-in-Less-clause-terms c = IfOk-from_err c.from_residual-in_err-left-in-Less.result _ c.from_residual-in_err-left-in-Less.ensures.0
+
+pub returns-in_err-left-in-Most-clause-shows : goal.returns-in_err-left-in-Most-clause-shows
+returns-in_err-left-in-Most-clause-shows c = IfOk-from_err c.from_residual-in_err-left-in-Most.result _ c.from_residual-in_err-left-in-Most.ensures.0
+
+pub returns-in_err-left-in-Most-clause-terms : goal.returns-in_err-left-in-Most-clause-terms
+returns-in_err-left-in-Most-clause-terms c = IfOk-from_err c.from_residual-in_err-left-in-Most.result _ c.from_residual-in_err-left-in-Most.ensures.0

@@ -203,3 +203,6 @@ pub returns-in-Most-clause-parts : goal.returns-in-Most-clause-parts
 returns-in-Most-clause-parts c =
     form_parts_small c.args.bank.now c.args.task.place c.args.task.level (MostView c.in-Most.field-0 c.in-Most.field-1) c.in-Most.ensures.node
     c.in-Most.ensures.shown
+
+pub returns-in_err-push-clause-pushed : goal.returns-in_err-push-clause-pushed
+returns-in_err-push-clause-pushed c = IfOk-from_err c.from_residual.result _ c.from_residual.ensures.0

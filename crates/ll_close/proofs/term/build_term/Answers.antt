@@ -1,3 +1,4 @@
+use Rattle.std.proofs.lemmas.Result.{IfOk-from_err}
 use Rattle.std.proofs.Common.{◌≡◌, ap, sym, subst, ◌∙◌, arith, length, take, ◌-◌, rules}
 use Rattle.ll_bank.specs.declared.TermView.TheVariants.{Var as VarView, Int as IntView}
 use Rattle.ll_bank.specs.Term.{applies_heads}
@@ -67,3 +68,9 @@ returns-in_ok-image-in-App-clause-made c =
     c.in-App.ensures.node in
     let q : c.len.result - length c.in-App.args.now ≡ length c.args.made.now.items - length c.in-App.args.now = search rules in
     c.truncate.ensures.items ∙ ap (λ m. take m c.args.made.now.items) (q ∙ ap (λ m. length c.args.made.now.items - m) (sym n))
+
+pub returns-in_err-image-in-App-clause-shows : goal.returns-in_err-image-in-App-clause-shows
+returns-in_err-image-in-App-clause-shows c = IfOk-from_err c.from_residual.result _ c.from_residual.ensures.0
+
+pub returns-in_err-image-in-App-clause-made : goal.returns-in_err-image-in-App-clause-made
+returns-in_err-image-in-App-clause-made c = IfOk-from_err c.from_residual.result _ c.from_residual.ensures.0

@@ -51,3 +51,6 @@ pub returns-in-App-clause-parts : goal.returns-in-App-clause-parts
 returns-in-App-clause-parts c =
     on_ok_weaker c.push_arguments.result (λ _. term_parts_small c.args.bank.now c.args.task.place c.args.task.level (AppView c.in-App.field-0 c.in-App.args)
     c.in-App.ensures.node c.in-App.ensures.shown) c.push_arguments.ensures
+
+pub returns-in_err-push-clause-pushed : goal.returns-in_err-push-clause-pushed
+returns-in_err-push-clause-pushed c = IfOk-from_err c.from_residual.result _ c.from_residual.ensures.0

@@ -1,3 +1,4 @@
+use Rattle.std.proofs.lemmas.Result.{IfOk-from_err}
 use Rattle.std.proofs.Common.{◌+◌, refl, sym, ap, ◌∙◌}
 use Rattle.ll_bank.specs.Term.{sub}
 use Rattle.ll_bank.specs.Nodes.{term_tree}
@@ -185,3 +186,53 @@ returns-clause-keeps g c =
 pub walk-end-requires-clause-table : goal.walk-end-requires-clause-table
 walk-end-requires-clause-table g c =
     c.requires.table
+
+pub returns-in_err-push-clause-copy : goal.returns-in_err-push-clause-copy
+returns-in_err-push-clause-copy g c = IfOk-from_err c.from_residual.result _ c.from_residual.ensures.0
+
+pub returns-in_err-push-clause-known : goal.returns-in_err-push-clause-known
+returns-in_err-push-clause-known g c = IfOk-from_err c.from_residual.result _ c.from_residual.ensures.0
+
+pub returns-in_err-push-in-Some-argument-clause-copy : goal.returns-in_err-push-in-Some-argument-clause-copy
+returns-in_err-push-in-Some-argument-clause-copy g c =
+    IfOk-from_err c.from_residual-in_err-push-in-Some-argument.result _ c.from_residual-in_err-push-in-Some-argument.ensures.0
+
+pub returns-in_err-push-in-Some-argument-clause-known : goal.returns-in_err-push-in-Some-argument-clause-known
+returns-in_err-push-in-Some-argument-clause-known g c =
+    IfOk-from_err c.from_residual-in_err-push-in-Some-argument.result _ c.from_residual-in_err-push-in-Some-argument.ensures.0
+
+pub returns-in_err-push-in-Some-copy_at-clause-copy : goal.returns-in_err-push-in-Some-copy_at-clause-copy
+returns-in_err-push-in-Some-copy_at-clause-copy g c =
+    IfOk-from_err c.from_residual-in_err-push-in-Some-copy_at.result _ c.from_residual-in_err-push-in-Some-copy_at.ensures.0
+
+pub returns-in_err-push-in-Some-copy_at-clause-known : goal.returns-in_err-push-in-Some-copy_at-clause-known
+returns-in_err-push-in-Some-copy_at-clause-known g c =
+    IfOk-from_err c.from_residual-in_err-push-in-Some-copy_at.result _ c.from_residual-in_err-push-in-Some-copy_at.ensures.0
+
+pub returns-in_err-push-in-None-copy_at-clause-copy : goal.returns-in_err-push-in-None-copy_at-clause-copy
+returns-in_err-push-in-None-copy_at-clause-copy g c =
+    IfOk-from_err c.from_residual-in_err-push-in-None-copy_at.result _ c.from_residual-in_err-push-in-None-copy_at.ensures.0
+
+pub returns-in_err-push-in-None-copy_at-clause-known : goal.returns-in_err-push-in-None-copy_at-clause-known
+returns-in_err-push-in-None-copy_at-clause-known g c =
+    IfOk-from_err c.from_residual-in_err-push-in-None-copy_at.result _ c.from_residual-in_err-push-in-None-copy_at.ensures.0
+
+pub returns-in_err-last-in-None-clause-copy : goal.returns-in_err-last-in-None-clause-copy
+returns-in_err-last-in-None-clause-copy g c = IfOk-from_err c.from_residual-in_err-last-in-None.result _ c.from_residual-in_err-last-in-None.ensures.0
+
+pub returns-in_err-last-in-None-clause-known : goal.returns-in_err-last-in-None-clause-known
+returns-in_err-last-in-None-clause-known g c = IfOk-from_err c.from_residual-in_err-last-in-None.result _ c.from_residual-in_err-last-in-None.ensures.0
+
+pub returns-in_err-remember-in-None-clause-copy : goal.returns-in_err-remember-in-None-clause-copy
+returns-in_err-remember-in-None-clause-copy g c =
+    IfOk-from_err c.from_residual-in_err-remember-in-None.result _ c.from_residual-in_err-remember-in-None.ensures.0
+
+pub returns-in_err-remember-in-None-clause-known : goal.returns-in_err-remember-in-None-clause-known
+returns-in_err-remember-in-None-clause-known g c =
+    IfOk-from_err c.from_residual-in_err-remember-in-None.result _ c.from_residual-in_err-remember-in-None.ensures.0
+
+pub returns-in_err-push-in-None-clause-copy : goal.returns-in_err-push-in-None-clause-copy
+returns-in_err-push-in-None-clause-copy g c = IfOk-from_err c.from_residual-in_err-push-in-None.result _ c.from_residual-in_err-push-in-None.ensures.0
+
+pub returns-in_err-push-in-None-clause-known : goal.returns-in_err-push-in-None-clause-known
+returns-in_err-push-in-None-clause-known g c = IfOk-from_err c.from_residual-in_err-push-in-None.result _ c.from_residual-in_err-push-in-None.ensures.0

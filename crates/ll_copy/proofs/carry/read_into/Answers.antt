@@ -1,3 +1,4 @@
+use Rattle.std.proofs.lemmas.Result.{IfOk-from_err}
 use Rattle.std.proofs.Common.{get_or, refl, ◌+◌}
 use Rattle.ll_bank.specs.declared.At.{At}
 use Rattle.ll_bank.proofs.CallerLemmas.{Extends-refl, Extends-trans}
@@ -34,3 +35,21 @@ returns-in_err-copy-clause-keeps g c = Extends-trans c.loop-place.invariant.keep
 
 pub returns-in_err-push-clause-keeps : goal.returns-in_err-push-clause-keeps
 returns-in_err-push-clause-keeps g c = Extends-trans c.loop-place.invariant.keeps c.carry_one.ensures.keeps
+
+pub returns-in_err-copies-clause-inside : goal.returns-in_err-copies-clause-inside
+returns-in_err-copies-clause-inside g c = IfOk-from_err c.from_residual.result _ c.from_residual.ensures.0
+
+pub returns-in_err-copies-clause-shows : goal.returns-in_err-copies-clause-shows
+returns-in_err-copies-clause-shows g c = IfOk-from_err c.from_residual.result _ c.from_residual.ensures.0
+
+pub returns-in_err-copy-clause-inside : goal.returns-in_err-copy-clause-inside
+returns-in_err-copy-clause-inside g c = IfOk-from_err c.from_residual-in_err-copy.result _ c.from_residual-in_err-copy.ensures.0
+
+pub returns-in_err-copy-clause-shows : goal.returns-in_err-copy-clause-shows
+returns-in_err-copy-clause-shows g c = IfOk-from_err c.from_residual-in_err-copy.result _ c.from_residual-in_err-copy.ensures.0
+
+pub returns-in_err-push-clause-inside : goal.returns-in_err-push-clause-inside
+returns-in_err-push-clause-inside g c = IfOk-from_err c.from_residual-in_err-push.result _ c.from_residual-in_err-push.ensures.0
+
+pub returns-in_err-push-clause-shows : goal.returns-in_err-push-clause-shows
+returns-in_err-push-clause-shows g c = IfOk-from_err c.from_residual-in_err-push.result _ c.from_residual-in_err-push.ensures.0

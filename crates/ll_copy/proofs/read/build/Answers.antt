@@ -1,3 +1,4 @@
+use Rattle.std.proofs.lemmas.Result.{IfOk-from_err}
 use Rattle.std.proofs.Common.{subst, rules}
 use Rattle.ll_copy.specs.Copied.{IsBuilt}
 use Rattle.ll_copy.proofs.Copies.{rest-is}
@@ -7,3 +8,9 @@ pub returns-clause-built : goal.returns-clause-built
 returns-clause-built c =
     subst (λ own. IsBuilt c.args.bank.now c.built.new.bank c.args.frame.at.0 own c.in_ok-copy.copy.0)
     (rest-is c.deref.result.now c.args.made.now.items _ _ (search rules) c.deref.ensures.value) c.in_ok-copy.ensures.built
+
+pub returns-in_err-copy-clause-built : goal.returns-in_err-copy-clause-built
+returns-in_err-copy-clause-built c = IfOk-from_err c.from_residual.result _ c.from_residual.ensures.0
+
+pub returns-in_err-copy-clause-made : goal.returns-in_err-copy-clause-made
+returns-in_err-copy-clause-made c = IfOk-from_err c.from_residual.result _ c.from_residual.ensures.0

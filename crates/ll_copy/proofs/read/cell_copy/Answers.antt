@@ -1,3 +1,4 @@
+use Rattle.std.proofs.lemmas.Result.{IfOk-from_err}
 use Rattle.ll_bank.proofs.CallerLemmas.{Extends-refl}
 use Rattle.ll_copy.proofs.read.cell_copy.Goals as goal
 
@@ -6,3 +7,9 @@ returns-in-None-clause-keeps g c = Extends-refl c.args.bank.now
 
 pub copy_of-requires-clause-at : goal.copy_of-requires-clause-at
 copy_of-requires-clause-at g c = c.requires.to c.in-Some.at c.in-Some.is
+
+pub returns-in_err-copy-in-Some-clause-copy : goal.returns-in_err-copy-in-Some-clause-copy
+returns-in_err-copy-in-Some-clause-copy g c = IfOk-from_err c.from_residual.result _ c.from_residual.ensures.0
+
+pub returns-in_err-copy-in-Some-clause-known : goal.returns-in_err-copy-in-Some-clause-known
+returns-in_err-copy-in-Some-clause-known g c = IfOk-from_err c.from_residual.result _ c.from_residual.ensures.0

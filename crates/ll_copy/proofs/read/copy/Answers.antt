@@ -1,3 +1,4 @@
+use Rattle.std.proofs.lemmas.Result.{IfOk-from_err}
 use Rattle.std.proofs.Common.{◌+◌, nat_eq, refl, sym, ap, ◌∙◌}
 use Rattle.std.specs.HashMap.{get}
 use Rattle.std.specs.Option.{option_copied}
@@ -202,3 +203,53 @@ returns-clause-known g c =
 pub returns-clause-keeps : goal.returns-clause-keeps
 returns-clause-keeps g c =
     c.loop-frame.invariant.keeps
+
+pub returns-in_err-push-clause-copy : goal.returns-in_err-push-clause-copy
+returns-in_err-push-clause-copy g c = IfOk-from_err c.from_residual.result _ c.from_residual.ensures.0
+
+pub returns-in_err-push-clause-known : goal.returns-in_err-push-clause-known
+returns-in_err-push-clause-known g c = IfOk-from_err c.from_residual.result _ c.from_residual.ensures.0
+
+pub returns-in_err-push-in-Some-argument-clause-copy : goal.returns-in_err-push-in-Some-argument-clause-copy
+returns-in_err-push-in-Some-argument-clause-copy g c =
+    IfOk-from_err c.from_residual-in_err-push-in-Some-argument.result _ c.from_residual-in_err-push-in-Some-argument.ensures.0
+
+pub returns-in_err-push-in-Some-argument-clause-known : goal.returns-in_err-push-in-Some-argument-clause-known
+returns-in_err-push-in-Some-argument-clause-known g c =
+    IfOk-from_err c.from_residual-in_err-push-in-Some-argument.result _ c.from_residual-in_err-push-in-Some-argument.ensures.0
+
+pub returns-in_err-push-in-Some-get-clause-copy : goal.returns-in_err-push-in-Some-get-clause-copy
+returns-in_err-push-in-Some-get-clause-copy g c =
+    IfOk-from_err c.from_residual-in_err-push-in-Some-get.result _ c.from_residual-in_err-push-in-Some-get.ensures.0
+
+pub returns-in_err-push-in-Some-get-clause-known : goal.returns-in_err-push-in-Some-get-clause-known
+returns-in_err-push-in-Some-get-clause-known g c =
+    IfOk-from_err c.from_residual-in_err-push-in-Some-get.result _ c.from_residual-in_err-push-in-Some-get.ensures.0
+
+pub returns-in_err-push-in-None-get-clause-copy : goal.returns-in_err-push-in-None-get-clause-copy
+returns-in_err-push-in-None-get-clause-copy g c =
+    IfOk-from_err c.from_residual-in_err-push-in-None-get.result _ c.from_residual-in_err-push-in-None-get.ensures.0
+
+pub returns-in_err-push-in-None-get-clause-known : goal.returns-in_err-push-in-None-get-clause-known
+returns-in_err-push-in-None-get-clause-known g c =
+    IfOk-from_err c.from_residual-in_err-push-in-None-get.result _ c.from_residual-in_err-push-in-None-get.ensures.0
+
+pub returns-in_err-last-in-None-clause-copy : goal.returns-in_err-last-in-None-clause-copy
+returns-in_err-last-in-None-clause-copy g c = IfOk-from_err c.from_residual-in_err-last-in-None.result _ c.from_residual-in_err-last-in-None.ensures.0
+
+pub returns-in_err-last-in-None-clause-known : goal.returns-in_err-last-in-None-clause-known
+returns-in_err-last-in-None-clause-known g c = IfOk-from_err c.from_residual-in_err-last-in-None.result _ c.from_residual-in_err-last-in-None.ensures.0
+
+pub returns-in_err-remember-in-None-clause-copy : goal.returns-in_err-remember-in-None-clause-copy
+returns-in_err-remember-in-None-clause-copy g c =
+    IfOk-from_err c.from_residual-in_err-remember-in-None.result _ c.from_residual-in_err-remember-in-None.ensures.0
+
+pub returns-in_err-remember-in-None-clause-known : goal.returns-in_err-remember-in-None-clause-known
+returns-in_err-remember-in-None-clause-known g c =
+    IfOk-from_err c.from_residual-in_err-remember-in-None.result _ c.from_residual-in_err-remember-in-None.ensures.0
+
+pub returns-in_err-push-in-None-clause-copy : goal.returns-in_err-push-in-None-clause-copy
+returns-in_err-push-in-None-clause-copy g c = IfOk-from_err c.from_residual-in_err-push-in-None.result _ c.from_residual-in_err-push-in-None.ensures.0
+
+pub returns-in_err-push-in-None-clause-known : goal.returns-in_err-push-in-None-clause-known
+returns-in_err-push-in-None-clause-known g c = IfOk-from_err c.from_residual-in_err-push-in-None.result _ c.from_residual-in_err-push-in-None.ensures.0

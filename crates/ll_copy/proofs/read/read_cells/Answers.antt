@@ -1,3 +1,4 @@
+use Rattle.std.proofs.lemmas.Result.{IfOk-from_err}
 use Rattle.std.proofs.Common.{refl, ◌∙◌, ◌+◌, arith}
 use Rattle.ll_bank.proofs.CallerLemmas.{Extends-refl, Extends-trans}
 use Rattle.ll_bindings.proofs.CallerLemmas.{table-extends, place-extends}
@@ -41,3 +42,9 @@ returns-in_err-copy-clause-keeps g c = Extends-trans c.loop-var.invariant.keeps 
 
 pub returns-in_err-push-clause-keeps : goal.returns-in_err-push-clause-keeps
 returns-in_err-push-clause-keeps g c = Extends-trans c.loop-var.invariant.keeps c.cell_copy.ensures.keeps
+
+pub returns-in_err-copy-clause-cells : goal.returns-in_err-copy-clause-cells
+returns-in_err-copy-clause-cells g c = IfOk-from_err c.from_residual.result _ c.from_residual.ensures.0
+
+pub returns-in_err-push-clause-cells : goal.returns-in_err-push-clause-cells
+returns-in_err-push-clause-cells g c = IfOk-from_err c.from_residual-in_err-push.result _ c.from_residual-in_err-push.ensures.0

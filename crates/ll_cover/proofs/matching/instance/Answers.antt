@@ -1,3 +1,4 @@
+use Rattle.std.proofs.lemmas.Result.{IfOk-from_err}
 use Rattle.std.proofs.Common.{rules, ap, ◌∙◌}
 use Rattle.std.specs.Map.{keys_of}
 use Rattle.std.proofs.lemmas.List.{map-append}
@@ -52,3 +53,9 @@ returns c = (
       (no_entries c.loop-place.found.waiting.entries c.in_default.ensures.variant.1),
   λ i. search rules,
 )
+
+pub returns-in_err-meet_all : goal.returns-in_err-meet_all
+returns-in_err-meet_all c = IfOk-from_err c.from_residual.result _ c.from_residual.ensures.0
+
+pub returns-in_err-look : goal.returns-in_err-look
+returns-in_err-look c = IfOk-from_err c.from_residual-in_err-look.result _ c.from_residual-in_err-look.ensures.0

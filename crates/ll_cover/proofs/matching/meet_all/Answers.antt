@@ -1,3 +1,4 @@
+use Rattle.std.proofs.lemmas.Result.{IfOk-from_err}
 use Rattle.std.proofs.Common.{arith}
 use Rattle.std.specs.Ordering.{nat_cmp}
 use Rattle.std.specs.BTreeMap.{get}
@@ -21,3 +22,12 @@ loop-i-preserved c = let m = rw c.if-not-branch.false at c.in_ok-meet.ensures.me
       images = c.in_ok-meet.ensures.images;
       below = λ limit all old. c.in_ok-meet.ensures.below limit (all c.loop-i.i (record { 0 = 0 }) (omega arith)) (c.loop-i.invariant.below limit all old);
     }
+
+pub returns-in_err-meet-clause-met : goal.returns-in_err-meet-clause-met
+returns-in_err-meet-clause-met c = IfOk-from_err c.from_residual.result _ c.from_residual.ensures.0
+
+pub returns-in_err-meet-clause-images : goal.returns-in_err-meet-clause-images
+returns-in_err-meet-clause-images c = IfOk-from_err c.from_residual.result _ c.from_residual.ensures.0
+
+pub returns-in_err-meet-clause-below : goal.returns-in_err-meet-clause-below
+returns-in_err-meet-clause-below c = IfOk-from_err c.from_residual.result _ c.from_residual.ensures.0

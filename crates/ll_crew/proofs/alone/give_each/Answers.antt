@@ -62,3 +62,18 @@ pub returns-then-done-clause-kept : goal.returns-then-done-clause-kept
 returns-then-done-clause-kept g c =
     alone_keeps_on g.O.Outlet.takes g.O.Outlet.breaks g.O.Outlet.welcome g.O.Outlet.faults c.args.out.now c.args.engine.now.problem c.stretches.engine
     c.stretches.out c.stretches.counts c.stretches.invariant c.give_some.new.out c.give_some.ensures.kept
+
+pub returns-in_default-clause-given : goal.returns-in_default-clause-given
+returns-in_default-clause-given g c = _
+
+pub returns-in_default-clause-counts : goal.returns-in_default-clause-counts
+returns-in_default-clause-counts g c = _
+
+pub returns-in-Err-clause-given : goal.returns-in-Err-clause-given
+returns-in-Err-clause-given g c = _
+
+pub returns-in-Err-clause-counts : goal.returns-in-Err-clause-counts
+returns-in-Err-clause-counts g c = _
+
+pub returns-then-done-clause-refused : goal.returns-then-done-clause-refused
+returns-then-done-clause-refused g c = _

@@ -8,3 +8,9 @@ pub returns-clause-refused : goal.returns-clause-refused
 returns-clause-refused g c =
     subst (λ p. OnErr c.give_each-given.result (GivesPrefix g.O.Outlet.takes g.O.Outlet.breaks c.args.out.now (problem_events p) c.give_each-given.new.out))
     (ap (λ (e : Owing). e.problem) c.in-Ok.ensures) c.give_each-given.ensures.refused
+
+pub returns-in_default-clause-given : goal.returns-in_default-clause-given
+returns-in_default-clause-given g c = _
+
+pub returns-in_default-clause-counts : goal.returns-in_default-clause-counts
+returns-in_default-clause-counts g c = _

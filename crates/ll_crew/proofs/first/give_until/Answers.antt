@@ -71,3 +71,21 @@ returns-in-Err-2-clause-refused g c =
     g.E.Outlet.takes g.E.Outlet.breaks g.E.Outlet.faults g.E.Enough.limit g.E.Enough.answers g.met.E.Enough.counts c.args.until.now
     (g.met.E.Enough.limited c.args.until.now.out.now) c.requires.none_yet c.requires.starts c.crew_by.new.out (problem_events c.args.problem.now)
     c.if-until.false c.in-Err-2.ensures.refused
+
+pub returns-in-Ok-clause-refused : goal.returns-in-Ok-clause-refused
+returns-in-Ok-clause-refused g c = _
+
+pub returns-in-Err-clause-counts : goal.returns-in-Err-clause-counts
+returns-in-Err-clause-counts g c = _
+
+pub returns-in-Err-clause-refused : goal.returns-in-Err-clause-refused
+returns-in-Err-clause-refused g c = _
+
+pub returns-in-Err-2-clause-enough : goal.returns-in-Err-2-clause-enough
+returns-in-Err-2-clause-enough g c = _
+
+pub returns-in-Err-2-clause-given : goal.returns-in-Err-2-clause-given
+returns-in-Err-2-clause-given g c = _
+
+pub returns-in-Err-2-clause-counts : goal.returns-in-Err-2-clause-counts
+returns-in-Err-2-clause-counts g c = _

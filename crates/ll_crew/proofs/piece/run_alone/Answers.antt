@@ -86,3 +86,9 @@ stretches-preserved g c =
           (map g.O.Found.Notice.stands_for c.stretches.events.items) (map g.O.Found.Notice.stands_for c.stretch.new.events.items)
           c.args.engine.now c.stretches.engine c.stretch.new.engine i.2 last (omega arith),
     )
+
+pub returns-then-branch-clause-failed : goal.returns-then-branch-clause-failed
+returns-then-branch-clause-failed g c = _
+
+pub returns-then-is_none-clause-failed : goal.returns-then-is_none-clause-failed
+returns-then-is_none-clause-failed g c = _

@@ -90,3 +90,15 @@ returns-clause-leads g c = let i = c.loop-k.invariant in i.0
 
 pub returns-clause-kept : goal.returns-clause-kept
 returns-clause-kept g c = let i = c.loop-k.invariant in i.1
+
+pub returns-in_default-clause-some : goal.returns-in_default-clause-some
+returns-in_default-clause-some g c = _
+
+pub returns-in_default-clause-failed : goal.returns-in_default-clause-failed
+returns-in_default-clause-failed g c = _
+
+pub returns-clause-none : goal.returns-clause-none
+returns-clause-none g c = _
+
+pub returns-clause-failed : goal.returns-clause-failed
+returns-clause-failed g c = _

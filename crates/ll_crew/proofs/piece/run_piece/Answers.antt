@@ -51,3 +51,15 @@ pub returns-in-Partly-clause-some : goal.returns-in-Partly-clause-some
 returns-in-Partly-clause-some g c =
     partly_reports _ _ _ _ _ c.in_ok-inferences.field-0 c.in-Partly.inferences c.in-Partly.back c.args.seat.now c.run_claimed.new.seat
     c.run_batch-ran.new.seat _ _ c.run_batch-ran.result c.in-Partly.is c.in_ok-inferences.ensures.ends c.run_batch-ran.ensures.some
+
+pub returns-in-Whole-clause-none : goal.returns-in-Whole-clause-none
+returns-in-Whole-clause-none g c = _
+
+pub returns-in-Whole-clause-failed : goal.returns-in-Whole-clause-failed
+returns-in-Whole-clause-failed g c = _
+
+pub returns-in-Left-clause-some : goal.returns-in-Left-clause-some
+returns-in-Left-clause-some g c = _
+
+pub returns-in-Left-clause-failed : goal.returns-in-Left-clause-failed
+returns-in-Left-clause-failed g c = _

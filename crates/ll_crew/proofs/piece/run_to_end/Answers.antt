@@ -1,3 +1,4 @@
+use Rattle.std.proofs.lemmas.Result.{IfOk-from_err}
 use Rattle.std.specs.Prelude.{map}
 use Rattle.std.proofs.Common.{ap, ◌∙◌, refl, true, false}
 use Rattle.std.specs.Arc.{arc_value}
@@ -63,3 +64,15 @@ returns-in-Back-clause-failed g c =
     let e = c.run_alone-done.ensures in let o = c.choose.ensures in
     chosen_fails _ c.run_alone-done.result c.choose.result (ending.Partly c.cost-in-Back.result c.in-Back.batch) ending.Left o.yes o.no
     (OnErr-weaker c.run_alone-done.result (λ f. stays_on _ _ c.args.seat.now c.run.new.seat c.run_alone-done.new.seat first.0 f) e.failed)
+
+pub returns-in_err-run-clause-problem : goal.returns-in_err-run-clause-problem
+returns-in_err-run-clause-problem g c = IfOk-from_err c.from_residual.result _ c.from_residual.ensures.0
+
+pub returns-in_err-run-clause-ends : goal.returns-in_err-run-clause-ends
+returns-in_err-run-clause-ends g c = IfOk-from_err c.from_residual.result _ c.from_residual.ensures.0
+
+pub returns-in-Done-clause-failed : goal.returns-in-Done-clause-failed
+returns-in-Done-clause-failed g c = _
+
+pub returns-in-Left-clause-failed : goal.returns-in-Left-clause-failed
+returns-in-Left-clause-failed g c = _

@@ -1,3 +1,4 @@
+use Rattle.std.proofs.lemmas.Result.{IfOk-from_err}
 use Rattle.std.specs.Prelude.{map}
 use Rattle.std.proofs.Common.{sym, subst, arith}
 use Rattle.ll_engine.specs.Splits.{SplitsTo}
@@ -47,3 +48,9 @@ returns-in_err-batch-clause-calm g c = calm_itself c.args.seat.now
 
 pub returns-in_default-clause-calm : goal.returns-in_default-clause-calm
 returns-in_default-clause-calm g c = calm_itself c.args.seat.now
+
+pub returns-in_err-batch-clause-owes : goal.returns-in_err-batch-clause-owes
+returns-in_err-batch-clause-owes g c = IfOk-from_err c.from_residual.result _ c.from_residual.ensures.0
+
+pub returns-in_err-publish-clause-owes : goal.returns-in_err-publish-clause-owes
+returns-in_err-publish-clause-owes g c = IfOk-from_err c.from_residual-in_err-publish.result _ c.from_residual-in_err-publish.ensures.0

@@ -56,3 +56,18 @@ returns-in-Err-clause-leads g c = c.run_piece.ensures.leads
 
 pub returns-in-Err-clause-failed : goal.returns-in-Err-clause-failed
 returns-in-Err-clause-failed g c = c.in-Err.ensures.failed
+
+pub returns-in-Ok-Some-clause-failed : goal.returns-in-Ok-Some-clause-failed
+returns-in-Ok-Some-clause-failed g c = _
+
+pub returns-in-Ok-None-clause-failed : goal.returns-in-Ok-None-clause-failed
+returns-in-Ok-None-clause-failed g c = _
+
+pub returns-in-Err-clause-kept : goal.returns-in-Err-clause-kept
+returns-in-Err-clause-kept g c = _
+
+pub returns-in-Err-clause-done : goal.returns-in-Err-clause-done
+returns-in-Err-clause-done g c = _
+
+pub returns-in-Err-clause-left : goal.returns-in-Err-clause-left
+returns-in-Err-clause-left g c = _

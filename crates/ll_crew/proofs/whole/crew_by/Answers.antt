@@ -12,3 +12,9 @@ search-requires-clause-leads g c κs within =
     (leads_first g.O.Outlet.takes g.O.Outlet.breaks g.O.Outlet.welcome g.O.Outlet.faults c.args.out.now c.args.problem.now
     (opening c.args.problem.now s.0) c.args.workers
     (record { answers = 0; reached = 0; inferences = 0 }) refl refl refl refl refl c.requires.welcome)
+
+pub returns-in-Err-clause-given : goal.returns-in-Err-clause-given
+returns-in-Err-clause-given g c = _
+
+pub returns-in-Err-clause-counts : goal.returns-in-Err-clause-counts
+returns-in-Err-clause-counts g c = _

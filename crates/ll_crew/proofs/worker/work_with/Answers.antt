@@ -109,3 +109,9 @@ returns-in-Ended-clause-done g c = λ e.
     (Stopped g.O.Outlet.takes g.O.Outlet.breaks g.O.Outlet.welcome g.O.Outlet.faults c.args.job.now.start.now.value c.args.job.now.problem.now
     c.claim_one.new.out c.claim_one.new.told) c.claims.told.leads c.args.job.now.problem.now
     c.in_ok-claim_one.field-0 went.Ended c.claims.seat c.claim_one.new.seat c.in-Ended.is c.in_ok-claim_one.ensures.went)
+
+pub returns-in-Ended-clause-failed : goal.returns-in-Ended-clause-failed
+returns-in-Ended-clause-failed g c = _
+
+pub returns-in-Left-clause-failed : goal.returns-in-Left-clause-failed
+returns-in-Left-clause-failed g c = _

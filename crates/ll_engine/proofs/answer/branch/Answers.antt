@@ -1,3 +1,4 @@
+use Rattle.std.proofs.lemmas.Result.{IfOk-from_err}
 use Rattle.std.proofs.Common.{◌≡◌, sym, subst, refl, ◌∙◌, List, map}
 use Rattle.std.specs.Prelude.{All}
 use Rattle.ll_lists.proofs.CallerLemmas.{IfOk-each}
@@ -39,3 +40,9 @@ returns c =
     c.in_ok-terms.ensures.shows
     ∙ sym (trees_read (reading m.bank m.bound) m.bank c.deref.result.now)) c.as_slice.ensures.value)
     c.with_steps.ensures
+
+pub returns-in_err-terms : goal.returns-in_err-terms
+returns-in_err-terms c = IfOk-from_err c.from_residual.result _ c.from_residual.ensures.0
+
+pub returns-in_err-bank : goal.returns-in_err-bank
+returns-in_err-bank c = IfOk-from_err c.from_residual-in_err-bank.result _ c.from_residual-in_err-bank.ensures.0

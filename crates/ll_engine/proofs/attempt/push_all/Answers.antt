@@ -1,3 +1,4 @@
+use Rattle.std.proofs.lemmas.Result.{IfOk-from_err}
 use Rattle.std.proofs.Common.{◌≡◌, ℕ, ◌<◌, ◌≤◌, ◌+◌, ◌-◌, ◌++◌, ◌∷◌, List, length, drop, get_or, ap, sym, ◌∙◌, arith}
 use Rattle.std.proofs.lemmas.List.{drop_more}
 use Rattle.ll_agenda.specs.Frames.{items_at}
@@ -22,3 +23,9 @@ loop-at-preserved c =
       h.list.list ∙ (ap (λ ys. get_or xs (c.loop-at.at - 1) d ∷ ys) i.2 ∙ one_more xs c.loop-at.at d rest c.loop-at-test.true i.0),
       Extends-trans i.3 h.keeps,
     )
+
+pub returns-in_err-top-clause-shows : goal.returns-in_err-top-clause-shows
+returns-in_err-top-clause-shows c = IfOk-from_err c.from_residual.result _ c.from_residual.ensures.0
+
+pub returns-in_err-top-clause-keeps : goal.returns-in_err-top-clause-keeps
+returns-in_err-top-clause-keeps c = IfOk-from_err c.from_residual.result _ c.from_residual.ensures.0

@@ -194,3 +194,9 @@ returns-in_err-push-in-Forall-clause-found c = IfOk-from_err c.from_residual-in_
 
 pub returns-in_err-push-in-Forall-clause-none : goal.returns-in_err-push-in-Forall-clause-none
 returns-in_err-push-in-Forall-clause-none c = IfOk-from_err c.from_residual-in_err-push-in-Forall.result _ c.from_residual-in_err-push-in-Forall.ensures.0
+
+pub returns-in_err-push-clause-found : goal.returns-in_err-push-clause-found
+returns-in_err-push-clause-found c = IfOk-from_err c.from_residual.result _ c.from_residual.ensures.0
+
+pub returns-in_err-push-clause-none : goal.returns-in_err-push-clause-none
+returns-in_err-push-clause-none c = IfOk-from_err c.from_residual.result _ c.from_residual.ensures.0

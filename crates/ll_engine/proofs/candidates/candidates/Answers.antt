@@ -1,3 +1,4 @@
+use Rattle.std.proofs.lemmas.Result.{IfOk-from_err}
 use Rattle.std.proofs.Common.{refl, ap, sym, ◌∙◌, ◌∷◌, [], ◌++◌}
 use Rattle.ll_agenda.specs.Frames.{items_at}
 use Rattle.ll_freeze.specs.Parts.{parts_of}
@@ -27,3 +28,6 @@ returns-in_default-form_at c =
     c.one.ensures
     ∙ sym (matches_one (parts_of c.args.machine.now) c.in-Goal.goal c.form_at.result rest (c.in-Some.ensures.some.list ∙ ap (λ i. i ∷ rest) c.in-Goal.is)
     c.form_at.ensures.shown.tree c.in_default-form_at.not-Atom c.in_default-form_at.not-Plus)
+
+pub returns-in_err-push-in-Plus : goal.returns-in_err-push-in-Plus
+returns-in_err-push-in-Plus c = IfOk-from_err c.from_residual.result _ c.from_residual.ensures.0

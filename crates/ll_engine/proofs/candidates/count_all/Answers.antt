@@ -1,3 +1,4 @@
+use Rattle.std.proofs.lemmas.Result.{IfOk-from_err}
 use Rattle.std.proofs.Common.{◌≡◌, ℕ, ◌+◌, List, ap, ◌∙◌, arith, length}
 use Rattle.ll_bank.specs.Form.{Form}
 use Rattle.ll_bank.specs.Nodes.{form_tree}
@@ -102,3 +103,24 @@ loop-form-preserved c = let d = c.in_default-form_at in record {
       ∙ ap (λ (ws : List ℕ). length ws) (no_ways c.args.bank.now c.form_at.result d.not-Atom d.not-With d.not-Lolli d.not-Imp d.not-Forall))
       (add-zero c.loop-form.count) c.loop-form.invariant.so_far;
 }
+
+pub returns-in_err-push : goal.returns-in_err-push
+returns-in_err-push c = IfOk-from_err c.from_residual.result _ c.from_residual.ensures.0
+
+pub returns-in_err-count-in-Atom : goal.returns-in_err-count-in-Atom
+returns-in_err-count-in-Atom c = IfOk-from_err c.from_residual-in_err-count-in-Atom.result _ c.from_residual-in_err-count-in-Atom.ensures.0
+
+pub returns-in_err-push-in-With : goal.returns-in_err-push-in-With
+returns-in_err-push-in-With c = IfOk-from_err c.from_residual-in_err-push-in-With.result _ c.from_residual-in_err-push-in-With.ensures.0
+
+pub returns-in_err-push-in-With-2 : goal.returns-in_err-push-in-With-2
+returns-in_err-push-in-With-2 c = IfOk-from_err c.from_residual-in_err-push-in-With-2.result _ c.from_residual-in_err-push-in-With-2.ensures.0
+
+pub returns-in_err-push-in-Lolli : goal.returns-in_err-push-in-Lolli
+returns-in_err-push-in-Lolli c = IfOk-from_err c.from_residual-in_err-push-in-Lolli.result _ c.from_residual-in_err-push-in-Lolli.ensures.0
+
+pub returns-in_err-push-in-Imp : goal.returns-in_err-push-in-Imp
+returns-in_err-push-in-Imp c = IfOk-from_err c.from_residual-in_err-push-in-Imp.result _ c.from_residual-in_err-push-in-Imp.ensures.0
+
+pub returns-in_err-push-in-Forall : goal.returns-in_err-push-in-Forall
+returns-in_err-push-in-Forall c = IfOk-from_err c.from_residual-in_err-push-in-Forall.result _ c.from_residual-in_err-push-in-Forall.ensures.0

@@ -1,3 +1,4 @@
+use Rattle.std.proofs.lemmas.Result.{IfOk-from_err}
 use Rattle.std.proofs.Common.{rules}
 use Rattle.ll_agenda.specs.Frames.{items_at}
 use Rattle.ll_freeze.specs.Parts.{parts_of}
@@ -15,3 +16,15 @@ returns-clause-attempts c =
     let m = parts_of c.args.machine.now in let h = c.requires.front in
     right m (parts_of c.go_on-2.new.machine) h.goal c.args.left c.args.right (items_at m.agenda c.args.rest) c.args.candidate c.requires.fits h.list
     h.seen.tree h.seen.parts (search rules) c.in_ok-go_on-2.ensures.goes
+
+pub returns-in_err-go_on-clause-attempts : goal.returns-in_err-go_on-clause-attempts
+returns-in_err-go_on-clause-attempts c = IfOk-from_err c.from_residual.result _ c.from_residual.ensures.0
+
+pub returns-in_err-go_on-clause-later : goal.returns-in_err-go_on-clause-later
+returns-in_err-go_on-clause-later c = IfOk-from_err c.from_residual.result _ c.from_residual.ensures.0
+
+pub returns-in_err-go_on-2-clause-attempts : goal.returns-in_err-go_on-2-clause-attempts
+returns-in_err-go_on-2-clause-attempts c = IfOk-from_err c.from_residual-in_err-go_on-2.result _ c.from_residual-in_err-go_on-2.ensures.0
+
+pub returns-in_err-go_on-2-clause-later : goal.returns-in_err-go_on-2-clause-later
+returns-in_err-go_on-2-clause-later c = IfOk-from_err c.from_residual-in_err-go_on-2.result _ c.from_residual-in_err-go_on-2.ensures.0

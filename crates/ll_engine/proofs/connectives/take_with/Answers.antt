@@ -1,3 +1,4 @@
+use Rattle.std.proofs.lemmas.Result.{IfOk-from_err}
 use Rattle.ll_agenda.specs.Frames.{items_at}
 use Rattle.ll_freeze.specs.Parts.{parts_of}
 use Rattle.ll_freeze.proofs.CallerLemmas.{later_then}
@@ -16,3 +17,9 @@ pub returns-clause-later : goal.returns-clause-later
 returns-clause-later c =
     let m = c.args.machine.now in
     later_then m _ c.go_on.new.machine (later_context m c.save.new.self c.save.ensures.marks) c.in_ok-go_on.ensures.later
+
+pub returns-in_err-saved-clause-later : goal.returns-in_err-saved-clause-later
+returns-in_err-saved-clause-later c = IfOk-from_err c.from_residual.result _ c.from_residual.ensures.0
+
+pub returns-in_err-go_on-clause-later : goal.returns-in_err-go_on-clause-later
+returns-in_err-go_on-clause-later c = IfOk-from_err c.from_residual-in_err-go_on.result _ c.from_residual-in_err-go_on.ensures.0

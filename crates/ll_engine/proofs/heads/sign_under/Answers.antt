@@ -1,3 +1,4 @@
+use Rattle.std.proofs.lemmas.Result.{IfOk-from_err}
 use Rattle.std.proofs.Common.{rules, w64, FitsSigned, length, ap, sym, ◌∙◌}
 use Rattle.std.specs.Prelude.{Some}
 use Rattle.std.proofs.lemmas.Int.{to_z-of_z}
@@ -36,3 +37,6 @@ returns-in-Int c =
     let s = c.args.store.now in let f : FitsSigned w64 c.in-Int.value = search rules in
     ap IntSign (to_z-of_z w64 c.in-Int.value f)
     ∙ sym (sign_int s.bank (table_of s.cells.cells) c.requires.table c.args.at c.walk-end.result c.walk-end.ensures.same c.in-Int.value c.in-Int.ensures.shown)
+
+pub returns-in_err-arity-in-App-Name-default : goal.returns-in_err-arity-in-App-Name-default
+returns-in_err-arity-in-App-Name-default c = IfOk-from_err c.from_residual.result _ c.from_residual.ensures.0

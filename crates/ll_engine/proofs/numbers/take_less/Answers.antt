@@ -1,3 +1,4 @@
+use Rattle.std.proofs.lemmas.Result.{IfOk-from_err}
 use Rattle.std.proofs.Common.{rules, ◌≡◌, true, false, refl, ap, ◌∙◌}
 use Rattle.std.specs.Prelude.{int_lt}
 use Rattle.ll_laws.specs.Problem.{ProblemTree}
@@ -65,3 +66,9 @@ pub returns-clause-later : goal.returns-clause-later
 returns-clause-later c =
     let m = c.args.machine.now in
     later_store m _ refl refl (store_extends m.store c.values_under.new.store c.values_under.ensures.keeps c.values_under.ensures.cells) refl refl refl refl
+
+pub returns-in_err-values-clause-later : goal.returns-in_err-values-clause-later
+returns-in_err-values-clause-later c = IfOk-from_err c.from_residual.result _ c.from_residual.ensures.0
+
+pub returns-in_err-go_on-clause-later : goal.returns-in_err-go_on-clause-later
+returns-in_err-go_on-clause-later c = IfOk-from_err c.from_residual-in_err-go_on.result _ c.from_residual-in_err-go_on.ensures.0

@@ -1,3 +1,4 @@
+use Rattle.std.proofs.lemmas.Result.{IfOk-from_err}
 use Rattle.std.proofs.Common.{refl, ap, ◌∙◌, ◌+◌, ◌≡◌, suc, arith}
 use Rattle.ll_bank.specs.declared.Head.TheVariants.{Eigen}
 use Rattle.ll_bank.specs.Term.{Con}
@@ -35,3 +36,21 @@ returns c =
       };
       later = later_then m mid new (later_store m mid refl refl (store_extends m.store store keeps refl) refl refl refl refl) c.in_ok-go_on.ensures.later;
     }
+
+pub returns-in_err-value-clause-opens : goal.returns-in_err-value-clause-opens
+returns-in_err-value-clause-opens c = IfOk-from_err c.from_residual.result _ c.from_residual.ensures.0
+
+pub returns-in_err-value-clause-later : goal.returns-in_err-value-clause-later
+returns-in_err-value-clause-later c = IfOk-from_err c.from_residual.result _ c.from_residual.ensures.0
+
+pub returns-in_err-goal-clause-opens : goal.returns-in_err-goal-clause-opens
+returns-in_err-goal-clause-opens c = IfOk-from_err c.from_residual-in_err-goal.result _ c.from_residual-in_err-goal.ensures.0
+
+pub returns-in_err-goal-clause-later : goal.returns-in_err-goal-clause-later
+returns-in_err-goal-clause-later c = IfOk-from_err c.from_residual-in_err-goal.result _ c.from_residual-in_err-goal.ensures.0
+
+pub returns-in_err-go_on-clause-opens : goal.returns-in_err-go_on-clause-opens
+returns-in_err-go_on-clause-opens c = IfOk-from_err c.from_residual-in_err-go_on.result _ c.from_residual-in_err-go_on.ensures.0
+
+pub returns-in_err-go_on-clause-later : goal.returns-in_err-go_on-clause-later
+returns-in_err-go_on-clause-later c = IfOk-from_err c.from_residual-in_err-go_on.result _ c.from_residual-in_err-go_on.ensures.0

@@ -1,3 +1,4 @@
+use Rattle.std.proofs.lemmas.Result.{IfOk-from_err}
 use Rattle.std.proofs.Common.{refl, ap}
 use Rattle.ll_bank.specs.Nodes.{term_trees, form_tree}
 use Rattle.ll_laws.specs.Module.{unfold_load}
@@ -30,3 +31,15 @@ returns c =
       later = later_then m mid c.go_on.new.machine (later_store m mid refl refl (store_extends m.store store c.in_ok-goal.ensures.keeps refl) refl refl refl
           refl) c.in_ok-go_on.ensures.later;
     }
+
+pub returns-in_err-goal-clause-loads : goal.returns-in_err-goal-clause-loads
+returns-in_err-goal-clause-loads c = IfOk-from_err c.from_residual.result _ c.from_residual.ensures.0
+
+pub returns-in_err-goal-clause-later : goal.returns-in_err-goal-clause-later
+returns-in_err-goal-clause-later c = IfOk-from_err c.from_residual.result _ c.from_residual.ensures.0
+
+pub returns-in_err-go_on-clause-loads : goal.returns-in_err-go_on-clause-loads
+returns-in_err-go_on-clause-loads c = IfOk-from_err c.from_residual-in_err-go_on.result _ c.from_residual-in_err-go_on.ensures.0
+
+pub returns-in_err-go_on-clause-later : goal.returns-in_err-go_on-clause-later
+returns-in_err-go_on-clause-later c = IfOk-from_err c.from_residual-in_err-go_on.result _ c.from_residual-in_err-go_on.ensures.0

@@ -1,3 +1,4 @@
+use Rattle.std.proofs.lemmas.Result.{IfOk-from_err}
 use Rattle.std.proofs.Common.{rules, subst}
 use Rattle.ll_freeze.specs.Parts.{parts_of}
 use Rattle.ll_engine.specs.Going.{Works}
@@ -44,3 +45,12 @@ loop-item-preserved c =
       going = further (parts_of c.args.machine.now) (parts_of c.loop-item.machine) (parts_of c.work_off.new.machine) c.loop-item.invariant.going w.0;
       later = later_then c.args.machine.now c.loop-item.machine c.work_off.new.machine c.loop-item.invariant.later c.in_ok-work_off.ensures.later;
     }
+
+pub returns-in_err-work_off-clause-settles : goal.returns-in_err-work_off-clause-settles
+returns-in_err-work_off-clause-settles c = IfOk-from_err c.from_residual.result _ c.from_residual.ensures.0
+
+pub returns-in_err-work_off-clause-same : goal.returns-in_err-work_off-clause-same
+returns-in_err-work_off-clause-same c = IfOk-from_err c.from_residual.result _ c.from_residual.ensures.0
+
+pub returns-in_err-work_off-clause-later : goal.returns-in_err-work_off-clause-later
+returns-in_err-work_off-clause-later c = IfOk-from_err c.from_residual.result _ c.from_residual.ensures.0

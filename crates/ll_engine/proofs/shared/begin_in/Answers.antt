@@ -1,3 +1,4 @@
+use Rattle.std.proofs.lemmas.Result.{IfOk-from_err}
 use Rattle.std.proofs.Common.{ap, subst, ◌∙◌}
 use Rattle.ll_laws.specs.Problem.{ProblemTree}
 use Rattle.ll_freeze.specs.Parts.{parts_of, base_of}
@@ -15,3 +16,9 @@ returns-clause-sound c =
     (subst (λ (p : ProblemTree). IsRunning began p (parts_of m)) (ap (λ f. f.problem) c.deref.ensures ∙ c.requires.of) c.in_ok-began.ensures.begins.runs)
     s.good (ap base_of (s.parts ∙ c.mark-base.ensures.parts) ∙ c.requires.thaws.base) in
     record { index = c.requires.index; sound = b.0; marks = b.1.0; based = b.1.1 }
+
+pub returns-in_err-began-clause-sound : goal.returns-in_err-began-clause-sound
+returns-in_err-began-clause-sound c = IfOk-from_err c.from_residual.result _ c.from_residual.ensures.0
+
+pub returns-in_err-began-clause-begins : goal.returns-in_err-began-clause-begins
+returns-in_err-began-clause-begins c = IfOk-from_err c.from_residual.result _ c.from_residual.ensures.0

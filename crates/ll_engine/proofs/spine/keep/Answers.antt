@@ -1,3 +1,4 @@
+use Rattle.std.proofs.lemmas.Result.{IfOk-from_err}
 use Rattle.std.proofs.Common.{rules, sym, subst, ◌∙◌, List}
 use Rattle.std.proofs.lemmas.List.Elements.{All-push, All-weaker}
 use Rattle.ll_freeze.specs.Parts.{parts_of, IsGood, IsBefore}
@@ -45,3 +46,15 @@ returns-clause-floors c =
     let m = c.args.machine.now in let k = made (goal.at.returns-clause-floors c).In_ok-push_back in
     subst (λ (qs : List Kept). KeepsFloors m c.args.points.now.items qs) (sym c.in_ok-push_back.ensures.items)
     (floor_push m c.args.points.now.items k c.mark.ensures.last)
+
+pub returns-in_err-push_back-clause-puts : goal.returns-in_err-push_back-clause-puts
+returns-in_err-push_back-clause-puts c = IfOk-from_err c.from_residual.result _ c.from_residual.ensures.0
+
+pub returns-in_err-push_back-clause-kept : goal.returns-in_err-push_back-clause-kept
+returns-in_err-push_back-clause-kept c = IfOk-from_err c.from_residual.result _ c.from_residual.ensures.0
+
+pub returns-in_err-push_back-clause-marks : goal.returns-in_err-push_back-clause-marks
+returns-in_err-push_back-clause-marks c = IfOk-from_err c.from_residual.result _ c.from_residual.ensures.0
+
+pub returns-in_err-push_back-clause-floors : goal.returns-in_err-push_back-clause-floors
+returns-in_err-push_back-clause-floors c = IfOk-from_err c.from_residual.result _ c.from_residual.ensures.0

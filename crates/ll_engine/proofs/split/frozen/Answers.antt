@@ -45,3 +45,6 @@ returns-then-depth-lt-MOST_SHARED c =
     let d = c.deref-then-depth-lt-MOST_SHARED-2 in let n = c.deref-then-depth-lt-MOST_SHARED.result.now.depth + 1 in
     IfOk-each c.onto.result (λ f. f ≡ sight_of p d.result.now false n) (λ f. f ≡ sight_of p cs false f.depth)
     (λ f e. sight_depth p d.result.now cs n f (d.ensures.value ∙ c.reverse.ensures.items) e) c.onto.ensures
+
+pub returns-then-is_err : goal.returns-then-is_err
+returns-then-is_err c = _

@@ -1,3 +1,4 @@
+use Rattle.std.proofs.lemmas.Result.{IfOk-from_err}
 use Rattle.std.proofs.Common.{ap, sym, subst}
 use Rattle.std.specs.Arc.{arc_value}
 use Rattle.ll_laws.specs.Problem.{ProblemTree}
@@ -15,3 +16,9 @@ with_index-requires c =
 
 pub returns : goal.returns
 returns c = rw c.with_index.ensures c.in_ok-batch.ensures
+
+pub returns-in_err-batch : goal.returns-in_err-batch
+returns-in_err-batch c = IfOk-from_err c.from_residual.result _ c.from_residual.ensures.0
+
+pub returns-in_err-index : goal.returns-in_err-index
+returns-in_err-index c = IfOk-from_err c.from_residual-in_err-index.result _ c.from_residual-in_err-index.ensures.0

@@ -1,3 +1,4 @@
+use Rattle.std.proofs.lemmas.Result.{IfOk-from_err}
 use Rattle.std.proofs.Common.{arith, ap, ◌∙◌, sym, refl, append_assoc, ◌++◌, ◌+◌, replicate, ◌∷◌, [], None}
 use Rattle.std.proofs.lemmas.List.{append-nil}
 use Rattle.ll_store.specs.declared.cells.Cell.{Cell}
@@ -28,3 +29,6 @@ returns-in_err-fresh-clause-bank c = c.fresh.ensures.bank ∙ c.loop.invariant.b
 pub returns-in_err-fresh-clause-marks : goal.returns-in_err-fresh-clause-marks
 returns-in_err-fresh-clause-marks c = store_then (stored c.args.store.now) (stored c.loop.store) (stored c.fresh.new.self) c.loop.invariant.marks
     c.fresh.ensures.marks
+
+pub returns-in_err-fresh-clause-cells : goal.returns-in_err-fresh-clause-cells
+returns-in_err-fresh-clause-cells c = IfOk-from_err c.from_residual.result _ c.from_residual.ensures.0

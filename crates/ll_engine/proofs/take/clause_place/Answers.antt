@@ -6,3 +6,15 @@ pub returns-then-entry-label-clause-some : goal.returns-then-entry-label-clause-
 returns-then-entry-label-clause-some c =
     place_there c.args.context.now.present.entries c.args.label c.in_ok-place.place (resource c.entry-entry.result) c.requires c.entry-entry.ensures
     c.if-entry-label.true
+
+pub returns-then-place-len-clause-inside : goal.returns-then-place-len-clause-inside
+returns-then-place-len-clause-inside c = _
+
+pub returns-then-place-len-clause-some : goal.returns-then-place-len-clause-some
+returns-then-place-len-clause-some c = _
+
+pub returns-clause-inside : goal.returns-clause-inside
+returns-clause-inside c = _
+
+pub returns-clause-some : goal.returns-clause-some
+returns-clause-some c = _

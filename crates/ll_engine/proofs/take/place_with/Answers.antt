@@ -14,3 +14,18 @@ loop-from_front-preserved c =
     passed c.args.context.now.present.entries c.loop-from_front.from_front (c.loop-from_front.from_front + 1) (resource c.entry-entry.result) c.args.label
     (omega arith) c.entry-entry.ensures
     (ne_eqb c.entry-entry.result.label c.args.label c.if-entry-label.false) ∙ c.loop-from_front.invariant
+
+pub returns-in-Some-clause-none : goal.returns-in-Some-clause-none
+returns-in-Some-clause-none c = _
+
+pub returns-in-Some-loaded_place-clause-none : goal.returns-in-Some-loaded_place-clause-none
+returns-in-Some-loaded_place-clause-none c = _
+
+pub returns-then-entry-label-clause-none : goal.returns-then-entry-label-clause-none
+returns-then-entry-label-clause-none c = _
+
+pub returns-clause-inside : goal.returns-clause-inside
+returns-clause-inside c = _
+
+pub returns-clause-some : goal.returns-clause-some
+returns-clause-some c = _

@@ -1,3 +1,4 @@
+use Rattle.std.proofs.lemmas.Result.{IfOk-from_err}
 use Rattle.ll_bank.specs.Nodes.{term_tree}
 use Rattle.ll_store.specs.Tables.{table_of}
 use Rattle.ll_engine.proofs.inferences.UnifyLemmas.{unifies}
@@ -8,3 +9,6 @@ returns-clause-found c =
     let s = c.args.store.now in
     unifies s.bank s.bank (table_of s.cells.cells) (table_of c.unify.new.store.cells.cells) (term_tree s.bank c.args.left.0) (term_tree s.bank c.args.right.0)
     c.in_ok-answer.answer c.in_ok-answer.ensures.solved
+
+pub returns-in_err-answer-clause-found : goal.returns-in_err-answer-clause-found
+returns-in_err-answer-clause-found c = IfOk-from_err c.from_residual.result _ c.from_residual.ensures.0

@@ -1,3 +1,4 @@
+use Rattle.std.proofs.lemmas.Result.{IfOk-from_err}
 use Rattle.std.proofs.Common.{sym, subst, ◌∙◌, arith}
 use Rattle.std.proofs.lemmas.Result.{IfOk-weaker}
 use Rattle.ll_bank.specs.Nodes.{term_tree, term_trees}
@@ -161,3 +162,17 @@ returns-in-Var-term_at-3-clause-fresh g c =
     (subst (Meets c.args.bank.now (g.T.Bindings.table c.args.table.now) (g.T.Bindings.table c.bind_right-in-Var-term_at-3.new.table)
     (term_tree c.args.bank.now c.args.left.0) (term_tree c.args.bank.now c.args.right.0)) e m) (l e))
     (returns-in-Var-term_at-3-clause-meets g c) c.bind_right-in-Var-term_at-3.ensures.other
+
+pub returns-in_err-set-in-Var-term_at-clause-meets : goal.returns-in_err-set-in-Var-term_at-clause-meets
+returns-in_err-set-in-Var-term_at-clause-meets g c = IfOk-from_err c.from_residual.result _ c.from_residual.ensures.0
+
+pub returns-in_err-set-in-Var-term_at-clause-fresh : goal.returns-in_err-set-in-Var-term_at-clause-fresh
+returns-in_err-set-in-Var-term_at-clause-fresh g c = IfOk-from_err c.from_residual.result _ c.from_residual.ensures.0
+
+pub returns-in_err-set-in-Var-term_at-2-clause-meets : goal.returns-in_err-set-in-Var-term_at-2-clause-meets
+returns-in_err-set-in-Var-term_at-2-clause-meets g c =
+    IfOk-from_err c.from_residual-in_err-set-in-Var-term_at-2.result _ c.from_residual-in_err-set-in-Var-term_at-2.ensures.0
+
+pub returns-in_err-set-in-Var-term_at-2-clause-fresh : goal.returns-in_err-set-in-Var-term_at-2-clause-fresh
+returns-in_err-set-in-Var-term_at-2-clause-fresh g c =
+    IfOk-from_err c.from_residual-in_err-set-in-Var-term_at-2.result _ c.from_residual-in_err-set-in-Var-term_at-2.ensures.0

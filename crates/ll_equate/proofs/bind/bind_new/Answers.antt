@@ -1,3 +1,4 @@
+use Rattle.std.proofs.lemmas.Result.{IfOk-from_err}
 use Rattle.std.proofs.Common.{[], true, arith}
 use Rattle.ll_equate.proofs.Binding.{right-below, meets-right}
 use Rattle.ll_equate.proofs.FreshLemmas.{binds-fresh, leaves-var}
@@ -22,3 +23,9 @@ returns-clause-fresh g c =
     leaves-var c.args.bank.now (g.T.Bindings.table c.args.table.now) (g.T.Bindings.table c.set.new.self) c.args.left c.args.right c.args.fresh.now _ c.args.var
     c.requires.table c.requires.meet.right_end c.requires.new.shown
     (returns-clause-meets g c) c.meet.ensures
+
+pub returns-in_err-set-clause-meets : goal.returns-in_err-set-clause-meets
+returns-in_err-set-clause-meets g c = IfOk-from_err c.from_residual.result _ c.from_residual.ensures.0
+
+pub returns-in_err-set-clause-fresh : goal.returns-in_err-set-clause-fresh
+returns-in_err-set-clause-fresh g c = IfOk-from_err c.from_residual.result _ c.from_residual.ensures.0

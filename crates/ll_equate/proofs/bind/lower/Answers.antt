@@ -1,3 +1,4 @@
+use Rattle.std.proofs.lemmas.Result.{IfOk-from_err}
 use Rattle.std.proofs.Common.{◌<◌, ℕ, add-one, ◌∙◌, List, length, refl, ap, sym, subst, get_or, take}
 use Rattle.std.proofs.Math.Seq.{take-suc}
 use Rattle.std.proofs.lemmas.List.{take_all}
@@ -50,3 +51,6 @@ returns-clause-falls g c =
 
 pub returns-clause-grows : goal.returns-clause-grows
 returns-clause-grows g c = c.loop-var.invariant.grows
+
+pub returns-in_err-lower_one-clause-falls : goal.returns-in_err-lower_one-clause-falls
+returns-in_err-lower_one-clause-falls g c = IfOk-from_err c.from_residual.result _ c.from_residual.ensures.0

@@ -10,3 +10,12 @@ returns-clause-meeting g c =
 
 pub returns-clause-no_var : goal.returns-clause-no_var
 returns-clause-no_var g c = IfSome_then c.fresh_at.result c.fresh_at.ensures (λ x n. c.is_variable.ensures.no_var c.if-is_variable.false)
+
+pub returns-then-is_variable-clause-new : goal.returns-then-is_variable-clause-new
+returns-then-is_variable-clause-new g c = _
+
+pub returns-then-is_variable-clause-meeting : goal.returns-then-is_variable-clause-meeting
+returns-then-is_variable-clause-meeting g c = _
+
+pub returns-then-is_variable-clause-no_var : goal.returns-then-is_variable-clause-no_var
+returns-then-is_variable-clause-no_var g c = _

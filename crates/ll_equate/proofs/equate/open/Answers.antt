@@ -1,3 +1,4 @@
+use Rattle.std.proofs.lemmas.Result.{IfOk-from_err}
 use Rattle.std.proofs.Common.{refl, [], ◌∷◌, ◌++◌, ◌≡◌, ◌∙◌, List, ap, subst}
 use Rattle.std.proofs.lemmas.Result.{IfOk-weaker}
 use Rattle.ll_equate.specs.declared.meet.Pair.{Pair}
@@ -32,3 +33,12 @@ returns-clause-fresh g c =
     (λ good h q. subst (λ (ps : List Pair). LeavesFresh c.args.bank.now (g.T.Bindings.table c.args.table.now) (g.T.Bindings.table c.settle.new.table)
     c.args.work.now.fresh c.settle.new.work.fresh (lefts c.args.bank.now ps) []) e (h q))
     c.settle.ensures.fresh
+
+pub returns-in_err-push-clause-classes : goal.returns-in_err-push-clause-classes
+returns-in_err-push-clause-classes g c = IfOk-from_err c.from_residual.result _ c.from_residual.ensures.0
+
+pub returns-in_err-push-clause-settles : goal.returns-in_err-push-clause-settles
+returns-in_err-push-clause-settles g c = IfOk-from_err c.from_residual.result _ c.from_residual.ensures.0
+
+pub returns-in_err-push-clause-fresh : goal.returns-in_err-push-clause-fresh
+returns-in_err-push-clause-fresh g c = IfOk-from_err c.from_residual.result _ c.from_residual.ensures.0

@@ -1,3 +1,4 @@
+use Rattle.std.proofs.lemmas.Result.{IfOk-from_err}
 use Rattle.std.proofs.Common.{subst}
 use Rattle.ll_bank.specs.Nodes.{term_tree}
 use Rattle.ll_bindings.specs.Bindings.{Meets}
@@ -121,3 +122,21 @@ returns-then-not-branch-clause-classes g c = λ e. cc
 
 pub returns-then-not-branch-clause-fresh : goal.returns-then-not-branch-clause-fresh
 returns-then-not-branch-clause-fresh g c = λ e. cc
+
+pub returns-in_err-next_difference-clause-classes : goal.returns-in_err-next_difference-clause-classes
+returns-in_err-next_difference-clause-classes g c = IfOk-from_err c.from_residual.result _ c.from_residual.ensures.0
+
+pub returns-in_err-next_difference-clause-settles : goal.returns-in_err-next_difference-clause-settles
+returns-in_err-next_difference-clause-settles g c = IfOk-from_err c.from_residual.result _ c.from_residual.ensures.0
+
+pub returns-in_err-next_difference-clause-fresh : goal.returns-in_err-next_difference-clause-fresh
+returns-in_err-next_difference-clause-fresh g c = IfOk-from_err c.from_residual.result _ c.from_residual.ensures.0
+
+pub returns-in_err-bind-in-Meet-clause-classes : goal.returns-in_err-bind-in-Meet-clause-classes
+returns-in_err-bind-in-Meet-clause-classes g c = IfOk-from_err c.from_residual-in_err-bind-in-Meet.result _ c.from_residual-in_err-bind-in-Meet.ensures.0
+
+pub returns-in_err-bind-in-Meet-clause-settles : goal.returns-in_err-bind-in-Meet-clause-settles
+returns-in_err-bind-in-Meet-clause-settles g c = IfOk-from_err c.from_residual-in_err-bind-in-Meet.result _ c.from_residual-in_err-bind-in-Meet.ensures.0
+
+pub returns-in_err-bind-in-Meet-clause-fresh : goal.returns-in_err-bind-in-Meet-clause-fresh
+returns-in_err-bind-in-Meet-clause-fresh g c = IfOk-from_err c.from_residual-in_err-bind-in-Meet.result _ c.from_residual-in_err-bind-in-Meet.ensures.0

@@ -1,3 +1,4 @@
+use Rattle.std.proofs.lemmas.Result.{IfOk-from_err}
 use Rattle.std.proofs.Common.{◌≡◌, ℕ, add-one, sym, ◌<◌, ◌≤◌, ◌+◌, ◌∙◌, suc, List, [], ◌∷◌, length, drop, get_or, refl, subst, arith}
 use Rattle.std.proofs.lemmas.List.{get_or_default}
 use Rattle.ll_bank.specs.declared.At.{At}
@@ -150,3 +151,9 @@ returns-in_err-make_equal-clause-grows g c =
 pub returns-then-not-branch-clause-grows : goal.returns-then-not-branch-clause-grows
 returns-then-not-branch-clause-grows g c =
     g.met.T.Bindings.again c.args.table.now c.loop-index.table c.make_equal.new.table c.loop-index.invariant.grows c.make_equal.ensures.grows
+
+pub returns-in_err-make_equal-clause-cells : goal.returns-in_err-make_equal-clause-cells
+returns-in_err-make_equal-clause-cells g c = IfOk-from_err c.from_residual.result _ c.from_residual.ensures.0
+
+pub returns-in_err-make_equal-clause-solved : goal.returns-in_err-make_equal-clause-solved
+returns-in_err-make_equal-clause-solved g c = IfOk-from_err c.from_residual.result _ c.from_residual.ensures.0

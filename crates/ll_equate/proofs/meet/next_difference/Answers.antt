@@ -1,3 +1,4 @@
+use Rattle.std.proofs.lemmas.Result.{IfOk-from_err}
 use Rattle.std.proofs.Common.{◌+◌, ◌++◌, ◌∷◌, [], arith, refl, sym, ◌∙◌, ap}
 use Rattle.std.specs.Prelude.{map}
 use Rattle.ll_bank.specs.Term.{sub}
@@ -262,3 +263,23 @@ argument-requires g c = (on_top g (goal.at.argument-requires g c).In-Some).pair.
 
 pub argument-requires-in-Some-argument : goal.argument-requires-in-Some-argument
 argument-requires-in-Some-argument g c = (on_top g (goal.at.argument-requires-in-Some-argument g c).In-Some).pair.right_place.inside
+
+pub returns-in_err-join-in-None-clause-classes : goal.returns-in_err-join-in-None-clause-classes
+returns-in_err-join-in-None-clause-classes g c = IfOk-from_err c.from_residual.result _ c.from_residual.ensures.0
+
+pub returns-in_err-join-in-None-clause-difference : goal.returns-in_err-join-in-None-clause-difference
+returns-in_err-join-in-None-clause-difference g c = IfOk-from_err c.from_residual.result _ c.from_residual.ensures.0
+
+pub returns-in_err-push-in-Some-argument-2-clause-classes : goal.returns-in_err-push-in-Some-argument-2-clause-classes
+returns-in_err-push-in-Some-argument-2-clause-classes g c =
+    IfOk-from_err c.from_residual-in_err-push-in-Some-argument-2.result _ c.from_residual-in_err-push-in-Some-argument-2.ensures.0
+
+pub returns-in_err-push-in-Some-argument-2-clause-difference : goal.returns-in_err-push-in-Some-argument-2-clause-difference
+returns-in_err-push-in-Some-argument-2-clause-difference g c =
+    IfOk-from_err c.from_residual-in_err-push-in-Some-argument-2.result _ c.from_residual-in_err-push-in-Some-argument-2.ensures.0
+
+pub returns-in_err-push-in-Open-clause-classes : goal.returns-in_err-push-in-Open-clause-classes
+returns-in_err-push-in-Open-clause-classes g c = IfOk-from_err c.from_residual-in_err-push-in-Open.result _ c.from_residual-in_err-push-in-Open.ensures.0
+
+pub returns-in_err-push-in-Open-clause-difference : goal.returns-in_err-push-in-Open-clause-difference
+returns-in_err-push-in-Open-clause-difference g c = IfOk-from_err c.from_residual-in_err-push-in-Open.result _ c.from_residual-in_err-push-in-Open.ensures.0

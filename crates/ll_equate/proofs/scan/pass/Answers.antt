@@ -1,3 +1,4 @@
+use Rattle.std.proofs.lemmas.Result.{IfOk-from_err}
 use Rattle.std.proofs.Common.{◌≡◌, ℕ, ◌<◌, ◌-◌, ◌+◌, ◌++◌, ◌∷◌, [], length, arith, sym, ap, ◌∙◌, refl, subst}
 use Rattle.std.specs.Prelude.{slice_index_or}
 use Rattle.ll_bank.specs.Term.{sub}
@@ -154,3 +155,21 @@ loop-next-smaller-else-not-branch g c = falls_by_one c.loop-next.next _ c.loop-n
 
 pub loop-next-smaller : goal.loop-next-smaller
 loop-next-smaller g c = falls_by_one c.loop-next.next _ c.loop-next-test.true
+
+pub returns-in_err-push-clause-passed : goal.returns-in_err-push-clause-passed
+returns-in_err-push-clause-passed g c = IfOk-from_err c.from_residual.result _ c.from_residual.ensures.0
+
+pub returns-in_err-push-clause-less : goal.returns-in_err-push-clause-less
+returns-in_err-push-clause-less g c = IfOk-from_err c.from_residual.result _ c.from_residual.ensures.0
+
+pub returns-in_err-push-2-clause-passed : goal.returns-in_err-push-2-clause-passed
+returns-in_err-push-2-clause-passed g c = IfOk-from_err c.from_residual-in_err-push-2.result _ c.from_residual-in_err-push-2.ensures.0
+
+pub returns-in_err-push-2-clause-less : goal.returns-in_err-push-2-clause-less
+returns-in_err-push-2-clause-less g c = IfOk-from_err c.from_residual-in_err-push-2.result _ c.from_residual-in_err-push-2.ensures.0
+
+pub returns-in_err-done-clause-passed : goal.returns-in_err-done-clause-passed
+returns-in_err-done-clause-passed g c = IfOk-from_err c.from_residual-in_err-done.result _ c.from_residual-in_err-done.ensures.0
+
+pub returns-in_err-done-clause-less : goal.returns-in_err-done-clause-less
+returns-in_err-done-clause-less g c = IfOk-from_err c.from_residual-in_err-done.result _ c.from_residual-in_err-done.ensures.0

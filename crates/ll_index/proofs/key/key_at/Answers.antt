@@ -1,3 +1,4 @@
+use Rattle.std.proofs.lemmas.Result.{IfOk-from_err}
 use Rattle.std.proofs.Common.{ap, sym, ◌∙◌, length}
 use Rattle.std.specs.Prelude.{Some}
 use Rattle.ll_bank.specs.Nodes.{term_tree, term_trees}
@@ -28,3 +29,10 @@ returns-in-App-Bound-default c =
     c.in-App-Bound-default.ensures.shown.0
     ∙ ap (λ h. named_key (Some h) (length c.in-App-Bound-default.field-1.now)
     (sign_of_first c.args.by_sign (term_trees c.args.bank.now c.in-App-Bound-default.field-1.now))) c.in-App-Bound-default.field-0-is)
+
+pub returns-in_err-arity-in-App-Name-default : goal.returns-in_err-arity-in-App-Name-default
+returns-in_err-arity-in-App-Name-default c = IfOk-from_err c.from_residual.result _ c.from_residual.ensures.0
+
+pub returns-in_err-first-in-App-Name-default : goal.returns-in_err-first-in-App-Name-default
+returns-in_err-first-in-App-Name-default c =
+    IfOk-from_err c.from_residual-in_err-first-in-App-Name-default.result _ c.from_residual-in_err-first-in-App-Name-default.ensures.0

@@ -47,3 +47,15 @@ returns-in-None-clause-kept g c =
     c.args.problem.now c.args.out.now c.args.told.now) not c.requires.left c.requires.failed in
     stopped_kept g.O.Outlet.takes g.O.Outlet.breaks g.O.Outlet.welcome g.O.Outlet.faults c.args.start.now.value
     c.args.problem.now c.args.out.now c.args.told.now c.requires.leads s
+
+pub returns-in-Some-clause-given : goal.returns-in-Some-clause-given
+returns-in-Some-clause-given g c = _
+
+pub returns-in-Some-clause-counts : goal.returns-in-Some-clause-counts
+returns-in-Some-clause-counts g c = _
+
+pub returns-in-None-clause-given : goal.returns-in-None-clause-given
+returns-in-None-clause-given g c = _
+
+pub returns-in-None-clause-counts : goal.returns-in-None-clause-counts
+returns-in-None-clause-counts g c = _

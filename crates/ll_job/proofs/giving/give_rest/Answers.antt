@@ -21,3 +21,12 @@ pub returns-clause-refused : goal.returns-clause-refused
 returns-clause-refused g c =
     refused_whole g.O.Outlet.takes g.O.Outlet.breaks g.O.Outlet.welcome g.O.Outlet.faults c.args.start.now.value c.args.problem.now c.args.out.now c.args.counts
     c.args.pool c.requires.done.0 c.requires.done.1 c.requires.leads c.drain.new.out c.in-Err.ensures.refused
+
+pub returns-in-Ok-clause-refused : goal.returns-in-Ok-clause-refused
+returns-in-Ok-clause-refused g c = _
+
+pub returns-clause-given : goal.returns-clause-given
+returns-clause-given g c = _
+
+pub returns-clause-counts : goal.returns-clause-counts
+returns-clause-counts g c = _

@@ -1,3 +1,4 @@
+use Rattle.std.proofs.lemmas.Result.{IfOk-from_err}
 use Rattle.std.proofs.Common.{ap, length}
 use Rattle.std.specs.Arc.{arc_value}
 use Rattle.std.proofs.lemmas.Result.{IfOk-weaker}
@@ -28,3 +29,12 @@ returns-clause-seen g c =
     IfOk-weaker c.crew_from.result _ _
     (λ made crew. let works = crew_works c.args.problem.now root.0 (arc_value c.in_ok-root.root) c.args.workers made.0 made.1 made.2.items root.1 crew in
     (root.0, works.2)) c.crew_from.ensures
+
+pub returns-in_err-root-clause-first : goal.returns-in_err-root-clause-first
+returns-in_err-root-clause-first g c = IfOk-from_err c.from_residual.result _ c.from_residual.ensures.0
+
+pub returns-in_err-root-clause-others : goal.returns-in_err-root-clause-others
+returns-in_err-root-clause-others g c = IfOk-from_err c.from_residual.result _ c.from_residual.ensures.0
+
+pub returns-in_err-root-clause-seen : goal.returns-in_err-root-clause-seen
+returns-in_err-root-clause-seen g c = IfOk-from_err c.from_residual.result _ c.from_residual.ensures.0

@@ -16,3 +16,6 @@ returns-in_err-choice-clause-back g c = IfOk-from_err c.from_residual.result _ c
 
 pub returns-in_err-choice-clause-back_only : goal.returns-in_err-choice-clause-back_only
 returns-in_err-choice-clause-back_only g c = IfOk-from_err c.from_residual.result _ c.from_residual.ensures.0
+
+pub returns-in-Apart-clause-rest : goal.returns-in-Apart-clause-rest
+returns-in-Apart-clause-rest g c = _

@@ -12,3 +12,9 @@ returns-clause-turn g c = (publish_answer c.publish.result, c.publish.ensures.tu
 
 pub returns-in-Ok-clause-rest : goal.returns-in-Ok-clause-rest
 returns-in-Ok-clause-rest g c = λ e. c.in-Ok.ensures.owes
+
+pub returns-clause-rest : goal.returns-clause-rest
+returns-clause-rest g c = _
+
+pub returns-clause-full : goal.returns-clause-full
+returns-clause-full g c = _

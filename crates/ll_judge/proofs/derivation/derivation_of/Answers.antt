@@ -3,3 +3,27 @@ use Rattle.ll_judge.proofs.derivation.derivation_of.Goals as goal
 
 pub returns-in-Err-clause-refused : goal.returns-in-Err-clause-refused
 returns-in-Err-clause-refused c = derivation-refused c.args.text.now c.in-Err.fault _ c.refusal.ensures c.in-Err.ensures.err
+
+pub returns-then-len-text-clause-read : goal.returns-then-len-text-clause-read
+returns-then-len-text-clause-read c = _
+
+pub returns-then-len-text-clause-names : goal.returns-then-len-text-clause-names
+returns-then-len-text-clause-names c = _
+
+pub returns-then-len-text-clause-grows : goal.returns-then-len-text-clause-grows
+returns-then-len-text-clause-grows c = _
+
+pub returns-then-len-text-clause-refused : goal.returns-then-len-text-clause-refused
+returns-then-len-text-clause-refused c = _
+
+pub returns-in-Ok-clause-refused : goal.returns-in-Ok-clause-refused
+returns-in-Ok-clause-refused c = _
+
+pub returns-in-Err-clause-read : goal.returns-in-Err-clause-read
+returns-in-Err-clause-read c = _
+
+pub returns-in-Err-clause-names : goal.returns-in-Err-clause-names
+returns-in-Err-clause-names c = _
+
+pub returns-in-Err-clause-grows : goal.returns-in-Err-clause-grows
+returns-in-Err-clause-grows c = _

@@ -1,3 +1,4 @@
+use Rattle.std.proofs.lemmas.Result.{IfOk-from_err}
 use Rattle.std.proofs.Common.{arith}
 use Rattle.ll_lists.proofs.CallerLemmas.{OnErr-always}
 use Rattle.ll_judge.proofs.PartsLemmas.{one-written, part-cut}
@@ -14,3 +15,12 @@ loop-part-preserved g c = record {
       (rw c.as_bytes.ensures.value at c.in_ok-write_all.ensures.appends);
   faults = let h = c.loop-part.invariant.faults in let k = c.in_ok-write_all.ensures.faults_kept in omega arith;
 }
+
+pub returns-in_err-write_all-clause-line : goal.returns-in_err-write_all-clause-line
+returns-in_err-write_all-clause-line g c = IfOk-from_err c.from_residual.result _ c.from_residual.ensures.0
+
+pub returns-clause-failed : goal.returns-clause-failed
+returns-clause-failed g c = _
+
+pub returns-clause-prefix : goal.returns-clause-prefix
+returns-clause-prefix g c = _

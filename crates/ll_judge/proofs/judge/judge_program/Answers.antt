@@ -7,3 +7,9 @@ returns-in-Err-clause-err c = not-lexed Program c.args.text.now c.in-Err.fault c
 
 pub returns-clause-err : goal.returns-clause-err
 returns-clause-err c = program-unread _ c.args.text.now c.in-Ok.list c.program.result c.in-Ok.ensures.ok.0 c.in-Ok.ensures.ok.1 c.program.ensures.read
+
+pub returns-in-Err-clause-ok : goal.returns-in-Err-clause-ok
+returns-in-Err-clause-ok c = _
+
+pub returns-in-Err-clause-whole : goal.returns-in-Err-clause-whole
+returns-in-Err-clause-whole c = _

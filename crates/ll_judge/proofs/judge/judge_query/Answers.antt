@@ -7,3 +7,9 @@ returns-in-Err-clause-err c = not-lexed Query c.args.text.now c.in-Err.fault c.i
 
 pub returns-clause-err : goal.returns-clause-err
 returns-clause-err c = query-unread _ c.args.text.now c.in-Ok.list c.query.result c.in-Ok.ensures.ok.0 c.in-Ok.ensures.ok.1 c.query.ensures.read
+
+pub returns-in-Err-clause-ok : goal.returns-in-Err-clause-ok
+returns-in-Err-clause-ok c = _
+
+pub returns-in-Err-clause-whole : goal.returns-in-Err-clause-whole
+returns-in-Err-clause-whole c = _

@@ -1,3 +1,4 @@
+use Rattle.std.proofs.lemmas.Result.{IfOk-from_err}
 use Rattle.std.proofs.lemmas.Result.{err_from_is_err_and}
 use Rattle.ll_judge.proofs.PrepareLemmas.{query-unread, query-asked}
 use Rattle.ll_judge.proofs.preparing.ask_text.Goals as goal
@@ -9,3 +10,6 @@ returns-in_err-query-clause-cause c =
 
 pub returns-clause-cause : goal.returns-clause-cause
 returns-clause-cause c = query-asked c.args.loaded c.args.text.now _ c.ask.result c.in_ok-query.ensures.ok c.ask.ensures.fault
+
+pub returns-in_err-query-clause-asks : goal.returns-in_err-query-clause-asks
+returns-in_err-query-clause-asks c = IfOk-from_err c.from_residual.result _ c.from_residual.ensures.0

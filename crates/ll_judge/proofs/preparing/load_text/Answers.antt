@@ -1,3 +1,4 @@
+use Rattle.std.proofs.lemmas.Result.{IfOk-from_err}
 use Rattle.std.proofs.lemmas.Result.{err_from_is_err_and}
 use Rattle.ll_judge.proofs.PrepareLemmas.{program-unread, program-loaded}
 use Rattle.ll_judge.proofs.preparing.load_text.Goals as goal
@@ -9,3 +10,6 @@ returns-in_err-program-clause-cause c =
 
 pub returns-clause-cause : goal.returns-clause-cause
 returns-clause-cause c = program-loaded c.args.text.now _ c.load.result c.in_ok-program.ensures.ok c.load.ensures.cause
+
+pub returns-in_err-program-clause-part : goal.returns-in_err-program-clause-part
+returns-in_err-program-clause-part c = IfOk-from_err c.from_residual.result _ c.from_residual.ensures.0

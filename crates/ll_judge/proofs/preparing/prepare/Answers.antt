@@ -1,3 +1,4 @@
+use Rattle.std.proofs.lemmas.Result.{IfOk-from_err}
 use Rattle.std.proofs.lemmas.Result.{err_from_is_err_and}
 use Rattle.ll_edge.proofs.CallerLemmas.{Rose-later}
 use Rattle.ll_words.specs.Words.{shown_words}
@@ -21,3 +22,9 @@ returns-clause-prepares g c =
     prepared _ _ _ (shown_words c.args.run.now) c.in_ok-program.program.items c.in_ok-query.query.items c.in_ok-program.ensures.read
     (rw c.in_ok-program.ensures.same_texts at c.in_ok-query.ensures.read) _
     (rw (c.deref.ensures.value, c.deref-2.ensures.value) at c.problem_of.ensures.judges)
+
+pub returns-in_err-program-clause-valid : goal.returns-in_err-program-clause-valid
+returns-in_err-program-clause-valid g c = IfOk-from_err c.from_residual.result _ c.from_residual.ensures.0
+
+pub returns-in_err-query-clause-valid : goal.returns-in_err-query-clause-valid
+returns-in_err-query-clause-valid g c = IfOk-from_err c.from_residual-in_err-query.result _ c.from_residual-in_err-query.ensures.0

@@ -14,3 +14,9 @@ returns-in-Ok-ask_text-clause-judges c = (c.in-Ok-ask_text.ensures.asks c.args.p
 
 pub returns-in-Ok-ask_text-clause-valid : goal.returns-in-Ok-ask_text-clause-valid
 returns-in-Ok-ask_text-clause-valid c = (c.in-Ok-ask_text.ensures.asks c.args.program.now c.in-Ok.ensures.part).1
+
+pub returns-in-Err-clause-valid : goal.returns-in-Err-clause-valid
+returns-in-Err-clause-valid c = _
+
+pub returns-in-Err-ask_text-clause-valid : goal.returns-in-Err-ask_text-clause-valid
+returns-in-Err-ask_text-clause-valid c = _

@@ -1,3 +1,4 @@
+use Rattle.std.proofs.lemmas.Result.{IfOk-from_err}
 use Rattle.std.proofs.lemmas.Result.{err_from_is_err_and}
 use Rattle.ll_judge.proofs.PrepareLemmas.{source-refused, source-unprinted}
 use Rattle.ll_judge.proofs.printing.printed.Goals as goal
@@ -10,3 +11,6 @@ returns-in_err-text-clause-refused g c =
 pub returns-clause-refused : goal.returns-clause-refused
 returns-clause-refused g c = source-unprinted _ _ _ c.args.name.now c.in_ok-text.text.items _ c.in_ok-text.ensures.read
     (rw c.deref.ensures.value at c.printed_text.ensures.refused)
+
+pub returns-in_err-text-clause-bytes : goal.returns-in_err-text-clause-bytes
+returns-in_err-text-clause-bytes g c = IfOk-from_err c.from_residual.result _ c.from_residual.ensures.0

@@ -1,3 +1,4 @@
+use Rattle.std.proofs.lemmas.Result.{IfOk-from_err}
 use Rattle.std.proofs.Common.{◌≡◌, arith}
 use Rattle.std.proofs.lemmas.Grind.{common_steps}
 use Rattle.ll_make.proofs.Growing.{elements_more, some_elements}
@@ -15,3 +16,12 @@ returns c =
     let some = some_elements c.args.name.now c.args.n (omega arith) in
     let k : c.loop-k.k ≡ c.args.n = omega arith in
     grind (arith, common_steps)
+
+pub returns-in_err-push : goal.returns-in_err-push
+returns-in_err-push c = IfOk-from_err c.from_residual.result _ c.from_residual.ensures.0
+
+pub returns-in_err-write_numbered : goal.returns-in_err-write_numbered
+returns-in_err-write_numbered c = IfOk-from_err c.from_residual-in_err-write_numbered.result _ c.from_residual-in_err-write_numbered.ensures.0
+
+pub returns-in_err-extend_from_slice : goal.returns-in_err-extend_from_slice
+returns-in_err-extend_from_slice c = IfOk-from_err c.from_residual-in_err-extend_from_slice.result _ c.from_residual-in_err-extend_from_slice.ensures.0

@@ -1,3 +1,4 @@
+use Rattle.std.proofs.lemmas.Result.{IfOk-from_err}
 use Rattle.ll_make.proofs.Pieces.{when_appended, choice_written}
 use Rattle.ll_make.proofs.programs.write_choice.Goals as goal
 
@@ -7,3 +8,15 @@ returns c =
     (choice_written c.args.text.now.items _ _ c.extend_from_slice.new.self.items c.write_list.new.text.items c.extend_from_slice-2.new.self.items
     c.write_goals.new.text.items c.extend_from_slice-3.new.self.items
     c.in_ok-extend_from_slice.ensures.items c.in_ok-write_list.ensures c.in_ok-extend_from_slice-2.ensures.items c.in_ok-write_goals.ensures)
+
+pub returns-in_err-extend_from_slice : goal.returns-in_err-extend_from_slice
+returns-in_err-extend_from_slice c = IfOk-from_err c.from_residual.result _ c.from_residual.ensures.0
+
+pub returns-in_err-write_list : goal.returns-in_err-write_list
+returns-in_err-write_list c = IfOk-from_err c.from_residual-in_err-write_list.result _ c.from_residual-in_err-write_list.ensures.0
+
+pub returns-in_err-extend_from_slice-2 : goal.returns-in_err-extend_from_slice-2
+returns-in_err-extend_from_slice-2 c = IfOk-from_err c.from_residual-in_err-extend_from_slice-2.result _ c.from_residual-in_err-extend_from_slice-2.ensures.0
+
+pub returns-in_err-write_goals : goal.returns-in_err-write_goals
+returns-in_err-write_goals c = IfOk-from_err c.from_residual-in_err-write_goals.result _ c.from_residual-in_err-write_goals.ensures.0

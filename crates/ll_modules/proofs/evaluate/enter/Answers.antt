@@ -1,3 +1,4 @@
+use Rattle.std.proofs.lemmas.Result.{IfOk-from_err}
 use Rattle.std.specs.Prelude.{FitsSigned}
 use Rattle.std.specs.Int.{w64}
 use Rattle.std.proofs.Common.{ap, sym, ◌∙◌, rules}
@@ -36,3 +37,10 @@ returns-in-None c =
     (ap (value_of (operators_of c.args.names.now)) c.in-App.ensures.shown.0
     ∙ two_none (operators_of c.args.names.now) c.in-App.head c.args.bank.now c.in-App.args.now c.if-args-ne2.false
     (sym c.operator_at.ensures ∙ ap seen_operator c.in-None.is)) c.requires.frames
+
+pub returns-in_err-note-in-Some-operator_at : goal.returns-in_err-note-in-Some-operator_at
+returns-in_err-note-in-Some-operator_at c = IfOk-from_err c.from_residual.result _ c.from_residual.ensures.0
+
+pub returns-in_err-push-in-Some-operator_at : goal.returns-in_err-push-in-Some-operator_at
+returns-in_err-push-in-Some-operator_at c =
+    IfOk-from_err c.from_residual-in_err-push-in-Some-operator_at.result _ c.from_residual-in_err-push-in-Some-operator_at.ensures.0

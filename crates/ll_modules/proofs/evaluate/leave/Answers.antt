@@ -1,3 +1,4 @@
+use Rattle.std.proofs.lemmas.Result.{IfOk-from_err}
 use Rattle.std.specs.Prelude.{FitsSigned}
 use Rattle.std.specs.Int.{w64}
 use Rattle.std.specs.Ordering.{nat_cmp}
@@ -42,3 +43,15 @@ returns-in_ok-insert-in-Note-clause-known c =
     (λ q. subst (λ (w : ℤ). get nat_cmp c.insert.new.self q ≡ cond (is_at (nat_cmp c.in-Note.at.0) q) (Some w) (get nat_cmp c.args.known.now q))
     (to_z-of_z w64 c.in-Some.number f)
     (c.in_ok-insert-in-Note.ensures.updates.0 q))
+
+pub returns-in_err-push-in-Left-clause-known : goal.returns-in_err-push-in-Left-clause-known
+returns-in_err-push-in-Left-clause-known c = IfOk-from_err c.from_residual.result _ c.from_residual.ensures.0
+
+pub returns-in_err-push-in-Left-clause-step : goal.returns-in_err-push-in-Left-clause-step
+returns-in_err-push-in-Left-clause-step c = IfOk-from_err c.from_residual.result _ c.from_residual.ensures.0
+
+pub returns-in_err-insert-in-Note-clause-known : goal.returns-in_err-insert-in-Note-clause-known
+returns-in_err-insert-in-Note-clause-known c = IfOk-from_err c.from_residual-in_err-insert-in-Note.result _ c.from_residual-in_err-insert-in-Note.ensures.0
+
+pub returns-in_err-insert-in-Note-clause-step : goal.returns-in_err-insert-in-Note-clause-step
+returns-in_err-insert-in-Note-clause-step c = IfOk-from_err c.from_residual-in_err-insert-in-Note.result _ c.from_residual-in_err-insert-in-Note.ensures.0

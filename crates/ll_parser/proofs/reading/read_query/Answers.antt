@@ -1,3 +1,4 @@
+use Rattle.std.proofs.lemmas.Result.{IfOk-from_err}
 use Rattle.std.proofs.Common.{sym, subst, arith}
 use Rattle.ll_parser.specs.declared.formulas.Mode.TheVariants as mode
 use Rattle.ll_parser.specs.declared.texts.Stage.TheVariants as stages
@@ -65,3 +66,39 @@ returns-in-None-clause-read c =
     (ends-early-at queries FlatQuery query_start query_step query_final decides-queries c.args.tokens.now c.loop-i.i (let h = c.loop-i-test.false in
     omega arith) c.loop-i.names (λ texts. stage_view texts c.loop-i.waiting c.loop-i.stage) c.loop-i.depth c.loop-i.invariant.1
     (rw c.in-None.is at c.in_ok-goal.ensures))
+
+pub returns-in_err-symbol-clause-whole : goal.returns-in_err-symbol-clause-whole
+returns-in_err-symbol-clause-whole c = IfOk-from_err c.from_residual.result _ c.from_residual.ensures.0
+
+pub returns-in_err-symbol-clause-goal : goal.returns-in_err-symbol-clause-goal
+returns-in_err-symbol-clause-goal c = IfOk-from_err c.from_residual.result _ c.from_residual.ensures.0
+
+pub returns-in_err-next-clause-whole : goal.returns-in_err-next-clause-whole
+returns-in_err-next-clause-whole c = IfOk-from_err c.from_residual-in_err-next.result _ c.from_residual-in_err-next.ensures.0
+
+pub returns-in_err-next-clause-goal : goal.returns-in_err-next-clause-goal
+returns-in_err-next-clause-goal c = IfOk-from_err c.from_residual-in_err-next.result _ c.from_residual-in_err-next.ensures.0
+
+pub returns-in_default-clause-whole : goal.returns-in_default-clause-whole
+returns-in_default-clause-whole c = _
+
+pub returns-in_default-clause-goal : goal.returns-in_default-clause-goal
+returns-in_default-clause-goal c = _
+
+pub returns-in_default-opened-clause-whole : goal.returns-in_default-opened-clause-whole
+returns-in_default-opened-clause-whole c = _
+
+pub returns-in_default-opened-clause-goal : goal.returns-in_default-opened-clause-goal
+returns-in_default-opened-clause-goal c = _
+
+pub returns-in_err-goal-clause-whole : goal.returns-in_err-goal-clause-whole
+returns-in_err-goal-clause-whole c = IfOk-from_err c.from_residual-in_err-goal.result _ c.from_residual-in_err-goal.ensures.0
+
+pub returns-in_err-goal-clause-goal : goal.returns-in_err-goal-clause-goal
+returns-in_err-goal-clause-goal c = IfOk-from_err c.from_residual-in_err-goal.result _ c.from_residual-in_err-goal.ensures.0
+
+pub returns-in-None-clause-whole : goal.returns-in-None-clause-whole
+returns-in-None-clause-whole c = _
+
+pub returns-in-None-clause-goal : goal.returns-in-None-clause-goal
+returns-in-None-clause-goal c = _

@@ -73,3 +73,9 @@ returns-in_err-addition-clause-asks c = IfOk-from_err c.from_residual.result _ c
 
 pub returns-in_err-addition-clause-valid : goal.returns-in_err-addition-clause-valid
 returns-in_err-addition-clause-valid c = IfOk-from_err c.from_residual.result _ c.from_residual.ensures.0
+
+pub returns-clause-cause : goal.returns-clause-cause
+returns-clause-cause c = _
+
+pub returns-clause-fault : goal.returns-clause-fault
+returns-clause-fault c = _

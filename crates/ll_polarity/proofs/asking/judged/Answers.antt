@@ -49,3 +49,21 @@ returns-in_err-fault-clause-names c = IfOk-from_err c.from_residual.result _ c.f
 
 pub returns-in_err-fault-clause-shows : goal.returns-in_err-fault-clause-shows
 returns-in_err-fault-clause-shows c = IfOk-from_err c.from_residual.result _ c.from_residual.ensures.0
+
+pub returns-in-Some-clause-faultless : goal.returns-in-Some-clause-faultless
+returns-in-Some-clause-faultless c = _
+
+pub returns-in-Some-clause-shows : goal.returns-in-Some-clause-shows
+returns-in-Some-clause-shows c = _
+
+pub returns-in-Some-clause-asked : goal.returns-in-Some-clause-asked
+returns-in-Some-clause-asked c = _
+
+pub returns-in-Some-clause-names : goal.returns-in-Some-clause-names
+returns-in-Some-clause-names c = _
+
+pub returns-in-Some-clause-inside : goal.returns-in-Some-clause-inside
+returns-in-Some-clause-inside c = _
+
+pub returns-clause-cause : goal.returns-clause-cause
+returns-clause-cause c = _

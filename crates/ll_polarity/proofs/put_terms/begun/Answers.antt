@@ -112,3 +112,9 @@ returns-in_err-term-in-True c = record {
   next = IfOk-from_err c.from_residual-in_err-term-in-True.result _ c.from_residual-in_err-term-in-True.ensures.0;
   keeps = c.int-in-True.ensures.keeps;
 }
+
+pub returns-in_ok-term-in-Any-clause-next : goal.returns-in_ok-term-in-Any-clause-next
+returns-in_ok-term-in-Any-clause-next c = _
+
+pub returns-in_ok-term-in-Int-clause-next : goal.returns-in_ok-term-in-Int-clause-next
+returns-in_ok-term-in-Int-clause-next c = _

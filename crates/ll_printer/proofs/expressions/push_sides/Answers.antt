@@ -1,3 +1,4 @@
+use Rattle.std.proofs.lemmas.Result.{IfOk-from_err}
 use Rattle.ll_parser.specs.Nodes.{raw_at, identifier}
 use Rattle.ll_printer.proofs.Parts.{sides-pushed, left-encloses-is, right-encloses-is}
 use Rattle.ll_printer.proofs.expressions.push_sides.Goals as goal
@@ -17,3 +18,9 @@ returns c =
     c.encloses_right.ensures)
     c.in_ok-push_operand.ensures c.in_ok-push_all.ensures)
     c.push_operand-2.ensures
+
+pub returns-in_err-push_operand : goal.returns-in_err-push_operand
+returns-in_err-push_operand c = IfOk-from_err c.from_residual.result _ c.from_residual.ensures.0
+
+pub returns-in_err-push_all : goal.returns-in_err-push_all
+returns-in_err-push_all c = IfOk-from_err c.from_residual-in_err-push_all.result _ c.from_residual-in_err-push_all.ensures.0

@@ -35,3 +35,6 @@ returns-in_err-print_part-clause-text c = IfOk-from_err c.from_residual-in_err-p
 
 pub returns-in_err-push-clause-text : goal.returns-in_err-push-clause-text
 returns-in_err-push-clause-text c = IfOk-from_err c.from_residual.result _ c.from_residual.ensures.0
+
+pub returns-clause-begun : goal.returns-clause-begun
+returns-clause-begun c = _

@@ -32,3 +32,9 @@ returns-in_err-push-clause-moves c = IfOk-from_err c.from_residual-in_err-push.r
 
 pub returns-in_err-write_all-clause-moves : goal.returns-in_err-write_all-clause-moves
 returns-in_err-write_all-clause-moves c = IfOk-from_err c.from_residual.result _ c.from_residual.ensures.0
+
+pub returns-in_ok-push-2-clause-begun : goal.returns-in_ok-push-2-clause-begun
+returns-in_ok-push-2-clause-begun c = _
+
+pub returns-in_ok-push-3-clause-begun : goal.returns-in_ok-push-3-clause-begun
+returns-in_ok-push-3-clause-begun c = _

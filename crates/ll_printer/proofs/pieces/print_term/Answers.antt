@@ -46,3 +46,9 @@ returns-in_err-push_cons-in-App-clause-moves c = IfOk-from_err c.from_residual.r
 pub returns-in_err-write_head-in-App-clause-moves : goal.returns-in_err-write_head-in-App-clause-moves
 returns-in_err-write_head-in-App-clause-moves c =
     IfOk-from_err c.from_residual-in_err-write_head-in-App.result _ c.from_residual-in_err-write_head-in-App.ensures.0
+
+pub returns-then-is_cons_of-clause-begun : goal.returns-then-is_cons_of-clause-begun
+returns-then-is_cons_of-clause-begun c = _
+
+pub returns-in_ok-push_arguments-in-App-clause-begun : goal.returns-in_ok-push_arguments-in-App-clause-begun
+returns-in_ok-push_arguments-in-App-clause-begun c = _

@@ -16,3 +16,9 @@ returns-clause-again c = λ whole.
 
 pub returns-in_err-write_program-clause-text : goal.returns-in_err-write_program-clause-text
 returns-in_err-write_program-clause-text c = IfOk-from_err c.from_residual.result _ c.from_residual.ensures.0
+
+pub returns-in_err-write_program-clause-again : goal.returns-in_err-write_program-clause-again
+returns-in_err-write_program-clause-again c = IfOk-from_err c.from_residual.result _ c.from_residual.ensures.0
+
+pub returns-clause-begun : goal.returns-clause-begun
+returns-clause-begun c = _

@@ -16,3 +16,6 @@ loop-i-preserved c =
 
 pub returns-in_err-write_clause-clause-text : goal.returns-in_err-write_clause-clause-text
 returns-in_err-write_clause-clause-text c = IfOk-from_err c.from_residual.result _ c.from_residual.ensures.0
+
+pub returns-clause-begun : goal.returns-clause-begun
+returns-clause-begun c = _

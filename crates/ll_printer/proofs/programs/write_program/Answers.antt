@@ -41,3 +41,6 @@ returns-in_err-write_clauses-clause-text c = IfOk-from_err c.from_residual.resul
 
 pub returns-in_err-write_module-clause-text : goal.returns-in_err-write_module-clause-text
 returns-in_err-write_module-clause-text c = IfOk-from_err c.from_residual-in_err-write_module.result _ c.from_residual-in_err-write_module.ensures.0
+
+pub returns-clause-begun : goal.returns-clause-begun
+returns-clause-begun c = _

@@ -39,3 +39,12 @@ cell_of-requires-clause-few c = c.requires.few
 
 pub cell_of-requires-clause-rows : goal.cell_of-requires-clause-rows
 cell_of-requires-clause-rows c = c.requires.rows
+
+pub returns-in_default-clause-ok : goal.returns-in_default-clause-ok
+returns-in_default-clause-ok c = _
+
+pub returns-in-Some-2-clause-err : goal.returns-in-Some-2-clause-err
+returns-in-Some-2-clause-err c = _
+
+pub returns-in-None-clause-ok : goal.returns-in-None-clause-ok
+returns-in-None-clause-ok c = _

@@ -85,3 +85,6 @@ returns-clause-grows c = c.loop-names.invariant.moves.grows
 
 pub loop-names-smaller : goal.loop-names-smaller
 loop-names-smaller c = cell_shorter c.in_ok-at.ensures.ok
+
+pub returns-clause-err : goal.returns-clause-err
+returns-clause-err c = _

@@ -61,3 +61,6 @@ row_numbered-requires c = c.requires.few
 
 pub word_of-requires : goal.word_of-requires
 word_of-requires c = c.requires.room
+
+pub returns-in-None-clause-moves : goal.returns-in-None-clause-moves
+returns-in-None-clause-moves c = _

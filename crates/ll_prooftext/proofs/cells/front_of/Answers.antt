@@ -59,3 +59,9 @@ returns-in-None-clause-grows c = c.word_of.ensures.grows
 
 pub word_of-requires : goal.word_of-requires
 word_of-requires c = c.requires
+
+pub returns-in-Some-Term-clause-moves : goal.returns-in-Some-Term-clause-moves
+returns-in-Some-Term-clause-moves c = _
+
+pub returns-in-None-clause-moves : goal.returns-in-None-clause-moves
+returns-in-None-clause-moves c = _

@@ -44,3 +44,6 @@ returns-clause-grows c = c.cell_field.ensures.grows
 
 pub cell_field-requires : goal.cell_field-requires
 cell_field-requires c = record { end = c.requires.end; room = c.requires.room; few = c.requires.few; rows = c.requires.rows }
+
+pub returns-clause-err : goal.returns-clause-err
+returns-clause-err c = _

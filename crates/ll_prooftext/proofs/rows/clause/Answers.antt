@@ -84,3 +84,6 @@ returns-clause-grows c = c.term_fields.ensures.grows
 
 pub number_field-requires : goal.number_field-requires
 number_field-requires c = c.requires.end
+
+pub returns-clause-err : goal.returns-clause-err
+returns-clause-err c = _

@@ -22,3 +22,6 @@ returns-in_err-number-clause-ok c = IfOk-from_err c.from_residual.result _ c.fro
 
 pub returns-in_err-no_more-clause-ok : goal.returns-in_err-no_more-clause-ok
 returns-in_err-no_more-clause-ok c = IfOk-from_err c.from_residual-in_err-no_more.result _ c.from_residual-in_err-no_more.ensures.0
+
+pub returns-clause-err : goal.returns-clause-err
+returns-clause-err c = _

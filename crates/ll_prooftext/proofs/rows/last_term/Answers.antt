@@ -34,3 +34,6 @@ returns-in_err-no_more-clause-grows c = c.term_field.ensures.grows
 
 pub returns-clause-grows : goal.returns-clause-grows
 returns-clause-grows c = c.term_field.ensures.grows
+
+pub returns-clause-err : goal.returns-clause-err
+returns-clause-err c = _

@@ -72,3 +72,6 @@ returns-in_default-clause-err c = c.short_node.ensures.err
 
 pub returns-in_default-clause-grows : goal.returns-in_default-clause-grows
 returns-in_default-clause-grows c = grows_none c.args.names.now
+
+pub returns-in_ok-last_term-in-Exists-clause-err : goal.returns-in_ok-last_term-in-Exists-clause-err
+returns-in_ok-last_term-in-Exists-clause-err c = _

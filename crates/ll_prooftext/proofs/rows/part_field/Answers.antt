@@ -16,3 +16,18 @@ returns-in_err-labels-clause-ok c = IfOk-from_err c.from_residual.result _ c.fro
 
 pub returns-in_err-labels-clause-err : goal.returns-in_err-labels-clause-err
 returns-in_err-labels-clause-err c = let p = err_from_is_err_and c.from_residual.result c.from_residual.ensures.1 in rw (p.1, p.2) tt
+
+pub returns-in_default-clause-ok : goal.returns-in_default-clause-ok
+returns-in_default-clause-ok c = _
+
+pub returns-then-is_at_end-clause-err : goal.returns-then-is_at_end-clause-err
+returns-then-is_at_end-clause-err c = _
+
+pub returns-in-Some-behind-clause-ok : goal.returns-in-Some-behind-clause-ok
+returns-in-Some-behind-clause-ok c = _
+
+pub returns-in-Some-2-clause-err : goal.returns-in-Some-2-clause-err
+returns-in-Some-2-clause-err c = _
+
+pub returns-in-None-clause-ok : goal.returns-in-None-clause-ok
+returns-in-None-clause-ok c = _

@@ -31,3 +31,6 @@ returns-in_err-push-clause-err c = let p = err_from_is_err_and c.from_residual-i
 
 pub loop-rest-smaller : goal.loop-rest-smaller
 loop-rest-smaller c = part_shorter _ _ _ c.in_ok-part.ensures.ok
+
+pub returns-clause-err : goal.returns-clause-err
+returns-clause-err c = _

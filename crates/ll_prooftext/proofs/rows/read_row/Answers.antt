@@ -67,3 +67,12 @@ returns-in-None-clause-err c = word_none c.args.line.now c.split_before.result.0
 
 pub returns-in-None-clause-grows : goal.returns-in-None-clause-grows
 returns-in-None-clause-grows c = grows_none c.args.names.now
+
+pub returns-in_ok-last_term-in-Some-Let-clause-err : goal.returns-in_ok-last_term-in-Some-Let-clause-err
+returns-in_ok-last_term-in-Some-Let-clause-err c = _
+
+pub returns-in_ok-node-in-Some-Node-clause-err : goal.returns-in_ok-node-in-Some-Node-clause-err
+returns-in_ok-node-in-Some-Node-clause-err c = _
+
+pub returns-in-None-clause-ok : goal.returns-in-None-clause-ok
+returns-in-None-clause-ok c = _

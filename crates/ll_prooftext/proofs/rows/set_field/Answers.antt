@@ -11,3 +11,12 @@ returns-in_err-found-clause-ok c = IfOk-from_err c.from_residual.result _ c.from
 
 pub returns-in_err-found-clause-err : goal.returns-in_err-found-clause-err
 returns-in_err-found-clause-err c = let p = err_from_is_err_and c.from_residual.result c.from_residual.ensures.1 in rw (p.1, p.2) tt
+
+pub returns-in_default-clause-ok : goal.returns-in_default-clause-ok
+returns-in_default-clause-ok c = _
+
+pub returns-in-Some-2-clause-err : goal.returns-in-Some-2-clause-err
+returns-in-Some-2-clause-err c = _
+
+pub returns-in-None-clause-ok : goal.returns-in-None-clause-ok
+returns-in-None-clause-ok c = _

@@ -30,3 +30,9 @@ returns-in_err-no_more-clause-err c = let p = err_from_is_err_and c.from_residua
 
 pub returns-clause-ok : goal.returns-clause-ok
 returns-clause-ok c = bare_row c.args.word c.args.rest.now c.bare_rule.result c.bare_rule.ensures c.in_ok-no_more.ensures.ok
+
+pub returns-then-has_number-clause-err : goal.returns-then-has_number-clause-err
+returns-then-has_number-clause-err c = _
+
+pub returns-clause-err : goal.returns-clause-err
+returns-clause-err c = _

@@ -39,3 +39,6 @@ returns-in_err-second-clause-ok c = IfOk-from_err c.from_residual-in_err-second.
 
 pub returns-in_err-no_more-clause-ok : goal.returns-in_err-no_more-clause-ok
 returns-in_err-no_more-clause-ok c = IfOk-from_err c.from_residual-in_err-no_more.result _ c.from_residual-in_err-no_more.ensures.0
+
+pub returns-clause-err : goal.returns-clause-err
+returns-clause-err c = _

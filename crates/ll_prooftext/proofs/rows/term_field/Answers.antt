@@ -24,3 +24,12 @@ returns-in-Some-2-clause-grows c = c.argument_at.ensures.grows
 
 pub returns-in-None-clause-grows : goal.returns-in-None-clause-grows
 returns-in-None-clause-grows c = c.argument_at.ensures.grows
+
+pub returns-in_default-clause-ok : goal.returns-in_default-clause-ok
+returns-in_default-clause-ok c = _
+
+pub returns-in-Some-2-clause-err : goal.returns-in-Some-2-clause-err
+returns-in-Some-2-clause-err c = _
+
+pub returns-in-None-clause-ok : goal.returns-in-None-clause-ok
+returns-in-None-clause-ok c = _

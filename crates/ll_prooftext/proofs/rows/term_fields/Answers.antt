@@ -66,3 +66,6 @@ returns-clause-grows c = c.loop-alloc.invariant.moves.grows
 
 pub loop-alloc-smaller : goal.loop-alloc-smaller
 loop-alloc-smaller c = term_shorter c.in_ok-at.ensures.ok
+
+pub returns-clause-err : goal.returns-clause-err
+returns-clause-err c = _

@@ -114,3 +114,6 @@ cell_fields-requires-clause-few c = c.requires.few
 
 pub cell_fields-requires-clause-rows : goal.cell_fields-requires-clause-rows
 cell_fields-requires-clause-rows c = c.requires.rows
+
+pub returns-clause-err : goal.returns-clause-err
+returns-clause-err c = _

@@ -130,3 +130,6 @@ cell_fields-requires-clause-few c = c.requires.few
 
 pub cell_field-requires : goal.cell_field-requires
 cell_field-requires c = record { end = c.requires.end; room = c.requires.room; few = c.requires.few; rows = c.requires.rows }
+
+pub returns-clause-err : goal.returns-clause-err
+returns-clause-err c = _

@@ -133,3 +133,15 @@ returns-in-None-clause-err c = let n = length c.args.rows.now in
 
 pub returns-in-None-clause-grows : goal.returns-in-None-clause-grows
 returns-in-None-clause-grows c = grows_none c.args.names.now
+
+pub returns-in_ok-share-in-Some-Share-clause-err : goal.returns-in_ok-share-in-Some-Share-clause-err
+returns-in_ok-share-in-Some-Share-clause-err c = _
+
+pub returns-in_ok-last_cell-in-Some-Let-clause-err : goal.returns-in_ok-last_cell-in-Some-Let-clause-err
+returns-in_ok-last_cell-in-Some-Let-clause-err c = _
+
+pub returns-in_ok-step-in-Some-Node-clause-err : goal.returns-in_ok-step-in-Some-Node-clause-err
+returns-in_ok-step-in-Some-Node-clause-err c = _
+
+pub returns-in-None-clause-ok : goal.returns-in-None-clause-ok
+returns-in-None-clause-ok c = _

@@ -85,3 +85,6 @@ returns-clause-grows c = grows_on c.args.names.now c.cell_field.new.names c.last
 
 pub app-requires : goal.app-requires
 app-requires c = pair_inside c.in_ok-first.first c.in_ok-second.second c.in_ok-first.ensures.ok c.in_ok-second.ensures.ok
+
+pub returns-clause-err : goal.returns-clause-err
+returns-clause-err c = _

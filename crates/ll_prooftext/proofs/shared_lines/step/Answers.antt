@@ -76,3 +76,6 @@ returns-in_default c =
       err = rw (asks_same (length c.args.rows.now) k plain) c.node.ensures.err;
       grows = c.node.ensures.grows;
     }
+
+pub returns-in_ok-last_cell-in-Exists-clause-err : goal.returns-in_ok-last_cell-in-Exists-clause-err
+returns-in_ok-last_cell-in-Exists-clause-err c = _

@@ -34,3 +34,6 @@ returns-clause-names c = c.in_ok-fill.ensures.names
 
 pub returns-clause-grows : goal.returns-clause-grows
 returns-clause-grows c = c.fill.ensures.grows
+
+pub returns-clause-err : goal.returns-clause-err
+returns-clause-err c = _

@@ -27,3 +27,9 @@ returns-in_default-clause-grows c = grows_none c.args.names.now
 
 pub returns-in-None-clause-grows : goal.returns-in-None-clause-grows
 returns-in-None-clause-grows c = grows_none c.args.names.now
+
+pub returns-in_default-clause-sign : goal.returns-in_default-clause-sign
+returns-in_default-clause-sign c = _
+
+pub returns-in-None-clause-sign : goal.returns-in-None-clause-sign
+returns-in-None-clause-sign c = _

@@ -35,3 +35,6 @@ returns-in-Some-clause-grows c = c.word_of.ensures.grows
 
 pub returns-in-None-clause-grows : goal.returns-in-None-clause-grows
 returns-in-None-clause-grows c = c.word_of.ensures.grows
+
+pub returns-in-None-clause-moves : goal.returns-in-None-clause-moves
+returns-in-None-clause-moves c = _

@@ -93,3 +93,12 @@ returns-in_err-int-clause-grows c = grows_none c.args.names.now
 
 pub returns-in-Some-integer_of-clause-grows : goal.returns-in-Some-integer_of-clause-grows
 returns-in-Some-integer_of-clause-grows c = grows_none c.args.names.now
+
+pub returns-in-None-clause-moves : goal.returns-in-None-clause-moves
+returns-in-None-clause-moves c = _
+
+pub returns-in-None-number_of-clause-moves : goal.returns-in-None-number_of-clause-moves
+returns-in-None-number_of-clause-moves c = _
+
+pub returns-in-None-name_of-clause-moves : goal.returns-in-None-name_of-clause-moves
+returns-in-None-name_of-clause-moves c = _

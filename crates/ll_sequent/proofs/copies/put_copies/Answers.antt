@@ -1,3 +1,4 @@
+use Rattle.std.proofs.lemmas.Result.{IfOk-from_err}
 use Rattle.std.proofs.Common.{◌∷◌, [], ◌++◌, ◌∙◌, ap, sym, get_or, take_all}
 use Rattle.ll_bank.specs.declared.At.{At}
 use Rattle.ll_sequent.specs.Copied.{copied_places}
@@ -13,3 +14,6 @@ loop-place-preserved c =
 pub returns : goal.returns
 returns c =
     c.loop-place.invariant ∙ ap (copied_places c.args.copies.now) (take_all c.loop-place.place-index c.args.places.now c.loop-place-test.false)
+
+pub returns-in_err-push : goal.returns-in_err-push
+returns-in_err-push c = IfOk-from_err c.from_residual.result _ c.from_residual.ensures.0

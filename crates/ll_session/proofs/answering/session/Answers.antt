@@ -21,3 +21,6 @@ returns-in-Ok-clause-refused g c =
 pub returns-in-Err-clause-refused : goal.returns-in-Err-clause-refused
 returns-in-Err-clause-refused g c = none-begun g.R.Replies.takes g.R.Replies.breaks _ c.args.text.now c.args.bound c.args.replies.now
     (c.one_session.ensures.some _ c.requires.faultless c.args.bound)
+
+pub returns-in-Err-clause-answers : goal.returns-in-Err-clause-answers
+returns-in-Err-clause-answers g c = _

@@ -1,3 +1,4 @@
+use Rattle.std.proofs.lemmas.Result.{IfOk-from_err}
 use Rattle.std.proofs.Common.{sym, ap, ◌∙◌, ◌++◌, map, arith}
 use Rattle.std.proofs.lemmas.List.{append-nil, map-append}
 use Rattle.ll_store.specs.Packed.{cell_of, change_of}
@@ -18,3 +19,6 @@ returns c =
     ∙ (map-append renewed_of c.args.made.now.items _
     ∙ ap (λ rs. map renewed_of c.args.made.now.items ++ rs) (noted-in c.args.count c.args.cells.now c.args.entry _ c.var-var.result c.var-var.ensures
     (omega (arith, c.if-count-var.false)) c.requires))
+
+pub returns-in_err-push : goal.returns-in_err-push
+returns-in_err-push c = IfOk-from_err c.from_residual.result _ c.from_residual.ensures.0

@@ -1,3 +1,4 @@
+use Rattle.std.proofs.lemmas.Result.{IfOk-from_err}
 use Rattle.std.proofs.Common.{arith, map}
 use Rattle.ll_store.specs.Packed.{cell_of, change_of}
 use Rattle.ll_store.proofs.SegmentLemmas.{renew-step, trail-step}
@@ -11,3 +12,9 @@ loop-renewal-preserved c = (
   trail-step c.args.renewed.now c.loop-renewal.renewal-index _ (map change_of c.args.trail.now.items) c.loop-renewal.trail.items c.push.new.self.items
       (omega arith) c.loop-renewal.invariant.1 c.in_ok-push.ensures.items,
 )
+
+pub returns-in_err-push-clause-cells : goal.returns-in_err-push-clause-cells
+returns-in_err-push-clause-cells c = IfOk-from_err c.from_residual.result _ c.from_residual.ensures.0
+
+pub returns-in_err-push-clause-trail : goal.returns-in_err-push-clause-trail
+returns-in_err-push-clause-trail c = IfOk-from_err c.from_residual.result _ c.from_residual.ensures.0

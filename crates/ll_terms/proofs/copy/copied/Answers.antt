@@ -1,3 +1,4 @@
+use Rattle.std.proofs.lemmas.Result.{IfOk-from_err}
 use Rattle.std.proofs.Common.{◌<◌, ap, sym, subst, ◌∙◌, All, length}
 use Rattle.std.specs.Prelude.{IfOk}
 use Rattle.std.specs.Ordering.{nat_cmp}
@@ -34,3 +35,6 @@ returns-in_ok-args-in-App-clause-shows c =
     subst (λ t. IfOk c.app.result (λ copy. ShowsTerm c.app.new.self copy.0 t))
     (ap (λ xs. app c.in-App.head (term_trees c.args.other.now xs)) c.deref.ensures.value ∙ (ap (app c.in-App.head) s.1 ∙ sym c.in-App.ensures.shown.0))
     c.app.ensures.shows
+
+pub returns-in_err-args-in-App-clause-shows : goal.returns-in_err-args-in-App-clause-shows
+returns-in_err-args-in-App-clause-shows c = IfOk-from_err c.from_residual.result _ c.from_residual.ensures.0

@@ -1,3 +1,4 @@
+use Rattle.std.proofs.lemmas.Result.{IfOk-from_err}
 use Rattle.std.proofs.lemmas.Bool.{eqb-true, eq-eqb}
 use Rattle.ll_bank.specs.Nodes.{term_tree}
 use Rattle.ll_terms.proofs.SignLemmas.{one_number, same_number, HasNumber-grows}
@@ -15,3 +16,9 @@ returns c = (
       c.in_ok-mine.ensures.number)
       c.in_ok-theirs.ensures.number e),
 )
+
+pub returns-in_err-mine : goal.returns-in_err-mine
+returns-in_err-mine c = IfOk-from_err c.from_residual.result _ c.from_residual.ensures.0
+
+pub returns-in_err-theirs : goal.returns-in_err-theirs
+returns-in_err-theirs c = IfOk-from_err c.from_residual-in_err-theirs.result _ c.from_residual-in_err-theirs.ensures.0

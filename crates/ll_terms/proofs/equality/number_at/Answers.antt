@@ -1,3 +1,4 @@
+use Rattle.std.proofs.lemmas.Result.{IfOk-from_err}
 use Rattle.std.proofs.Common.{arith, get_or}
 use Rattle.std.specs.Ordering.{nat_cmp}
 use Rattle.std.specs.BTreeMap.{get}
@@ -40,3 +41,15 @@ loop-arg-preserved c =
     (HasNumber-grows c.loop-arg.invariant.grows c.found.result (term_tree c.args.bank.now (get_or c.in-App.args.now c.loop-arg.arg-index (record { 0 = 0 })).0)
     here)
     c.in_ok-number-in-App-2.ensures.number
+
+pub returns-in_err-number-in-App-clause-grows : goal.returns-in_err-number-in-App-clause-grows
+returns-in_err-number-in-App-clause-grows c = IfOk-from_err c.from_residual.result _ c.from_residual.ensures.0
+
+pub returns-in_err-number-in-App-clause-number : goal.returns-in_err-number-in-App-clause-number
+returns-in_err-number-in-App-clause-number c = IfOk-from_err c.from_residual.result _ c.from_residual.ensures.0
+
+pub returns-in_err-number-in-App-2-clause-grows : goal.returns-in_err-number-in-App-2-clause-grows
+returns-in_err-number-in-App-2-clause-grows c = IfOk-from_err c.from_residual-in_err-number-in-App-2.result _ c.from_residual-in_err-number-in-App-2.ensures.0
+
+pub returns-in_err-number-in-App-2-clause-number : goal.returns-in_err-number-in-App-2-clause-number
+returns-in_err-number-in-App-2-clause-number c = IfOk-from_err c.from_residual-in_err-number-in-App-2.result _ c.from_residual-in_err-number-in-App-2.ensures.0

@@ -1,3 +1,4 @@
+use Rattle.std.proofs.lemmas.Result.{IfOk-from_err}
 use Rattle.std.proofs.Common.{sym, subst, arith}
 use Rattle.std.specs.Ordering.{nat_cmp}
 use Rattle.std.specs.List.{Contains}
@@ -40,3 +41,21 @@ returns-clause-number c =
     (HasNumber c.loop-place.signs.keys) c.args.at.0 (omega arith)
     c.loop-place.invariant.1 (subst (λ xs. Contains xs c.args.at.0) (sym c.deref-place-items.ensures.value)
     (c.in_ok-places.ensures.roots 0 c.args.at (omega arith)))) c.found.ensures
+
+pub returns-in_err-places-clause-grows : goal.returns-in_err-places-clause-grows
+returns-in_err-places-clause-grows c = IfOk-from_err c.from_residual.result _ c.from_residual.ensures.0
+
+pub returns-in_err-places-clause-number : goal.returns-in_err-places-clause-number
+returns-in_err-places-clause-number c = IfOk-from_err c.from_residual.result _ c.from_residual.ensures.0
+
+pub returns-in_err-number-clause-grows : goal.returns-in_err-number-clause-grows
+returns-in_err-number-clause-grows c = IfOk-from_err c.from_residual-in_err-number.result _ c.from_residual-in_err-number.ensures.0
+
+pub returns-in_err-number-clause-number : goal.returns-in_err-number-clause-number
+returns-in_err-number-clause-number c = IfOk-from_err c.from_residual-in_err-number.result _ c.from_residual-in_err-number.ensures.0
+
+pub returns-in_err-insert-clause-grows : goal.returns-in_err-insert-clause-grows
+returns-in_err-insert-clause-grows c = IfOk-from_err c.from_residual-in_err-insert.result _ c.from_residual-in_err-insert.ensures.0
+
+pub returns-in_err-insert-clause-number : goal.returns-in_err-insert-clause-number
+returns-in_err-insert-clause-number c = IfOk-from_err c.from_residual-in_err-insert.result _ c.from_residual-in_err-insert.ensures.0

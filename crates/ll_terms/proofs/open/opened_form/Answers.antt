@@ -1,3 +1,4 @@
+use Rattle.std.proofs.lemmas.Result.{IfOk-from_err}
 use Rattle.std.proofs.Common.{◌≡◌, ℕ, List, length, ap, sym, subst, ◌∙◌, refl, map, All, true, inl, Bor}
 use Rattle.std.specs.Prelude.{IfOk}
 use Rattle.std.specs.List.{list_all}
@@ -268,3 +269,39 @@ returns-in_default c = record {
       (term_tree c.args.bank.now c.args.value.0) (get by_spot c.args.terms.now) c.requires.terms) c.share_form-in_default.ensures.shows;
   keeps = c.share_form-in_default.ensures.keeps;
 }
+
+pub returns-in_err-atom-in-Atom-clause-shows : goal.returns-in_err-atom-in-Atom-clause-shows
+returns-in_err-atom-in-Atom-clause-shows c = IfOk-from_err c.from_residual.result _ c.from_residual.ensures.0
+
+pub returns-in_err-atom-in-Atom-clause-terms : goal.returns-in_err-atom-in-Atom-clause-terms
+returns-in_err-atom-in-Atom-clause-terms c = IfOk-from_err c.from_residual.result _ c.from_residual.ensures.0
+
+pub returns-in_err-args-in-Use-clause-shows : goal.returns-in_err-args-in-Use-clause-shows
+returns-in_err-args-in-Use-clause-shows c = IfOk-from_err c.from_residual-in_err-args-in-Use.result _ c.from_residual-in_err-args-in-Use.ensures.0
+
+pub returns-in_err-args-in-Use-clause-terms : goal.returns-in_err-args-in-Use-clause-terms
+returns-in_err-args-in-Use-clause-terms c = IfOk-from_err c.from_residual-in_err-args-in-Use.result _ c.from_residual-in_err-args-in-Use.ensures.0
+
+pub returns-in_err-args-in-Use-2-clause-shows : goal.returns-in_err-args-in-Use-2-clause-shows
+returns-in_err-args-in-Use-2-clause-shows c = IfOk-from_err c.from_residual-in_err-args-in-Use-2.result _ c.from_residual-in_err-args-in-Use-2.ensures.0
+
+pub returns-in_err-args-in-Use-2-clause-terms : goal.returns-in_err-args-in-Use-2-clause-terms
+returns-in_err-args-in-Use-2-clause-terms c = IfOk-from_err c.from_residual-in_err-args-in-Use-2.result _ c.from_residual-in_err-args-in-Use-2.ensures.0
+
+pub returns-in_err-left-in-Is-clause-shows : goal.returns-in_err-left-in-Is-clause-shows
+returns-in_err-left-in-Is-clause-shows c = IfOk-from_err c.from_residual-in_err-left-in-Is.result _ c.from_residual-in_err-left-in-Is.ensures.0
+
+pub returns-in_err-left-in-Is-clause-terms : goal.returns-in_err-left-in-Is-clause-terms
+returns-in_err-left-in-Is-clause-terms c = IfOk-from_err c.from_residual-in_err-left-in-Is.result _ c.from_residual-in_err-left-in-Is.ensures.0
+
+pub returns-in_err-left-in-Less-clause-shows : goal.returns-in_err-left-in-Less-clause-shows
+returns-in_err-left-in-Less-clause-shows c = IfOk-from_err c.from_residual-in_err-left-in-Less.result _ c.from_residual-in_err-left-in-Less.ensures.0
+
+pub returns-in_err-left-in-Less-clause-terms : goal.returns-in_err-left-in-Less-clause-terms
+returns-in_err-left-in-Less-clause-terms c = IfOk-from_err c.from_residual-in_err-left-in-Less.result _ c.from_residual-in_err-left-in-Less.ensures.0
+
+pub returns-in_err-left-in-Most-clause-shows : goal.returns-in_err-left-in-Most-clause-shows
+returns-in_err-left-in-Most-clause-shows c = IfOk-from_err c.from_residual-in_err-left-in-Most.result _ c.from_residual-in_err-left-in-Most.ensures.0
+
+pub returns-in_err-left-in-Most-clause-terms : goal.returns-in_err-left-in-Most-clause-terms
+returns-in_err-left-in-Most-clause-terms c = IfOk-from_err c.from_residual-in_err-left-in-Most.result _ c.from_residual-in_err-left-in-Most.ensures.0

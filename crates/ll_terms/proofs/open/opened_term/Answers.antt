@@ -1,3 +1,4 @@
+use Rattle.std.proofs.lemmas.Result.{IfOk-from_err}
 use Rattle.std.proofs.Common.{ap, sym, subst, ◌∙◌, ℕ}
 use Rattle.std.specs.Prelude.{IfOk}
 use Rattle.std.specs.BTreeMap.{get}
@@ -59,3 +60,6 @@ returns-in_ok-args-in-App-clause-shows c =
     (subst (λ node. (k : ℕ × ℕ) → IsIn k (term_parts node c.args.task.level)
     → IsKnown (get by_spot c.args.images.now) k) (node_seen c.args.bank.now c.args.task.place (AppNode c.in-App.head (places c.in-App.args.now))
     c.in-App.ensures.node) c.requires.parts)) c.in_ok-args-in-App.ensures).1))) c.open_head.ensures.shows
+
+pub returns-in_err-args-in-App-clause-shows : goal.returns-in_err-args-in-App-clause-shows
+returns-in_err-args-in-App-clause-shows c = IfOk-from_err c.from_residual.result _ c.from_residual.ensures.0

@@ -1,3 +1,4 @@
+use Rattle.std.proofs.lemmas.Result.{IfOk-from_err}
 use Rattle.std.proofs.Common.{[], ◌∷◌, ◌++◌, ap, sym, ◌∙◌, map, take, append_assoc, get_or}
 use Rattle.std.proofs.lemmas.List.{append-nil, map_more, take_all}
 use Rattle.ll_bank.specs.declared.At.{At}
@@ -21,3 +22,6 @@ returns c =
     c.loop-arg.invariant
     ∙ ap (λ xs. c.args.tasks.now.items ++ map (λ (a : At). visit (a.0, c.args.level)) xs)
     (take_all c.loop-arg.arg-index c.args.args.now c.loop-arg-test.false)
+
+pub returns-in_err-push : goal.returns-in_err-push
+returns-in_err-push c = IfOk-from_err c.from_residual.result _ c.from_residual.ensures.0

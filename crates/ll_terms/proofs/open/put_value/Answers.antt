@@ -1,3 +1,4 @@
+use Rattle.std.proofs.lemmas.Result.{IfOk-from_err}
 use Rattle.std.proofs.Common.{ap, sym, subst, ◌∙◌, ◌++◌, true≢false}
 use Rattle.std.specs.Prelude.{IfOk}
 use Rattle.ll_bank.specs.Term.{is_spine}
@@ -33,3 +34,10 @@ returns-clause-shows c =
     (more_args c.args.bank.now (term_tree c.args.bank.now c.args.value.0) c.in-App.head c.in-App.own.now c.args.args.now c.deref.result.now
     c.in-App.ensures.shown.0 (c.deref.ensures.value ∙ (c.in_ok-extend_from_slice-in-App.ensures.items
     ∙ ap (λ xs. xs ++ c.args.args.now) c.in_ok-all-in-App.ensures.items))) c.app.ensures.shows
+
+pub returns-in_err-all-in-App-clause-shows : goal.returns-in_err-all-in-App-clause-shows
+returns-in_err-all-in-App-clause-shows c = IfOk-from_err c.from_residual.result _ c.from_residual.ensures.0
+
+pub returns-in_err-extend_from_slice-in-App-clause-shows : goal.returns-in_err-extend_from_slice-in-App-clause-shows
+returns-in_err-extend_from_slice-in-App-clause-shows c =
+    IfOk-from_err c.from_residual-in_err-extend_from_slice-in-App.result _ c.from_residual-in_err-extend_from_slice-in-App.ensures.0

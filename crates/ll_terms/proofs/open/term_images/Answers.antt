@@ -1,3 +1,4 @@
+use Rattle.std.proofs.lemmas.Result.{IfOk-from_err}
 use Rattle.std.proofs.Common.{ap, ◌∙◌, sym, arith, [], ◌∷◌, ◌++◌, map, Some}
 use Rattle.std.specs.Prelude.{Option}
 use Rattle.std.specs.BTreeMap.{get}
@@ -13,3 +14,6 @@ loop-term-preserved c =
     ∙ ((λ j. c.loop-term.invariant j ++ sym c.term_image.ensures j ∷ [])
     ∙ sym (map_more (λ (a : At). get by_spot c.args.images.now (a.0, c.args.level)) c.args.terms.now c.loop-term.term-index (record { 0 = 0 })
     (omega arith))))
+
+pub returns-in_err-push : goal.returns-in_err-push
+returns-in_err-push c = IfOk-from_err c.from_residual.result _ c.from_residual.ensures.0

@@ -1,3 +1,4 @@
+use Rattle.std.proofs.lemmas.Result.{IfOk-from_err}
 use Rattle.std.proofs.Common.{ap, sym, refl, ◌∙◌, true≢false}
 use Rattle.ll_bank.specs.Term.{term_depth}
 use Rattle.ll_terms.proofs.PairLemmas.{last-inside, last-equal, first-inside, first-equal, none-equal}
@@ -52,3 +53,12 @@ loop-preserved c =
         λ e. (c.in_ok-open.ensures.equal.1 (last.0 (c.loop.invariant.equal.1 e))).1,
       );
     }
+
+pub returns-in_err-push : goal.returns-in_err-push
+returns-in_err-push c = IfOk-from_err c.from_residual.result _ c.from_residual.ensures.0
+
+pub returns-in_err-open : goal.returns-in_err-open
+returns-in_err-open c = IfOk-from_err c.from_residual-in_err-open.result _ c.from_residual-in_err-open.ensures.0
+
+pub returns : goal.returns
+returns c = _

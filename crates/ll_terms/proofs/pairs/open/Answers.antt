@@ -1,3 +1,4 @@
+use Rattle.std.proofs.lemmas.Result.{IfOk-from_err}
 use Rattle.std.proofs.Common.{ap, sym, ◌∙◌, arith, true≢false}
 use Rattle.std.proofs.lemmas.List.{length-map}
 use Rattle.ll_bank.specs.declared.At.{At}
@@ -72,3 +73,9 @@ returns-then-args-others-clause-equal c =
     (term_tree c.args.bank.now c.args.pair.left.0) (term_tree c.args.other.now c.args.pair.right.0) c.in-App.ensures.shown.0 c.in-App-term_at-3.ensures.shown.0
     (λ e. c.if-args-others.true (sym (length-map c.in-App.args.now (λ (a : At). term_tree c.args.bank.now a.0))
     ∙ (e ∙ length-map c.in-App-term_at-3.others.now (λ (a : At). term_tree c.args.other.now a.0)))))
+
+pub returns-in_err-push_all-in-App-term_at-3-clause-inside : goal.returns-in_err-push_all-in-App-term_at-3-clause-inside
+returns-in_err-push_all-in-App-term_at-3-clause-inside c = IfOk-from_err c.from_residual.result _ c.from_residual.ensures.0
+
+pub returns-in_err-push_all-in-App-term_at-3-clause-equal : goal.returns-in_err-push_all-in-App-term_at-3-clause-equal
+returns-in_err-push_all-in-App-term_at-3-clause-equal c = IfOk-from_err c.from_residual.result _ c.from_residual.ensures.0

@@ -1,3 +1,4 @@
+use Rattle.std.proofs.lemmas.Result.{IfOk-from_err}
 use Rattle.std.proofs.Common.{◌-◌, length, refl, arith, get_or}
 use Rattle.ll_terms.specs.declared.pairs.Pair.{Pair}
 use Rattle.ll_terms.specs.Pairs.{lefts, rights}
@@ -16,3 +17,9 @@ loop-done-preserved c =
           pair (record { 0 = 0 })
           (omega arith) (omega arith) refl c.loop-done.invariant.right c.in_ok-push.ensures.ok;
     }
+
+pub returns-in_err-push-clause-left : goal.returns-in_err-push-clause-left
+returns-in_err-push-clause-left c = IfOk-from_err c.from_residual.result _ c.from_residual.ensures.0
+
+pub returns-in_err-push-clause-right : goal.returns-in_err-push-clause-right
+returns-in_err-push-clause-right c = IfOk-from_err c.from_residual.result _ c.from_residual.ensures.0

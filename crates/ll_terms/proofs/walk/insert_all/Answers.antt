@@ -1,3 +1,4 @@
+use Rattle.std.proofs.lemmas.Result.{IfOk-from_err}
 use Rattle.std.proofs.Common.{◌<◌, ap, ◌∙◌, sym, take, ◌||◌, eqb, arith, length, get_or}
 use Rattle.std.specs.List.{list_any}
 use Rattle.std.specs.Ordering.{nat_cmp}
@@ -16,3 +17,6 @@ loop-place-preserved c = λ at.
     at)
     ∙ ap (λ xs. contains nat_cmp c.args.waiting.now at || list_any (eqb at) xs)
     (sym (places_more c.args.more.now c.loop-place.place-index (record { 0 = 0 }) i))
+
+pub returns-in_err-insert : goal.returns-in_err-insert
+returns-in_err-insert c = IfOk-from_err c.from_residual.result _ c.from_residual.ensures.0

@@ -1,3 +1,4 @@
+use Rattle.std.proofs.lemmas.Result.{IfOk-from_err}
 use Rattle.std.proofs.Common.{ap, ◌∙◌, sym, subst, ◌||◌, eqb, All}
 use Rattle.std.specs.List.{list_any, Contains}
 use Rattle.std.specs.Ordering.{nat_cmp}
@@ -46,3 +47,21 @@ returns-clause-roots c =
     subst (λ xs. All (λ root. Contains xs root.0) c.args.roots.now) (sym c.reverse.ensures.items)
     (walk_roots c.args.bank.now c.args.roots.now (contains nat_cmp c.loop-place.waiting) c.loop-place.places.items c.loop-place.invariant
     (none_in c.loop-place.waiting.keys (zero_unless _ c.in_default.ensures.variant.1)))
+
+pub returns-in_err-insert_all-clause-order : goal.returns-in_err-insert_all-clause-order
+returns-in_err-insert_all-clause-order c = IfOk-from_err c.from_residual.result _ c.from_residual.ensures.0
+
+pub returns-in_err-insert_all-clause-roots : goal.returns-in_err-insert_all-clause-roots
+returns-in_err-insert_all-clause-roots c = IfOk-from_err c.from_residual.result _ c.from_residual.ensures.0
+
+pub returns-in_err-push-clause-order : goal.returns-in_err-push-clause-order
+returns-in_err-push-clause-order c = IfOk-from_err c.from_residual-in_err-push.result _ c.from_residual-in_err-push.ensures.0
+
+pub returns-in_err-push-clause-roots : goal.returns-in_err-push-clause-roots
+returns-in_err-push-clause-roots c = IfOk-from_err c.from_residual-in_err-push.result _ c.from_residual-in_err-push.ensures.0
+
+pub returns-in_err-insert_all-2-clause-order : goal.returns-in_err-insert_all-2-clause-order
+returns-in_err-insert_all-2-clause-order c = IfOk-from_err c.from_residual-in_err-insert_all-2.result _ c.from_residual-in_err-insert_all-2.ensures.0
+
+pub returns-in_err-insert_all-2-clause-roots : goal.returns-in_err-insert_all-2-clause-roots
+returns-in_err-insert_all-2-clause-roots c = IfOk-from_err c.from_residual-in_err-insert_all-2.result _ c.from_residual-in_err-insert_all-2.ensures.0

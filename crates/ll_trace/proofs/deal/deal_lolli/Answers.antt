@@ -19,3 +19,6 @@ returns-in_err-push-clause-dealt c = IfOk-from_err c.from_residual.result _ c.fr
 
 pub returns-in_err-push-clause-keeps : goal.returns-in_err-push-clause-keeps
 returns-in_err-push-clause-keeps c = IfOk-from_err c.from_residual.result _ c.from_residual.ensures.0
+
+pub returns-clause-keeps : goal.returns-clause-keeps
+returns-clause-keeps c = _

@@ -62,3 +62,6 @@ returns-in_err-right-clause-dealt c = IfOk-from_err c.from_residual-in_err-right
 
 pub returns-in_err-right-clause-keeps : goal.returns-in_err-right-clause-keeps
 returns-in_err-right-clause-keeps c = IfOk-from_err c.from_residual-in_err-right.result _ c.from_residual-in_err-right.ensures.0
+
+pub returns-clause-keeps : goal.returns-clause-keeps
+returns-clause-keeps c = _

@@ -1,3 +1,4 @@
+use Rattle.std.proofs.lemmas.Result.{IfOk-from_err}
 use Rattle.std.proofs.Common.{◌<◌, ◌≤◌, ℕ, List, length, arith}
 use Rattle.std.specs.Prelude.{codes}
 use Rattle.std.specs.Borrow.{Bor}
@@ -54,3 +55,27 @@ returns-clause-options c =
     let few : length words ≤ 7 = let h = c.if-words-gt7.false in omega arith in
     whole-bound_last words c.requires.front _ _ few (this-word words 3 (codes "--workers") c.requires.first) c.in_ok-workers.ensures c.in_ok-this_at.ensures
     c.in_ok-bound.ensures
+
+pub returns-in_err-workers-clause-bound : goal.returns-in_err-workers-clause-bound
+returns-in_err-workers-clause-bound c = IfOk-from_err c.from_residual.result _ c.from_residual.ensures.0
+
+pub returns-in_err-workers-clause-workers : goal.returns-in_err-workers-clause-workers
+returns-in_err-workers-clause-workers c = IfOk-from_err c.from_residual.result _ c.from_residual.ensures.0
+
+pub returns-in_err-this_at-clause-bound : goal.returns-in_err-this_at-clause-bound
+returns-in_err-this_at-clause-bound c = IfOk-from_err c.from_residual-in_err-this_at.result _ c.from_residual-in_err-this_at.ensures.0
+
+pub returns-in_err-this_at-clause-workers : goal.returns-in_err-this_at-clause-workers
+returns-in_err-this_at-clause-workers c = IfOk-from_err c.from_residual-in_err-this_at.result _ c.from_residual-in_err-this_at.ensures.0
+
+pub returns-in_err-bound-clause-bound : goal.returns-in_err-bound-clause-bound
+returns-in_err-bound-clause-bound c = IfOk-from_err c.from_residual-in_err-bound.result _ c.from_residual-in_err-bound.ensures.0
+
+pub returns-in_err-bound-clause-workers : goal.returns-in_err-bound-clause-workers
+returns-in_err-bound-clause-workers c = IfOk-from_err c.from_residual-in_err-bound.result _ c.from_residual-in_err-bound.ensures.0
+
+pub returns-then-words-gt7-clause-bound : goal.returns-then-words-gt7-clause-bound
+returns-then-words-gt7-clause-bound c = _
+
+pub returns-then-words-gt7-clause-workers : goal.returns-then-words-gt7-clause-workers
+returns-then-words-gt7-clause-workers c = _

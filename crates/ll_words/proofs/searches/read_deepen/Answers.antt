@@ -1,3 +1,4 @@
+use Rattle.std.proofs.lemmas.Result.{IfOk-from_err}
 use Rattle.std.proofs.Common.{refl}
 use Rattle.ll_words.specs.declared.searches.SearchForm.TheVariants.{Deepen}
 use Rattle.ll_words.specs.declared.searches.SearchOption.TheVariants.{Workers, From, By, To}
@@ -46,3 +47,18 @@ returns-clause-bound c =
       whole-series words _ _ c.in_ok-search.search.options _ c.in-Some-workers.is _ _ _ c.in-Some.is c.in-Some-by.is c.in-Some-to.is search,
       (workers.0, workers.1),
     )
+
+pub returns-in_err-search-clause-bound : goal.returns-in_err-search-clause-bound
+returns-in_err-search-clause-bound c = IfOk-from_err c.from_residual.result _ c.from_residual.ensures.0
+
+pub returns-in_default-clause-bound : goal.returns-in_default-clause-bound
+returns-in_default-clause-bound c = _
+
+pub returns-in_default-by-clause-bound : goal.returns-in_default-by-clause-bound
+returns-in_default-by-clause-bound c = _
+
+pub returns-in_default-to-clause-bound : goal.returns-in_default-to-clause-bound
+returns-in_default-to-clause-bound c = _
+
+pub returns-in_default-workers-clause-bound : goal.returns-in_default-workers-clause-bound
+returns-in_default-workers-clause-bound c = _

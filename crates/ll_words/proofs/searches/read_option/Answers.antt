@@ -1,3 +1,4 @@
+use Rattle.std.proofs.lemmas.Result.{IfOk-from_err}
 use Rattle.std.proofs.Common.{◌+◌, sym, subst}
 use Rattle.ll_words.specs.declared.searches.SearchOptions.{SearchOptions}
 use Rattle.ll_words.specs.Words.{word_texts}
@@ -35,3 +36,9 @@ returns-clause-read c =
     (value-read words c.args.form c.args.options c.args.at c.requires.read c.in-Some.option c.in-Some.ensures.1
     (text-at c.args.words.now c.args.at _ _ c.requires.within c.in-Some.ensures.0) _ _ _
     limits.0 limits.1 limits.2 c.in_ok-value.ensures)
+
+pub returns-in_default-clause-further : goal.returns-in_default-clause-further
+returns-in_default-clause-further c = _
+
+pub returns-in_err-value-clause-further : goal.returns-in_err-value-clause-further
+returns-in_err-value-clause-further c = IfOk-from_err c.from_residual.result _ c.from_residual.ensures.0

@@ -1,3 +1,4 @@
+use Rattle.std.proofs.lemmas.Result.{IfOk-from_err}
 use Rattle.std.proofs.Common.{refl}
 use Rattle.ll_words.specs.declared.searches.SearchForm.TheVariants.{Run}
 use Rattle.ll_words.specs.declared.searches.SearchOption.TheVariants.{Bound, Workers, First}
@@ -34,3 +35,12 @@ returns-clause-bound c =
     let bound = number-within words Run _ _ c.in_ok-search.search.options search Bound _ c.in-Some.is in
     let workers = number-within words Run _ _ c.in_ok-search.search.options search Workers _ c.in-Some-workers.is in
     (bound.1, (workers.0, workers.1), first-positive c.in_ok-search.search.options (search.read.within First))
+
+pub returns-in_err-search-clause-bound : goal.returns-in_err-search-clause-bound
+returns-in_err-search-clause-bound c = IfOk-from_err c.from_residual.result _ c.from_residual.ensures.0
+
+pub returns-in_default-clause-bound : goal.returns-in_default-clause-bound
+returns-in_default-clause-bound c = _
+
+pub returns-in_default-workers-clause-bound : goal.returns-in_default-workers-clause-bound
+returns-in_default-workers-clause-bound c = _

@@ -1,3 +1,4 @@
+use Rattle.std.proofs.lemmas.Result.{IfOk-from_err}
 use Rattle.std.proofs.Common.{ap, ◌∙◌}
 use Rattle.ll_words.specs.declared.words.FormWord.TheVariants as form
 use Rattle.ll_words.specs.Words.{word_texts}
@@ -75,3 +76,39 @@ returns-in-Make-clause-command c =
     let words = word_texts c.args.words.now in
     make-answer words (IsCommand words) c.read_make.result (first-same form.Make c.args.words.now c.in-Some.first c.in-Some.ensures.value
     (c.in-Some-form_of.ensures ∙ ap form_word c.in-Make.is)) c.read_make.ensures.command
+
+pub returns-in_default-clause-bound : goal.returns-in_default-clause-bound
+returns-in_default-clause-bound c = _
+
+pub returns-in_default-form_of-clause-bound : goal.returns-in_default-form_of-clause-bound
+returns-in_default-form_of-clause-bound c = _
+
+pub returns-in_err-read_run-in-Run-clause-bound : goal.returns-in_err-read_run-in-Run-clause-bound
+returns-in_err-read_run-in-Run-clause-bound c = IfOk-from_err c.from_residual.result _ c.from_residual.ensures.0
+
+pub returns-in_err-read_session-in-Session-clause-bound : goal.returns-in_err-read_session-in-Session-clause-bound
+returns-in_err-read_session-in-Session-clause-bound c =
+    IfOk-from_err c.from_residual-in_err-read_session-in-Session.result _ c.from_residual-in_err-read_session-in-Session.ensures.0
+
+pub returns-in_err-read_deepen-in-Deepen-clause-bound : goal.returns-in_err-read_deepen-in-Deepen-clause-bound
+returns-in_err-read_deepen-in-Deepen-clause-bound c =
+    IfOk-from_err c.from_residual-in_err-read_deepen-in-Deepen.result _ c.from_residual-in_err-read_deepen-in-Deepen.ensures.0
+
+pub returns-in_err-read_print-in-Print-clause-bound : goal.returns-in_err-read_print-in-Print-clause-bound
+returns-in_err-read_print-in-Print-clause-bound c =
+    IfOk-from_err c.from_residual-in_err-read_print-in-Print.result _ c.from_residual-in_err-read_print-in-Print.ensures.0
+
+pub returns-in_err-read_check-in-Check-clause-bound : goal.returns-in_err-read_check-in-Check-clause-bound
+returns-in_err-read_check-in-Check-clause-bound c =
+    IfOk-from_err c.from_residual-in_err-read_check-in-Check.result _ c.from_residual-in_err-read_check-in-Check.ensures.0
+
+pub returns-in_err-read_cover-in-Cover-clause-bound : goal.returns-in_err-read_cover-in-Cover-clause-bound
+returns-in_err-read_cover-in-Cover-clause-bound c =
+    IfOk-from_err c.from_residual-in_err-read_cover-in-Cover.result _ c.from_residual-in_err-read_cover-in-Cover.ensures.0
+
+pub returns-in_err-read_convert-in-Convert-clause-bound : goal.returns-in_err-read_convert-in-Convert-clause-bound
+returns-in_err-read_convert-in-Convert-clause-bound c =
+    IfOk-from_err c.from_residual-in_err-read_convert-in-Convert.result _ c.from_residual-in_err-read_convert-in-Convert.ensures.0
+
+pub returns-in_ok-read_print-in-Print-clause-bound : goal.returns-in_ok-read_print-in-Print-clause-bound
+returns-in_ok-read_print-in-Print-clause-bound c = _

@@ -1,3 +1,4 @@
+use Rattle.std.proofs.lemmas.Result.{IfOk-from_err}
 use Rattle.std.proofs.Common.{◌<◌, ◌≤◌, ℕ, List, length, refl, arith}
 use Rattle.std.specs.Borrow.{Bor}
 use Rattle.std.proofs.lemmas.List.{length-map}
@@ -48,3 +49,15 @@ pub returns-clause-version : goal.returns-clause-version
 returns-clause-version c =
     let words = word_texts c.args.words.now in
     version-is words c.requires (has-name words 1 _ c.in_ok-proof.ensures.0 c.in_ok-proof.ensures.1) c.in_ok-this_at.ensures _ c.in_ok-version.ensures
+
+pub returns-in_err-proof-clause-version : goal.returns-in_err-proof-clause-version
+returns-in_err-proof-clause-version c = IfOk-from_err c.from_residual.result _ c.from_residual.ensures.0
+
+pub returns-in_err-this_at-clause-version : goal.returns-in_err-this_at-clause-version
+returns-in_err-this_at-clause-version c = IfOk-from_err c.from_residual-in_err-this_at.result _ c.from_residual-in_err-this_at.ensures.0
+
+pub returns-in_err-version-clause-version : goal.returns-in_err-version-clause-version
+returns-in_err-version-clause-version c = IfOk-from_err c.from_residual-in_err-version.result _ c.from_residual-in_err-version.ensures.0
+
+pub returns-then-words-gt4-clause-version : goal.returns-then-words-gt4-clause-version
+returns-then-words-gt4-clause-version c = _

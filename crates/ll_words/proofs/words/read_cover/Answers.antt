@@ -1,3 +1,4 @@
+use Rattle.std.proofs.lemmas.Result.{IfOk-from_err}
 use Rattle.std.proofs.Common.{◌<◌, ◌≤◌, ℕ, List, length, refl, arith}
 use Rattle.std.specs.Borrow.{Bor}
 use Rattle.std.proofs.lemmas.List.{length-map}
@@ -64,3 +65,21 @@ returns-clause-cover c =
     (has-name words 3 _ c.in_ok-proof.ensures.0 c.in_ok-proof.ensures.1) c.in_ok-this_at.ensures _ c.in_ok-bound.ensures _ refl c.in_ok-program.ensures.0
     c.in_ok-query.ensures.0
     c.in_ok-proof.ensures.0 few
+
+pub returns-in_err-program-clause-bound : goal.returns-in_err-program-clause-bound
+returns-in_err-program-clause-bound c = IfOk-from_err c.from_residual.result _ c.from_residual.ensures.0
+
+pub returns-in_err-query-clause-bound : goal.returns-in_err-query-clause-bound
+returns-in_err-query-clause-bound c = IfOk-from_err c.from_residual-in_err-query.result _ c.from_residual-in_err-query.ensures.0
+
+pub returns-in_err-proof-clause-bound : goal.returns-in_err-proof-clause-bound
+returns-in_err-proof-clause-bound c = IfOk-from_err c.from_residual-in_err-proof.result _ c.from_residual-in_err-proof.ensures.0
+
+pub returns-in_err-this_at-clause-bound : goal.returns-in_err-this_at-clause-bound
+returns-in_err-this_at-clause-bound c = IfOk-from_err c.from_residual-in_err-this_at.result _ c.from_residual-in_err-this_at.ensures.0
+
+pub returns-in_err-bound-clause-bound : goal.returns-in_err-bound-clause-bound
+returns-in_err-bound-clause-bound c = IfOk-from_err c.from_residual-in_err-bound.result _ c.from_residual-in_err-bound.ensures.0
+
+pub returns-then-words-gt6-clause-bound : goal.returns-then-words-gt6-clause-bound
+returns-then-words-gt6-clause-bound c = _

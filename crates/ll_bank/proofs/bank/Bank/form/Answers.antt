@@ -1,3 +1,4 @@
+use Rattle.std.proofs.lemmas.Result.{IfOk-from_err}
 use Rattle.std.proofs.Common.{◌∙◌, ap}
 use Rattle.ll_bank.specs.Nodes.{node_of}
 use Rattle.ll_bank.proofs.Trees.{Extends-same}
@@ -23,3 +24,12 @@ pub returns-clause-keeps : goal.returns-clause-keeps
 returns-clause-keeps c =
     form_extends c.self.inside.flat.nodes c.args.self.now c.self.view_is c.self.inside.flat.depths c.self.invariant c.push_form.new.self.nodes
     (node_of c.args.node) (ap (λ f. f.nodes) c.in_ok-push_form.ensures.added)
+
+pub returns-in_err-push_form-clause-shows : goal.returns-in_err-push_form-clause-shows
+returns-in_err-push_form-clause-shows c = IfOk-from_err c.from_residual.result _ c.from_residual.ensures.0
+
+pub returns-in_err-push_form-clause-added : goal.returns-in_err-push_form-clause-added
+returns-in_err-push_form-clause-added c = IfOk-from_err c.from_residual.result _ c.from_residual.ensures.0
+
+pub returns-clause-refused : goal.returns-clause-refused
+returns-clause-refused c = _

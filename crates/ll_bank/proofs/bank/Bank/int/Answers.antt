@@ -1,3 +1,4 @@
+use Rattle.std.proofs.lemmas.Result.{IfOk-from_err}
 use Rattle.std.proofs.Common.{rules, refl, ap, ◌∙◌}
 use Rattle.ll_bank.specs.Nodes.{IntNode}
 use Rattle.ll_bank.proofs.Trees.{Extends-same}
@@ -26,3 +27,12 @@ returns-clause-keeps c =
     term_extends c.self.inside.flat.nodes c.args.self.now c.self.view_is c.self.inside.flat.depths c.self.invariant c.push_int.new.self.nodes
     (IntNode c.args.value)
     (exact_int c.self.inside.flat.nodes c.push_int.new.self.nodes c.args.value (search rules) (ap (λ f. f.nodes) c.in_ok-push_int.ensures.added))
+
+pub returns-in_err-push_int-clause-shows : goal.returns-in_err-push_int-clause-shows
+returns-in_err-push_int-clause-shows c = IfOk-from_err c.from_residual.result _ c.from_residual.ensures.0
+
+pub returns-in_err-push_int-clause-added : goal.returns-in_err-push_int-clause-added
+returns-in_err-push_int-clause-added c = IfOk-from_err c.from_residual.result _ c.from_residual.ensures.0
+
+pub returns-clause-refused : goal.returns-clause-refused
+returns-clause-refused c = _

@@ -1,3 +1,4 @@
+use Rattle.std.proofs.lemmas.Result.{IfOk-from_err}
 use Rattle.std.proofs.Common.{refl, ap, ◌∙◌}
 use Rattle.ll_bank.specs.Nodes.{VarNode}
 use Rattle.ll_bank.proofs.Trees.{Extends-same}
@@ -24,3 +25,12 @@ returns-clause-keeps c =
     term_extends c.self.inside.flat.nodes c.args.self.now c.self.view_is c.self.inside.flat.depths c.self.invariant c.push_var.new.self.nodes
     (VarNode c.args.number)
     (ap (λ f. f.nodes) c.in_ok-push_var.ensures.added)
+
+pub returns-in_err-push_var-clause-shows : goal.returns-in_err-push_var-clause-shows
+returns-in_err-push_var-clause-shows c = IfOk-from_err c.from_residual.result _ c.from_residual.ensures.0
+
+pub returns-in_err-push_var-clause-added : goal.returns-in_err-push_var-clause-added
+returns-in_err-push_var-clause-added c = IfOk-from_err c.from_residual.result _ c.from_residual.ensures.0
+
+pub returns-clause-refused : goal.returns-clause-refused
+returns-clause-refused c = _

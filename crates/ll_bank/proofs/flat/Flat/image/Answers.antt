@@ -1,3 +1,4 @@
+use Rattle.std.proofs.lemmas.Result.{IfOk-from_err}
 use Rattle.std.proofs.Common.{ap, sym, ◌∙◌, take, length}
 use Rattle.std.proofs.lemmas.List.{length-take-le}
 use Rattle.ll_bank.specs.Kept.{deep_front}
@@ -42,3 +43,15 @@ returns c =
     (c.in_ok-terms.ensures.items ∙ ap (take c.args.size.terms) c.deref.ensures.value)
     (c.in_ok-forms.ensures.items ∙ ap (take c.args.size.forms) c.deref-2.ensures.value)
     ∙ ap (λ n. deep_front n c.args.size) c.self.view_is
+
+pub returns-in_err-terms : goal.returns-in_err-terms
+returns-in_err-terms c = IfOk-from_err c.from_residual.result _ c.from_residual.ensures.0
+
+pub returns-in_err-forms : goal.returns-in_err-forms
+returns-in_err-forms c = IfOk-from_err c.from_residual-in_err-forms.result _ c.from_residual-in_err-forms.ensures.0
+
+pub returns-in_err-arguments : goal.returns-in_err-arguments
+returns-in_err-arguments c = IfOk-from_err c.from_residual-in_err-arguments.result _ c.from_residual-in_err-arguments.ensures.0
+
+pub returns-in_err-load_arguments : goal.returns-in_err-load_arguments
+returns-in_err-load_arguments c = IfOk-from_err c.from_residual-in_err-load_arguments.result _ c.from_residual-in_err-load_arguments.ensures.0

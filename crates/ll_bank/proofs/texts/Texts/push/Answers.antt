@@ -1,3 +1,4 @@
+use Rattle.std.proofs.lemmas.Result.{IfOk-from_err}
 use Rattle.std.proofs.Common.{◌≡◌, ◌++◌, ◌∷◌, Some, None, [], map, length, ap, sym, subst, ◌∙◌}
 use Rattle.std.proofs.lemmas.List.{map-append, length-map}
 use Rattle.std.proofs.lemmas.Map.Text.{hash_map_updates_text}
@@ -24,3 +25,21 @@ invariant_of-self-2 c =
     rw items (placed_push texts (get_by_text c.self.inside.places) (get_by_text c.insert.new.self) text c.self.invariant none
     (λ other. hash_map_updates_text (string_bytes c.in_ok-key.key) c.self.inside.places c.insert.new.self _ c.in_ok-insert.ensures.updates other
     ∙ (λ i. update bytes_eq (get_by_text c.self.inside.places) (key i) (Some (last i)) other)))
+
+pub returns-in_err-owned-clause-pushed : goal.returns-in_err-owned-clause-pushed
+returns-in_err-owned-clause-pushed c = IfOk-from_err c.from_residual.result _ c.from_residual.ensures.0
+
+pub returns-in_err-key-clause-pushed : goal.returns-in_err-key-clause-pushed
+returns-in_err-key-clause-pushed c = IfOk-from_err c.from_residual-in_err-key.result _ c.from_residual-in_err-key.ensures.0
+
+pub returns-in_err-reserve-clause-pushed : goal.returns-in_err-reserve-clause-pushed
+returns-in_err-reserve-clause-pushed c = IfOk-from_err c.from_residual-in_err-reserve.result _ c.from_residual-in_err-reserve.ensures.0
+
+pub returns-in_err-insert-clause-pushed : goal.returns-in_err-insert-clause-pushed
+returns-in_err-insert-clause-pushed c = IfOk-from_err c.from_residual-in_err-insert.result _ c.from_residual-in_err-insert.ensures.0
+
+pub returns-in_err-push-clause-pushed : goal.returns-in_err-push-clause-pushed
+returns-in_err-push-clause-pushed c = IfOk-from_err c.from_residual-in_err-push.result _ c.from_residual-in_err-push.ensures.0
+
+pub returns-clause-refused : goal.returns-clause-refused
+returns-clause-refused c = _

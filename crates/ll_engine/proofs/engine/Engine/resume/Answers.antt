@@ -1,3 +1,4 @@
+use Rattle.std.proofs.lemmas.Result.{IfOk-from_err}
 use Rattle.std.proofs.Common.{◌∙◌}
 use Rattle.ll_engine.specs.Pointed.{spine_of}
 use Rattle.ll_engine.proofs.turns.Resuming.{healthy_begins, resumes_with, resumes_owing}
@@ -16,3 +17,9 @@ returns-clause-owes c =
     let z = c.in_ok-spine.spine in
     λ owes g. resumes_owing c.args.frozen.now c.args.k c.args.problem.now _ owes
     (c.begun.ensures ∙ resumes_with c.args.frozen.now c.args.k z.began (spine_of z) c.in_ok-spine.ensures.begins) c.requires.of g
+
+pub returns-in_err-spine-clause-resumed : goal.returns-in_err-spine-clause-resumed
+returns-in_err-spine-clause-resumed c = IfOk-from_err c.from_residual.result _ c.from_residual.ensures.0
+
+pub returns-in_err-spine-clause-owes : goal.returns-in_err-spine-clause-owes
+returns-in_err-spine-clause-owes c = IfOk-from_err c.from_residual.result _ c.from_residual.ensures.0

@@ -1,3 +1,4 @@
+use Rattle.std.proofs.lemmas.Result.{IfOk-from_err}
 use Rattle.std.proofs.Common.{◌∙◌}
 use Rattle.std.specs.Arc.{arc_value}
 use Rattle.ll_engine.specs.Pointed.{spine_of}
@@ -17,3 +18,9 @@ returns-clause-owes c =
     let z = c.in_ok-spine.spine in
     λ owes g. resumes_owing (arc_value c.args.frozen) c.args.k c.args.problem.now _ owes
     (c.begun.ensures ∙ resumes_with (arc_value c.args.frozen) c.args.k z.began (spine_of z) c.in_ok-spine.ensures.begins) c.requires.of g
+
+pub returns-in_err-spine-clause-resumed : goal.returns-in_err-spine-clause-resumed
+returns-in_err-spine-clause-resumed c = IfOk-from_err c.from_residual.result _ c.from_residual.ensures.0
+
+pub returns-in_err-spine-clause-owes : goal.returns-in_err-spine-clause-owes
+returns-in_err-spine-clause-owes c = IfOk-from_err c.from_residual.result _ c.from_residual.ensures.0

@@ -1,3 +1,4 @@
+use Rattle.std.proofs.lemmas.Result.{IfOk-from_err}
 use Rattle.std.proofs.Common.{arith, subst, false, ◌+◌}
 use Rattle.ll_engine.specs.Seen.{Owing}
 use Rattle.ll_engine.specs.Owed.{owing}
@@ -22,3 +23,18 @@ returns-clause-split c =
     subst (λ (x : Owing). SplitsTo x b (owing (spine_of c.split.new.self) i.running i.made (i.splits + 1) false))
     (seen (spine_of i.spine) i.running i.made i.splits i.spent c.args.self.now c.self.view_is c.if-self.false)
     (splits_to (spine_of i.spine) (spine_of c.split.new.self) b i.running i.made i.splits (i.splits + 1) c.in_ok-batch.ensures.takes (omega arith))
+
+pub returns-then-self-clause-split : goal.returns-then-self-clause-split
+returns-then-self-clause-split c = _
+
+pub returns-then-is_over-clause-refused : goal.returns-then-is_over-clause-refused
+returns-then-is_over-clause-refused c = _
+
+pub returns-then-self-2-clause-split : goal.returns-then-self-2-clause-split
+returns-then-self-2-clause-split c = _
+
+pub returns-in_err-batch-clause-split : goal.returns-in_err-batch-clause-split
+returns-in_err-batch-clause-split c = IfOk-from_err c.from_residual.result _ c.from_residual.ensures.0
+
+pub returns-clause-refused : goal.returns-clause-refused
+returns-clause-refused c = _

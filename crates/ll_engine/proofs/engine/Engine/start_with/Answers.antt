@@ -1,3 +1,4 @@
+use Rattle.std.proofs.lemmas.Result.{IfOk-from_err}
 use Rattle.ll_laws.specs.Problem.{start_of}
 use Rattle.ll_engine.specs.Pointed.{spine_of}
 use Rattle.ll_engine.proofs.turns.Stepping.{healthy_start}
@@ -10,3 +11,6 @@ invariant_of-result c =
       healthy_start (spine_of c.in_ok-spine.spine) c.args.problem.now (start_of c.args.problem.now)
           c.in_ok-spine.ensures.start,
     )
+
+pub returns-in_err-spine : goal.returns-in_err-spine
+returns-in_err-spine c = IfOk-from_err c.from_residual.result _ c.from_residual.ensures.0

@@ -1,3 +1,4 @@
+use Rattle.std.proofs.lemmas.Result.{IfOk-from_err}
 use Rattle.std.specs.List.{Contains}
 use Rattle.std.proofs.Common.{refl, sym, subst, List, [], ◌∷◌, ◌++◌, reverse, ◌-◌}
 use Rattle.ll_lists.proofs.CallerLemmas.{All-front, All-last as All-end}
@@ -44,3 +45,15 @@ returns-clause-chose c =
     (chose_some (first_of z) z.problem.now (parts_of z.machine) (parts_of m) (helds z.machine z.points.items) (helds z.machine ps)
     (c.args.untried.items ++ c.args.candidate ∷ []) c.args.untried.items c.args.candidate
     c.in_ok-running.running refl c.requires.open.problem c.in_ok-keep.ensures.puts c.in_ok-running.ensures.attempts)
+
+pub returns-in_err-keep-clause-sound : goal.returns-in_err-keep-clause-sound
+returns-in_err-keep-clause-sound c = IfOk-from_err c.from_residual.result _ c.from_residual.ensures.0
+
+pub returns-in_err-keep-clause-chose : goal.returns-in_err-keep-clause-chose
+returns-in_err-keep-clause-chose c = IfOk-from_err c.from_residual.result _ c.from_residual.ensures.0
+
+pub returns-in_err-running-clause-sound : goal.returns-in_err-running-clause-sound
+returns-in_err-running-clause-sound c = IfOk-from_err c.from_residual-in_err-running.result _ c.from_residual-in_err-running.ensures.0
+
+pub returns-in_err-running-clause-chose : goal.returns-in_err-running-clause-chose
+returns-in_err-running-clause-chose c = IfOk-from_err c.from_residual-in_err-running.result _ c.from_residual-in_err-running.ensures.0

@@ -1,3 +1,4 @@
+use Rattle.std.proofs.lemmas.Result.{IfOk-from_err}
 use Rattle.std.proofs.Common.{◌∙◌, ◌++◌, ◌∷◌, []}
 use Rattle.ll_lists.proofs.CallerLemmas.{IfOk-each}
 use Rattle.ll_freeze.specs.Parts.{parts_of}
@@ -39,3 +40,9 @@ returns-in_default-clause-sound c =
 
 pub returns-clause-sound : goal.returns-clause-sound
 returns-clause-sound c = c.choose.ensures.sound
+
+pub returns-in_err-found-clause-sound : goal.returns-in_err-found-clause-sound
+returns-in_err-found-clause-sound c = IfOk-from_err c.from_residual.result _ c.from_residual.ensures.0
+
+pub returns-in_err-found-clause-expands : goal.returns-in_err-found-clause-expands
+returns-in_err-found-clause-expands c = IfOk-from_err c.from_residual.result _ c.from_residual.ensures.0

@@ -1,3 +1,4 @@
+use Rattle.std.proofs.lemmas.Result.{IfOk-from_err}
 use Rattle.std.proofs.Common.{sym, subst, List}
 use Rattle.ll_freeze.specs.Parts.{parts_of}
 use Rattle.ll_freeze.proofs.CallerLemmas.{keeps}
@@ -27,3 +28,9 @@ returns-clause-settles c =
     subst (λ (hs : List Held). Settles (spine_of z) c.in_ok-ok.ok (spine_at (first_of z) z.problem.now (parts_of m) hs))
     (sym (helds_kept z.machine m ps (keeps z.machine m c.in_ok-ok.ensures.later) c.requires.sound.marks.good))
     (settles (first_of z) z.problem.now (parts_of z.machine) (parts_of m) (helds z.machine ps) c.in_ok-ok.ok c.in_ok-ok.ensures.settles c.in_ok-ok.ensures.same)
+
+pub returns-in_err-ok-clause-sound : goal.returns-in_err-ok-clause-sound
+returns-in_err-ok-clause-sound c = IfOk-from_err c.from_residual.result _ c.from_residual.ensures.0
+
+pub returns-in_err-ok-clause-settles : goal.returns-in_err-ok-clause-settles
+returns-in_err-ok-clause-settles c = IfOk-from_err c.from_residual.result _ c.from_residual.ensures.0

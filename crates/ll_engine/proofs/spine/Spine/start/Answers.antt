@@ -1,3 +1,4 @@
+use Rattle.std.proofs.lemmas.Result.{IfOk-from_err}
 use Rattle.std.proofs.Common.{true}
 use Rattle.ll_engine.proofs.machine.Basing.{begun_alone}
 use Rattle.ll_engine.proofs.spine.Spine.start.Goals as goal
@@ -7,3 +8,9 @@ returns-clause-sound c =
     let e = c.in_ok-machine.ensures in
     let b = begun_alone c.args.problem.now c.in_ok-machine.machine c.new-points.result.items true c.new-points.ensures.items (e.fits, e.problem) in
     record { index = c.requires.index; sound = b.0; marks = b.1; based = tt }
+
+pub returns-in_err-machine-clause-sound : goal.returns-in_err-machine-clause-sound
+returns-in_err-machine-clause-sound c = IfOk-from_err c.from_residual.result _ c.from_residual.ensures.0
+
+pub returns-in_err-machine-clause-start : goal.returns-in_err-machine-clause-start
+returns-in_err-machine-clause-start c = IfOk-from_err c.from_residual.result _ c.from_residual.ensures.0

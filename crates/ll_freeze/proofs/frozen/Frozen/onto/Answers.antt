@@ -1,3 +1,4 @@
+use Rattle.std.proofs.lemmas.Result.{IfOk-from_err}
 use Rattle.std.proofs.Common.{◌≡◌, ℕ, refl, sym, ap, subst, suc, ◌+◌, ◌∙◌, ◌≤◌, arith}
 use Rattle.ll_store.specs.Stored.{stored, state_at}
 use Rattle.ll_store.specs.Layered.{LayersSight}
@@ -33,3 +34,12 @@ returns c =
   where
     next : {a b : ℕ} → a ≡ b → suc a ≡ b + 1
     next e = omega (arith, e)
+
+pub returns-in_err-untried : goal.returns-in_err-untried
+returns-in_err-untried c = IfOk-from_err c.from_residual.result _ c.from_residual.ensures.0
+
+pub returns-in_err-layers : goal.returns-in_err-layers
+returns-in_err-layers c = IfOk-from_err c.from_residual-in_err-layers.result _ c.from_residual-in_err-layers.ensures.0
+
+pub returns-in_err-rest : goal.returns-in_err-rest
+returns-in_err-rest c = IfOk-from_err c.from_residual-in_err-rest.result _ c.from_residual-in_err-rest.ensures.0

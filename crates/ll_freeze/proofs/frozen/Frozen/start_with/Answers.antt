@@ -1,3 +1,4 @@
+use Rattle.std.proofs.lemmas.Result.{IfOk-from_err}
 use Rattle.std.proofs.Common.{sym, subst, ◌≤◌, arith}
 use Rattle.std.specs.Arc.{arc_value}
 use Rattle.ll_laws.specs.Problem.{ProblemTree}
@@ -29,3 +30,12 @@ pub returns : goal.returns
 returns c =
     (starts c.args.problem.now (parts_of c.in_ok-machine.machine) c.parted-rest.result.0 (store_of (stored c.parted-rest.result.1)) c.in_ok-layers.layers
     c.in_ok-untried.untried.items c.in_ok-machine.ensures c.parted-rest.ensures c.in_ok-layers.ensures c.in_ok-untried.ensures.items).sight
+
+pub returns-in_err-untried : goal.returns-in_err-untried
+returns-in_err-untried c = IfOk-from_err c.from_residual.result _ c.from_residual.ensures.0
+
+pub returns-in_err-machine : goal.returns-in_err-machine
+returns-in_err-machine c = IfOk-from_err c.from_residual-in_err-machine.result _ c.from_residual-in_err-machine.ensures.0
+
+pub returns-in_err-layers : goal.returns-in_err-layers
+returns-in_err-layers c = IfOk-from_err c.from_residual-in_err-layers.result _ c.from_residual-in_err-layers.ensures.0

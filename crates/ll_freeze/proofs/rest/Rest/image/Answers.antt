@@ -1,3 +1,4 @@
+use Rattle.std.proofs.lemmas.Result.{IfOk-from_err}
 use Rattle.std.proofs.Common.{refl, ap, ◌∙◌, arith}
 use Rattle.std.proofs.lemmas.List.{take_all}
 use Rattle.ll_freeze.specs.declared.rest.Rest.{Rest}
@@ -35,3 +36,15 @@ returns c =
     })
     (ap (λ h. h.present) c.in_ok-context.ensures.image ∙ c.mark.ensures.state) c.in_ok-agenda.ensures.list refl refl
     (c.in_ok-steps.ensures ∙ take_all c.len-2.result r.steps.items (omega (arith, c.len-2.ensures))) fits
+
+pub returns-in_err-context : goal.returns-in_err-context
+returns-in_err-context c = IfOk-from_err c.from_residual.result _ c.from_residual.ensures.0
+
+pub returns-in_err-agenda : goal.returns-in_err-agenda
+returns-in_err-agenda c = IfOk-from_err c.from_residual-in_err-agenda.result _ c.from_residual-in_err-agenda.ensures.0
+
+pub returns-in_err-terms : goal.returns-in_err-terms
+returns-in_err-terms c = IfOk-from_err c.from_residual-in_err-terms.result _ c.from_residual-in_err-terms.ensures.0
+
+pub returns-in_err-steps : goal.returns-in_err-steps
+returns-in_err-steps c = IfOk-from_err c.from_residual-in_err-steps.result _ c.from_residual-in_err-steps.ensures.0

@@ -1,3 +1,4 @@
+use Rattle.std.proofs.lemmas.Result.{IfOk-from_err}
 use Rattle.std.proofs.Common.{refl, ap}
 use Rattle.ll_bank.specs.Nodes.{form_tree}
 use Rattle.ll_index.specs.declared.leaves.Walk.{Walk}
@@ -30,3 +31,15 @@ loop-part-preserved c =
 pub loop-part-smaller : goal.loop-part-smaller
 loop-part-smaller c = walk-smaller c.args.bank.now c.loop-part.self.waiting.items c.pop.new.self.items c.in-Some.part _ c.in-Some.ensures.items
     c.in_ok-leaf.ensures.smaller
+
+pub returns-in_err-put-clause-idle : goal.returns-in_err-put-clause-idle
+returns-in_err-put-clause-idle c = IfOk-from_err c.from_residual.result _ c.from_residual.ensures.0
+
+pub returns-in_err-put-clause-added : goal.returns-in_err-put-clause-added
+returns-in_err-put-clause-added c = IfOk-from_err c.from_residual.result _ c.from_residual.ensures.0
+
+pub returns-in_err-leaf-clause-idle : goal.returns-in_err-leaf-clause-idle
+returns-in_err-leaf-clause-idle c = IfOk-from_err c.from_residual-in_err-leaf.result _ c.from_residual-in_err-leaf.ensures.0
+
+pub returns-in_err-leaf-clause-added : goal.returns-in_err-leaf-clause-added
+returns-in_err-leaf-clause-added c = IfOk-from_err c.from_residual-in_err-leaf.result _ c.from_residual-in_err-leaf.ensures.0

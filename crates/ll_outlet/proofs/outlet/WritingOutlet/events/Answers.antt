@@ -134,3 +134,12 @@ pub returns-clause-welcome_kept : goal.returns-clause-welcome_kept
 returns-clause-welcome_kept g c =
     welcome_still _ c.loop-event.invariant (each_ready (IsWelcome c.args.self.now.problem.now) _ c.loop-event.invariant.some c.requires) refl refl
     c.write_waiting.ensures.none
+
+pub returns-then-is_empty-clause-refused : goal.returns-then-is_empty-clause-refused
+returns-then-is_empty-clause-refused g c = _
+
+pub returns-in_default-clause-taken : goal.returns-in_default-clause-taken
+returns-in_default-clause-taken g c = _
+
+pub returns-in-Err-clause-taken : goal.returns-in-Err-clause-taken
+returns-in-Err-clause-taken g c = _

@@ -1,3 +1,4 @@
+use Rattle.std.proofs.lemmas.Result.{IfOk-from_err}
 use Rattle.std.proofs.Common.{refl}
 use Rattle.ll_lists.proofs.CallerLemmas.{OnErr-always}
 use Rattle.ll_parser.proofs.stored.StoredLemmas.{still_kept, same_view, added, added_kept, parts_below}
@@ -33,3 +34,18 @@ pub returns-clause-added : goal.returns-clause-added
 returns-clause-added c =
     added c.self.inside.args.items c.kept_row.new.args.items c.in_ok-row.ensures.behind c.self.inside.rows.items c.push.new.self.items c.self.invariant
     c.args.self.now c.self.view_is c.in_ok-row.row c.in_ok-push.ensures.items _ c.in_ok-row.ensures.node
+
+pub returns-in_err-row-clause-place : goal.returns-in_err-row-clause-place
+returns-in_err-row-clause-place c = IfOk-from_err c.from_residual.result _ c.from_residual.ensures.0
+
+pub returns-in_err-row-clause-added : goal.returns-in_err-row-clause-added
+returns-in_err-row-clause-added c = IfOk-from_err c.from_residual.result _ c.from_residual.ensures.0
+
+pub returns-in_err-push-clause-place : goal.returns-in_err-push-clause-place
+returns-in_err-push-clause-place c = IfOk-from_err c.from_residual-in_err-push.result _ c.from_residual-in_err-push.ensures.0
+
+pub returns-in_err-push-clause-added : goal.returns-in_err-push-clause-added
+returns-in_err-push-clause-added c = IfOk-from_err c.from_residual-in_err-push.result _ c.from_residual-in_err-push.ensures.0
+
+pub returns-clause-refused : goal.returns-clause-refused
+returns-clause-refused c = _

@@ -1,3 +1,4 @@
+use Rattle.std.proofs.lemmas.Result.{IfOk-from_err}
 use Rattle.std.proofs.Common.{◌∙◌, ap, false, List, sym}
 use Rattle.ll_parser.specs.Flat.{Pending, want, flat_step}
 use Rattle.ll_parser.specs.FlatText.{enter, phase_step, boundary}
@@ -17,3 +18,9 @@ returns-in_ok-next-in_default c =
     ∙ ap (λ (ps : List Pending). enter (whole_view (known texts) c.args.self.now) (current_view (known texts) c.args.self.now) false
     (flat_step (want ps) (symbol_tok (known texts) c.args.symbol))) (sym (begins-idle c.args.self.now.waiting c.requires.idle (known texts))))
     c.in_ok-next-in_default.ensures
+
+pub returns-in_err-close_module-in-Module : goal.returns-in_err-close_module-in-Module
+returns-in_err-close_module-in-Module c = IfOk-from_err c.from_residual.result _ c.from_residual.ensures.0
+
+pub returns-in_err-next-in_default : goal.returns-in_err-next-in_default
+returns-in_err-next-in_default c = IfOk-from_err c.from_residual-in_err-next-in_default.result _ c.from_residual-in_err-next-in_default.ensures.0

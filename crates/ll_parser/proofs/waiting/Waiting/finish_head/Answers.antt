@@ -1,3 +1,4 @@
+use Rattle.std.proofs.lemmas.Result.{IfOk-from_err}
 use Rattle.std.proofs.Common.{refl}
 use Rattle.ll_parser.proofs.stored.Shown.{finished-head, rest-of}
 use Rattle.ll_parser.proofs.waiting.Waiting.finish_head.Goals as goal
@@ -8,3 +9,9 @@ returns-clause-gives c =
     c.in_ok-at.at c.args.from _
     (rest-of c.as_slice-args.result.now c.args.self.now.args.items c.args.from c.as_slice-args.ensures.value) c.requires c.in_ok-at.ensures.place
     c.in_ok-at.ensures.added c.truncate.ensures.items refl
+
+pub returns-in_err-at-clause-gives : goal.returns-in_err-at-clause-gives
+returns-in_err-at-clause-gives c = IfOk-from_err c.from_residual.result _ c.from_residual.ensures.0
+
+pub returns-in_err-at-clause-grows : goal.returns-in_err-at-clause-grows
+returns-in_err-at-clause-grows c = IfOk-from_err c.from_residual.result _ c.from_residual.ensures.0

@@ -12,3 +12,6 @@ invariant_of-self-2 c =
 
 pub returns-in_err-push-clause-opened : goal.returns-in_err-push-clause-opened
 returns-in_err-push-clause-opened c = IfOk-from_err c.from_residual.result _ c.from_residual.ensures.0
+
+pub returns-clause-refused : goal.returns-clause-refused
+returns-clause-refused c = _

@@ -37,3 +37,9 @@ returns-in_err-push-clause-added c = IfOk-from_err c.from_residual.result _ c.fr
 
 pub returns-in_err-push-clause-number : goal.returns-in_err-push-clause-number
 returns-in_err-push-clause-number c = IfOk-from_err c.from_residual.result _ c.from_residual.ensures.0
+
+pub returns-in-Err-clause-number : goal.returns-in-Err-clause-number
+returns-in-Err-clause-number c = _
+
+pub returns-in-Err-clause-added : goal.returns-in-Err-clause-added
+returns-in-Err-clause-added c = _

@@ -93,3 +93,54 @@ returns-clause-names c = names_read c.args.text.now c.args.names.now c.loop-line
 
 pub returns-clause-grows : goal.returns-clause-grows
 returns-clause-grows c = c.loop-line.invariant.grows
+
+pub returns-in_default-clause-ok : goal.returns-in_default-clause-ok
+returns-in_default-clause-ok c = _
+
+pub returns-in_default-clause-terms : goal.returns-in_default-clause-terms
+returns-in_default-clause-terms c = _
+
+pub returns-in_default-clause-rules : goal.returns-in_default-clause-rules
+returns-in_default-clause-rules c = _
+
+pub returns-in_default-clause-names : goal.returns-in_default-clause-names
+returns-in_default-clause-names c = _
+
+pub returns-then-self-eq0-clause-ok : goal.returns-then-self-eq0-clause-ok
+returns-then-self-eq0-clause-ok c = _
+
+pub returns-then-self-eq0-clause-terms : goal.returns-then-self-eq0-clause-terms
+returns-then-self-eq0-clause-terms c = _
+
+pub returns-then-self-eq0-clause-rules : goal.returns-then-self-eq0-clause-rules
+returns-then-self-eq0-clause-rules c = _
+
+pub returns-then-self-eq0-clause-names : goal.returns-then-self-eq0-clause-names
+returns-then-self-eq0-clause-names c = _
+
+pub returns-in-Err-clause-ok : goal.returns-in-Err-clause-ok
+returns-in-Err-clause-ok c = _
+
+pub returns-in-Err-clause-terms : goal.returns-in-Err-clause-terms
+returns-in-Err-clause-terms c = _
+
+pub returns-in-Err-clause-rules : goal.returns-in-Err-clause-rules
+returns-in-Err-clause-rules c = _
+
+pub returns-in-Err-clause-names : goal.returns-in-Err-clause-names
+returns-in-Err-clause-names c = _
+
+pub returns-then-self-gt0-clause-ok : goal.returns-then-self-gt0-clause-ok
+returns-then-self-gt0-clause-ok c = _
+
+pub returns-then-self-gt0-clause-terms : goal.returns-then-self-gt0-clause-terms
+returns-then-self-gt0-clause-terms c = _
+
+pub returns-then-self-gt0-clause-rules : goal.returns-then-self-gt0-clause-rules
+returns-then-self-gt0-clause-rules c = _
+
+pub returns-then-self-gt0-clause-names : goal.returns-then-self-gt0-clause-names
+returns-then-self-gt0-clause-names c = _
+
+pub returns-clause-err : goal.returns-clause-err
+returns-clause-err c = _

@@ -53,3 +53,9 @@ pub returns-in_err-at-clause-err : goal.returns-in_err-at-clause-err
 returns-in_err-at-clause-err c = let p = err_from_is_err_and c.from_residual.result c.from_residual.ensures.1 in
     rw (p.1, p.2) (takes_refused c.args.self.now.nodes.items c.args.line.now c.args.self.now.nodes.len c.in_err-at.field-0.0 c.args.self.now.nodes.ok.0
     c.is_empty-lets.ensures c.in_err-at.ensures.err)
+
+pub returns-in_ok-push-in-Let-clause-err : goal.returns-in_ok-push-in-Let-clause-err
+returns-in_ok-push-in-Let-clause-err c = _
+
+pub returns-in_ok-push-in-Node-clause-err : goal.returns-in_ok-push-in-Node-clause-err
+returns-in_ok-push-in-Node-clause-err c = _

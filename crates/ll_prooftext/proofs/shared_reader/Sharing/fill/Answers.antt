@@ -1,3 +1,4 @@
+use Rattle.std.proofs.lemmas.Result.{IfOk-from_err}
 use Rattle.std.proofs.Common.{arith, length}
 use Rattle.std.specs.Prelude.{◌&&◌}
 use Rattle.ll_prooftext.specs.Reading.{is_none}
@@ -127,3 +128,78 @@ off_row-requires c = record {
   nodes = rules_inside c.loop-line.names c.loop-line.self.bank c.loop-line.self.nodes.items c.loop-line.invariant.nodes;
   rows = terms_inside c.loop-line.names c.loop-line.self.bank c.loop-line.self.rows.items c.loop-line.invariant.rows;
 }
+
+pub returns-in_default-clause-ok : goal.returns-in_default-clause-ok
+returns-in_default-clause-ok c = _
+
+pub returns-in_default-clause-terms : goal.returns-in_default-clause-terms
+returns-in_default-clause-terms c = _
+
+pub returns-in_default-clause-rules : goal.returns-in_default-clause-rules
+returns-in_default-clause-rules c = _
+
+pub returns-in_default-clause-names : goal.returns-in_default-clause-names
+returns-in_default-clause-names c = _
+
+pub returns-then-self-eq0-clause-ok : goal.returns-then-self-eq0-clause-ok
+returns-then-self-eq0-clause-ok c = _
+
+pub returns-then-self-eq0-clause-terms : goal.returns-then-self-eq0-clause-terms
+returns-then-self-eq0-clause-terms c = _
+
+pub returns-then-self-eq0-clause-rules : goal.returns-then-self-eq0-clause-rules
+returns-then-self-eq0-clause-rules c = _
+
+pub returns-then-self-eq0-clause-names : goal.returns-then-self-eq0-clause-names
+returns-then-self-eq0-clause-names c = _
+
+pub returns-in-Err-clause-ok : goal.returns-in-Err-clause-ok
+returns-in-Err-clause-ok c = _
+
+pub returns-in-Err-clause-terms : goal.returns-in-Err-clause-terms
+returns-in-Err-clause-terms c = _
+
+pub returns-in-Err-clause-rules : goal.returns-in-Err-clause-rules
+returns-in-Err-clause-rules c = _
+
+pub returns-in-Err-clause-names : goal.returns-in-Err-clause-names
+returns-in-Err-clause-names c = _
+
+pub returns-then-self-gt0-clause-ok : goal.returns-then-self-gt0-clause-ok
+returns-then-self-gt0-clause-ok c = _
+
+pub returns-then-self-gt0-clause-terms : goal.returns-then-self-gt0-clause-terms
+returns-then-self-gt0-clause-terms c = _
+
+pub returns-then-self-gt0-clause-rules : goal.returns-then-self-gt0-clause-rules
+returns-then-self-gt0-clause-rules c = _
+
+pub returns-then-self-gt0-clause-names : goal.returns-then-self-gt0-clause-names
+returns-then-self-gt0-clause-names c = _
+
+pub returns-in_err-row-clause-ok : goal.returns-in_err-row-clause-ok
+returns-in_err-row-clause-ok c = IfOk-from_err c.from_residual.result _ c.from_residual.ensures.0
+
+pub returns-in_err-row-clause-terms : goal.returns-in_err-row-clause-terms
+returns-in_err-row-clause-terms c = IfOk-from_err c.from_residual.result _ c.from_residual.ensures.0
+
+pub returns-in_err-row-clause-rules : goal.returns-in_err-row-clause-rules
+returns-in_err-row-clause-rules c = IfOk-from_err c.from_residual.result _ c.from_residual.ensures.0
+
+pub returns-in_err-row-clause-names : goal.returns-in_err-row-clause-names
+returns-in_err-row-clause-names c = IfOk-from_err c.from_residual.result _ c.from_residual.ensures.0
+
+pub returns-in-Some-2-clause-ok : goal.returns-in-Some-2-clause-ok
+returns-in-Some-2-clause-ok c = _
+
+pub returns-in-Some-2-clause-terms : goal.returns-in-Some-2-clause-terms
+returns-in-Some-2-clause-terms c = _
+
+pub returns-in-Some-2-clause-rules : goal.returns-in-Some-2-clause-rules
+returns-in-Some-2-clause-rules c = _
+
+pub returns-in-Some-2-clause-names : goal.returns-in-Some-2-clause-names
+returns-in-Some-2-clause-names c = _
+
+pub returns-clause-err : goal.returns-clause-err
+returns-clause-err c = _

@@ -77,3 +77,12 @@ pub returns-in_err-at-clause-err : goal.returns-in_err-at-clause-err
 returns-in_err-at-clause-err c = let p = err_from_is_err_and c.from_residual.result c.from_residual.ensures.1 in
     rw (p.1, p.2) (takes_refused_over c.args.self.now c.deref.result.now c.stage-stage.result c.args.line.now c.in_err-at.field-0.0 c.deref.ensures.value
     c.stage-stage.ensures.shares c.stage-stage.ensures.lets c.in_err-at.ensures.err)
+
+pub returns-in_ok-push-in-Share-clause-err : goal.returns-in_ok-push-in-Share-clause-err
+returns-in_ok-push-in-Share-clause-err c = _
+
+pub returns-in_ok-push-in-Let-clause-err : goal.returns-in_ok-push-in-Let-clause-err
+returns-in_ok-push-in-Let-clause-err c = _
+
+pub returns-in_ok-push-in-Node-clause-err : goal.returns-in_ok-push-in-Node-clause-err
+returns-in_ok-push-in-Node-clause-err c = _

@@ -1,3 +1,4 @@
+use Rattle.std.proofs.lemmas.Result.{IfOk-from_err}
 use Rattle.std.proofs.Common.{◌++◌, ap, sym, ◌∙◌, eqb, not, refl}
 use Rattle.std.proofs.lemmas.List.{length-map}
 use Rattle.ll_lists.proofs.CallerLemmas.{OnOk-weaker as on_ok}
@@ -30,3 +31,6 @@ returns-in_ok-push-in-App c =
     on_ok c.push_entries.result
     (λ e. inside c.in-App.field-0 c.in-App.args.now c.in-App.ensures.shown.0 (has ∙ ap not c.if-is_empty.false) c.in-App.ensures.shown.1
     (e ∙ ap (λ ts. ts ++ entries c.in-App.args.now) c.in_ok-push-in-App.ensures.items)) c.push_entries.ensures
+
+pub returns-in_err-push-in-App : goal.returns-in_err-push-in-App
+returns-in_err-push-in-App c = IfOk-from_err c.from_residual.result _ c.from_residual.ensures.0

@@ -60,3 +60,6 @@ pub returns-in_err-change-clause-refused : goal.returns-in_err-change-clause-ref
 returns-in_err-change-clause-refused g c = OnErr-always c.from_residual-in_err-change.result
     (history-alike c.self.inside.changes.items c.reserve.new.self.items (raw c.self.inside.state) (raw c.bang.new.self) c.args.self.now
     c.reserve.ensures.items c.in_err-change.ensures.refused c.self.view_is)
+
+pub returns-clause-refused : goal.returns-clause-refused
+returns-clause-refused g c = _

@@ -43,3 +43,6 @@ pub returns-in_err-reserve-clause-refused : goal.returns-in_err-reserve-clause-r
 returns-in_err-reserve-clause-refused g c = OnErr-always c.from_residual.result
     (history-alike c.self.inside.changes.items c.reserve.new.self.items (raw c.self.inside.state) (raw c.self.inside.state) c.args.self.now
     c.reserve.ensures.items refl c.self.view_is)
+
+pub returns-clause-refused : goal.returns-clause-refused
+returns-clause-refused g c = _

@@ -14,3 +14,9 @@ returns-in_err-reserve-clause-kept c = IfOk-from_err c.from_residual.result _ c.
 
 pub returns-in_err-reserve-clause-marks : goal.returns-in_err-reserve-clause-marks
 returns-in_err-reserve-clause-marks c = IfOk-from_err c.from_residual.result _ c.from_residual.ensures.0
+
+pub returns-clause-same_marks : goal.returns-clause-same_marks
+returns-clause-same_marks c = _
+
+pub returns-clause-same_kept : goal.returns-clause-same_kept
+returns-clause-same_kept c = _

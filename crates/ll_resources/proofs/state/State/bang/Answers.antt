@@ -24,3 +24,6 @@ returns-clause-banged g c = λ i. record (raw c.args.self.now) {
   marks = (c.in_ok-from.ensures.marks ∙ ap (λ ms. c.args.self.now.saves.marks.items ++ ms) c.as_slice.ensures.value) i;
   kept = c.in_ok-from.ensures.kept i;
 }
+
+pub returns-clause-refused : goal.returns-clause-refused
+returns-clause-refused g c = _

@@ -23,3 +23,6 @@ returns-in_err-from-clause-ended g c = IfOk-from_err c.from_residual-in_err-from
 
 pub returns-in_err-from-clause-leads : goal.returns-in_err-from-clause-leads
 returns-in_err-from-clause-leads g c = IfOk-from_err c.from_residual-in_err-from.result _ c.from_residual-in_err-from.ensures.0
+
+pub returns-clause-refused : goal.returns-clause-refused
+returns-clause-refused g c = _

@@ -9,3 +9,6 @@ returns-in_err-keep-clause-change g c = IfOk-from_err c.from_residual.result _ c
 
 pub returns-in_err-keep-clause-leads : goal.returns-in_err-keep-clause-leads
 returns-in_err-keep-clause-leads g c = IfOk-from_err c.from_residual.result _ c.from_residual.ensures.0
+
+pub returns-clause-refused : goal.returns-clause-refused
+returns-clause-refused g c = _

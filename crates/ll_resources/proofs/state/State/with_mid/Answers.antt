@@ -34,3 +34,6 @@ returns-in_err-change-clause-change g c = IfOk-from_err c.from_residual-in_err-c
 
 pub returns-in_err-change-clause-leads : goal.returns-in_err-change-clause-leads
 returns-in_err-change-clause-leads g c = IfOk-from_err c.from_residual-in_err-change.result _ c.from_residual-in_err-change.ensures.0
+
+pub returns-clause-refused : goal.returns-clause-refused
+returns-clause-refused g c = _

@@ -1,3 +1,4 @@
+use Rattle.std.proofs.lemmas.Result.{IfOk-from_err}
 use Rattle.std.proofs.Common.{◌≡◌, ap, ◌∙◌, ◌++◌, ◌∷◌, [], map, Some}
 use Rattle.std.proofs.lemmas.List.{map-append}
 use Rattle.ll_store.specs.declared.cells.Change.TheVariants.{Bound}
@@ -17,3 +18,15 @@ returns-clause-grows c =
           ∙ (λ i. (c.self.view_is i).changes ++ c.in_ok-entry.ensures i ∷ []));
       back = ap (taken_back (Bound c.args.var)) cells ∙ bind-back c.args.var c.args.to c.args.self.now.cells c.requires;
     }
+
+pub returns-in_err-kept-clause-cells : goal.returns-in_err-kept-clause-cells
+returns-in_err-kept-clause-cells c = IfOk-from_err c.from_residual.result _ c.from_residual.ensures.0
+
+pub returns-in_err-entry-clause-cells : goal.returns-in_err-entry-clause-cells
+returns-in_err-entry-clause-cells c = IfOk-from_err c.from_residual-in_err-entry.result _ c.from_residual-in_err-entry.ensures.0
+
+pub returns-in_err-push-clause-cells : goal.returns-in_err-push-clause-cells
+returns-in_err-push-clause-cells c = IfOk-from_err c.from_residual-in_err-push.result _ c.from_residual-in_err-push.ensures.0
+
+pub returns-clause-refused : goal.returns-clause-refused
+returns-clause-refused c = _

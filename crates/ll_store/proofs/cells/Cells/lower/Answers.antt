@@ -1,3 +1,4 @@
+use Rattle.std.proofs.lemmas.Result.{IfOk-from_err}
 use Rattle.std.proofs.Common.{◌≡◌, sym, ap, ◌∙◌, ◌++◌, ◌∷◌, [], map, slice_index_or}
 use Rattle.std.proofs.lemmas.List.{map-append}
 use Rattle.std.proofs.Math.ListN.{get_or-map}
@@ -24,3 +25,12 @@ returns-clause-grows c =
           (ap cell_of c.index.ensures ∙ (sym (get_or-map cell_of c.self.inside.slots.items c.args.var slot)
           ∙ ap (λ (s : Trailed). slice_index_or s.cells c.args.var (cell_of slot)) c.self.view_is));
     }
+
+pub returns-in_err-entry-clause-cells : goal.returns-in_err-entry-clause-cells
+returns-in_err-entry-clause-cells c = IfOk-from_err c.from_residual.result _ c.from_residual.ensures.0
+
+pub returns-in_err-push-clause-cells : goal.returns-in_err-push-clause-cells
+returns-in_err-push-clause-cells c = IfOk-from_err c.from_residual-in_err-push.result _ c.from_residual-in_err-push.ensures.0
+
+pub returns-clause-refused : goal.returns-clause-refused
+returns-clause-refused c = _

@@ -14,3 +14,18 @@ returns-in-Ok-lay-clause-numbers g c = let laid = c.in-Ok-lay in
     first_numbers g.S.Kept.numbers (g.S.Kept.begin c.args.value).0 (g.S.Kept.begin c.args.value).1 laid.seat.me _
     (g.S.Kept.begins_first c.args.value c.requires)
     (laid.ensures.first ∙ ap (λ v. (live (g.S.Kept.begin v).0 (g.S.Kept.begin v).1 Rests [], [])) c.of-origin.ensures)
+
+pub returns-in_default-clause-ok : goal.returns-in_default-clause-ok
+returns-in_default-clause-ok g c = _
+
+pub returns-in_default-clause-numbers : goal.returns-in_default-clause-numbers
+returns-in_default-clause-numbers g c = _
+
+pub returns-in-Ok-lay-clause-err : goal.returns-in-Ok-lay-clause-err
+returns-in-Ok-lay-clause-err g c = _
+
+pub returns-clause-ok : goal.returns-clause-ok
+returns-clause-ok g c = _
+
+pub returns-clause-numbers : goal.returns-clause-numbers
+returns-clause-numbers g c = _

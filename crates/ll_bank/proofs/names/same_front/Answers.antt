@@ -1,0 +1,5 @@
+use Rattle.std.proofs.lemmas.Result.{IfOk-from_err}
+use Rattle.ll_bank.proofs.names.same_front.Goals as goal
+
+pub returns-in_err-try_clone-in-Some : goal.returns-in_err-try_clone-in-Some
+returns-in_err-try_clone-in-Some c = IfOk-from_err c.from_residual.result _ c.from_residual.ensures.0

@@ -1,0 +1,8 @@
+use Rattle.std.proofs.lemmas.Result.{IfOk-from_err}
+use Rattle.ll_prooftext.proofs.table.table_of.Goals as goal
+
+pub returns-in_err-classes-clause-table : goal.returns-in_err-classes-clause-table
+returns-in_err-classes-clause-table c = IfOk-from_err c.from_residual.result _ c.from_residual.ensures.0
+
+pub returns-in_err-classes-clause-reach : goal.returns-in_err-classes-clause-reach
+returns-in_err-classes-clause-reach c = IfOk-from_err c.from_residual.result _ c.from_residual.ensures.0

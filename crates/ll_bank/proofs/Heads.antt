@@ -1,5 +1,5 @@
 -- Terms that get arguments: their heads and their number of arguments, and what a substitution makes of them.
-use Rattle.std.proofs.Common.{◌≡◌, ℕ, ◌+◌, true, List, [], ◌∷◌, ◌++◌, length, map, refl, ap, ◌∙◌, arith, Some}
+use Rattle.std.proofs.Common.{◌≡◌, ℕ, ◌+◌, true, List, [], ◌∷◌, ◌++◌, length, map, refl, arith, Some}
 use Rattle.ll_bank.specs.declared.Head.{Head}
 use Rattle.ll_bank.specs.Term.{Term, Var, Int, Con, Ap, apply, app, sub, head_of, arity, is_spine}
 

@@ -1,4 +1,5 @@
 pub mod Known
+pub mod Filling
 pub mod Stacks
 pub mod Values
 pub mod Parts

@@ -1,5 +1,6 @@
 -- What was read of a text while it is read part by part.
-use Rattle.std.proofs.Common.{◌≡◌, ℕ, ◌+◌, ◌<◌, ◌≤◌, List, [], ◌++◌, Option, Some, None, length, take, drop, refl, ap, sym, ◌∙◌, arith, IfSome, IsSomeAnd}
+use Rattle.std.proofs.Common.{◌≡◌, ℕ, ◌+◌, ◌<◌, ◌≤◌, List, []}
+use Rattle.std.proofs.Common.{◌++◌, Option, Some, None, length, take, drop, refl, ap, sym, subst, ◌∙◌, arith, IfSome, IsSomeAnd}
 use Rattle.std.proofs.Common.{length-append, length-take}
 use Rattle.std.proofs.Math.Seq.{take-add}
 use Rattle.std.proofs.lemmas.List.{take_all}
@@ -60,6 +61,13 @@ pub told_whole : (told : Option Texts) (name bytes buf : List ℕ) → IsFrontOf
     → IfSome told (λ texts. text_of texts name ≡ Some bytes)
 told_whole None name bytes buf front part = tt
 told_whole (Some texts) name bytes buf front part = front_whole (text_of texts name) bytes buf front part
+
+-- and so it is where the place to read from and the number of bytes are known by equations
+pub told_end : (told now_told : Option Texts) (name bytes buf : List ℕ) (from n : ℕ) → now_told ≡ told → from ≡ length bytes → n ≡ 0
+    → IsFrontOfTold told name bytes → PutsTold now_told name from buf n → IfSome told (λ texts. text_of texts name ≡ Some bytes)
+told_end told now_told name bytes buf from n same at none front part =
+    told_whole told name bytes buf front (subst (λ k. PutsTold told name (length bytes) buf k) none
+    (subst (λ place. PutsTold told name place buf n) at (subst (λ t. PutsTold t name from buf n) same part)))
 
 -- where more than the limit was read the text is longer than the limit
 pub told_longer : (told : Option Texts) (name bytes : List ℕ) (limit : ℕ) → IsFrontOfTold told name bytes → limit < length bytes

@@ -12,6 +12,7 @@ pub mod Decides
 pub mod Running
 pub mod Closing
 pub mod Dropped
+pub mod Handing
 pub mod Newest
 pub mod NumberFrames
 pub mod Complete

@@ -1,15 +1,19 @@
 -- Names and clauses one by one.
-use Rattle.std.proofs.Common.{◌≡◌, ℕ, ◌+◌, ◌<◌, ◌≤◌, List, [], ◌∷◌, ◌++◌, length, map, get_or, drop, ap, sym, subst, ◌∙◌, append_assoc, codes}
+use Rattle.std.proofs.Common.{◌≡◌, ℕ, ◌+◌, ◌<◌, ◌≤◌, List, [], ◌∷◌, ◌++◌, length, map, get_or, drop, refl, ap, sym, subst, ◌∙◌, append_assoc, codes}
+use Rattle.std.proofs.Common.{if◌then◌else◌, is_ok, Bool, true, false, arith}
+use Rattle.std.specs.Bool.{◌==◌}
+use Rattle.std.proofs.lemmas.Bool.{eqb-true}
+use Rattle.std.specs.Prelude.{Result, Ok, Err, OnOk, OnErr}
 use Rattle.std.proofs.lemmas.List.{append-nil, drop_more, drop_all}
 use Rattle.ll_parser.specs.declared.Named.{Named}
 use Rattle.ll_parser.specs.declared.RawClause.{RawClause}
 use Rattle.ll_parser.specs.declared.RawModule.{RawModule}
 use Rattle.ll_parser.specs.Raw.{ModuleTree}
 use Rattle.ll_parser.specs.Nodes.{Node, identifier, shown_clause, shown_module, shown_program}
-use Rattle.ll_parser.specs.Printed.{names_text, clause_text, clauses_text, locals_text, module_text, modules_text, program_text}
+use Rattle.ll_parser.specs.Printed.{line_end, names_text, clause_text, clauses_text, locals_text, module_text, modules_text, program_text}
 use Rattle.ll_printer.specs.Pieces.{BeginsText}
 use Rattle.ll_printer.specs.Parts.{IsWriting}
-use Rattle.ll_printer.proofs.Parts.{writing-begins, writing-on, writing-refused, writing-ends}
+use Rattle.ll_printer.proofs.Parts.{writing-begins, writing-on, writing-refused, writing-stops, writing-last, writing-ends}
 
 module _ (names : List (List ℕ)) (list : List Named) (i : ℕ) (d : Named) (start now next : List ℕ) (l : i < length list) where
   first-name : names_text (map (identifier names) (drop i list)) ≡ (codes " " ++ (identifier names (get_or list i d)).text)
@@ -30,6 +34,51 @@ module _ (names : List (List ℕ)) (list : List Named) (i : ℕ) (d : Named) (st
       writing-refused (names_text (map (identifier names) list)) start now next (names_text (map (identifier names) (drop (i + 1) list)))
       (codes " " ++ (identifier names (get_or list i d)).text)
       (subst (IsWriting (names_text (map (identifier names) list)) start now) first-name w) b
+
+-- all names are written, and then the end of the line
+module _ (names : List (List ℕ)) (list : List Named) (i : ℕ) (start now next : List ℕ) (l : length list ≤ i)
+    (w : IsWriting (names_text (map (identifier names) list)) start now (names_text (map (identifier names) (drop i list)))) where
+  names-written : IsWriting (names_text (map (identifier names) list)) start now line_end
+  names-written = subst (λ ns. IsWriting (names_text (map (identifier names) list)) start now (names_text (map (identifier names) ns))) (drop_all i list l) w
+
+  pub names-end : {A E : Type 0} (r : Result A E) → next ≡ (if is_ok r then now ++ line_end else now)
+      → OnOk r (next ≡ start ++ names_text (map (identifier names) list))
+  names-end (Ok x) f = writing-last (names_text (map (identifier names) list)) start now next line_end names-written f
+  names-end (Err x) f = tt
+
+  pub end-refused : {A E : Type 0} (r : Result A E) → next ≡ (if is_ok r then now ++ line_end else now)
+      → OnErr r (BeginsText (names_text (map (identifier names) list)) start next)
+  end-refused (Ok x) f = tt
+  end-refused (Err x) f = writing-stops (names_text (map (identifier names) list)) start now next line_end names-written f
+
+-- no local constants have no line, and some have one
+pub locals-none : (names : List (List ℕ)) (list : List Named) {b : Bool} → b ≡ (length list == 0) → b ≡ true → (old : List ℕ)
+    → old ≡ old ++ locals_text (map (identifier names) list)
+locals-none names [] h t old = sym (append-nil old)
+locals-none names (n ∷ list) h t old = let e = eqb-true (length (n ∷ list)) 0 (sym h ∙ t) in absurd (omega (arith, e))
+
+locals-some : (names : List (List ℕ)) (list : List Named) {b : Bool} → b ≡ (length list == 0) → b ≡ false
+    → locals_text (map (identifier names) list) ≡ codes "LOCAL" ++ names_text (map (identifier names) list)
+locals-some names [] h f = absurd cc
+locals-some names (n ∷ list) h f = refl
+
+module _ (names : List (List ℕ)) (list : List Named) {b : Bool} (h : b ≡ (length list == 0)) (f : b ≡ false) (start now : List ℕ)
+    (e : now ≡ start ++ codes "LOCAL") where
+  locals-word : IsWriting (locals_text (map (identifier names) list)) start now (names_text (map (identifier names) list))
+  locals-word =
+      let text : List ℕ = locals_text (map (identifier names) list) in
+      writing-on text start start now (names_text (map (identifier names) list)) (codes "LOCAL")
+      (subst (IsWriting text start start) (locals-some names list h f) (writing-begins text start)) e
+
+  pub locals-end : (next : List ℕ) → next ≡ now ++ names_text (map (identifier names) list) → next ≡ start ++ locals_text (map (identifier names) list)
+  locals-end next g = writing-last (locals_text (map (identifier names) list)) start now next (names_text (map (identifier names) list)) locals-word g
+
+  pub locals-cut : (next : List ℕ) → BeginsText (names_text (map (identifier names) list)) now next
+      → BeginsText (locals_text (map (identifier names) list)) start next
+  locals-cut next g =
+      let text : List ℕ = locals_text (map (identifier names) list) in
+      let rest : List ℕ = names_text (map (identifier names) list) in
+      writing-refused text start now next [] rest (subst (IsWriting text start now) (sym (append-nil rest)) locals-word) g
 
 module _ (names : List (List ℕ)) (nodes : List Node) (list : List RawClause) (i : ℕ) (d : RawClause) (start now next : List ℕ) (l : i < length list) where
   first-clause : clauses_text (map (shown_clause names nodes) (drop i list)) ≡ clause_text (shown_clause names nodes (get_or list i d))
@@ -160,3 +209,10 @@ module _ (names : List (List ℕ)) (nodes : List Node) (m : RawModule) (start : 
   last-refused now next list same w b =
       writing-refused text start now next [] after_locals (subst (IsWriting text start now) (sym (append-nil after_locals)) w)
       (subst (λ cs. BeginsText (clauses_text (map (shown_clause names nodes) cs)) now next) same b)
+
+  -- all is written
+  pub last-written : (now next : List ℕ) (list : List RawClause) → list ≡ m.clauses.items → IsWriting text start now after_locals
+      → next ≡ now ++ clauses_text (map (shown_clause names nodes) list)
+      → next ≡ start ++ text
+  last-written now next list same w e =
+      writing-last text start now next after_locals w (e ∙ ap (λ cs. now ++ clauses_text (map (shown_clause names nodes) cs)) same)

@@ -211,6 +211,12 @@ head_begins names bank h args tree start end is test b = record {
 pub begins_none : (text start : List ℕ) → BeginsText text start start
 begins_none text start = record { written = []; rest = text; is = sym (append-nil start); begun = refl }
 
+pub begins_same : (text start end : List ℕ) → end ≡ start → BeginsText text start end
+begins_same text start end e = record { written = []; rest = text; is = e ∙ sym (append-nil start); begun = refl }
+
+pub begins_by : (text start end written rest : List ℕ) → end ≡ start ++ written → text ≡ written ++ rest → BeginsText text start end
+begins_by text start end written rest e b = record { written = written; rest = rest; is = e; begun = b }
+
 pub begins_all : (text start end : List ℕ) → end ≡ start ++ text → BeginsText text start end
 begins_all text start end e = record { written = text; rest = []; is = e; begun = sym (append-nil text) }
 

@@ -8,3 +8,4 @@ pub mod EndLemmas
 pub mod HistoryLemmas
 pub mod CallerLemmas
 pub mod PlaceLemmas
+pub mod RoomLemmas

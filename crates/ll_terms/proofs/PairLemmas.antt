@@ -7,7 +7,7 @@ use Rattle.std.proofs.lemmas.List.Elements.{All-append, All-cons, All-nil, All-p
 use Rattle.ll_bank.specs.declared.At.{At}
 use Rattle.ll_bank.specs.declared.Head.{Head}
 use Rattle.ll_terms.specs.declared.pairs.Pair.{Pair}
-use Rattle.ll_bank.specs.Term.{Term, Con, Ap, apply, app, head_of, arity}
+use Rattle.ll_bank.specs.Term.{Term, Var, Int, Con, Ap, apply, app, head_of, arity}
 use Rattle.ll_bank.specs.Nodes.{Nodes, term_tree, term_trees, AllInTerms, HasTerm}
 use Rattle.ll_terms.specs.Pairs.{lefts, rights, AreInBanks, AreEqual}
 use Rattle.ll_bank.proofs.CallerLemmas.{head_of-apply, arity-apply}
@@ -117,6 +117,10 @@ module _ (mine theirs : Nodes) (old new : List Pair) (args others : List At) (n 
 -- an application, and what has no head
 pub not-applied : (t u : Term) (h : Head) (ts : List Term) → u ≡ app h ts → head_of t ≡ None → t ≡ u → ⊥
 not-applied t u h ts q p e = let o : Some h ≡ None = sym (head_of-apply (Con h) ts) ∙ (ap head_of (sym q ∙ sym e) ∙ p) in cc
+
+-- a variable and a number
+pub var-int : (t u : Term) (n : ℕ) (z : _) → t ≡ Var n → u ≡ Int z → t ≡ u → ⊥
+var-int t u n z p q e = let s : Var n ≡ Int z = sym p ∙ (e ∙ q) in cc
 
 -- ---- the pair behind the others
 

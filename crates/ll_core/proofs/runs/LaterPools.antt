@@ -1,5 +1,5 @@
 -- Pools that are further on than others.
-use Rattle.std.proofs.Common.{◌≡◌, ℕ, zero, suc, ◌+◌, ◌-◌, ◌<◌, List, [], ◌∷◌, ◌++◌, false, length, map, refl, sym, ap, ◌∙◌, subst, ⊎_elim, inl, inr, arith}
+use Rattle.std.proofs.Common.{◌≡◌, ℕ, ◌+◌, ◌-◌, ◌<◌, List, [], ◌∷◌, ◌++◌, false, length, map, refl, sym, ap, ◌∙◌, subst, ⊎_elim, inl, inr, arith}
 use Rattle.std.proofs.Common.{append_assoc, append-nil, take, Some, None}
 use Rattle.std.specs.Prelude.{flat_map, slice_get, sum_by}
 use Rattle.std.proofs.lemmas.Bool.{cases_eq, false≢true}

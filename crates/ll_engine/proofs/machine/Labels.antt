@@ -2,7 +2,7 @@
 use Rattle.std.proofs.Common.{◌≡◌, ℕ, suc, ◌<◌, refl, sym, ◌∙◌, subst, Bool, true, false, List, [], ◌∷◌, ◌++◌, arith}
 use Rattle.std.proofs.lemmas.Bool.{eqb-true, or_from as or_both, and_left as no_first, and_right as no_second}
 use Rattle.std.proofs.lemmas.List.Folds.{list_any-append}
-use Rattle.std.specs.Prelude.{nat_eq, ◌||◌, flat_map, cond, not}
+use Rattle.std.specs.Prelude.{nat_eq, flat_map, cond, not}
 use Rattle.std.specs.List.{list_any}
 use Rattle.ll_lists.proofs.CallerLemmas.{false_from_not as not_true, or_false_left as or_left, or_false_right as or_right, and_true_left as and_left}
 use Rattle.ll_lists.proofs.CallerLemmas.{and_true_right as and_right}

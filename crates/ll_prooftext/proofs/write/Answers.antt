@@ -10,7 +10,7 @@ use Rattle.ll_laws.specs.ShownLines.{line_of}
 use Rattle.ll_printer.specs.Pieces.{BeginsText}
 use Rattle.ll_prooftext.specs.Rows.{let_text}
 use Rattle.ll_printer.proofs.CallerLemmas.{begins_before}
-use Rattle.ll_prooftext.proofs.writing.Writing.{both_stopped, both_whole}
+use Rattle.ll_prooftext.proofs.writing.Writing.{both_stopped, both_whole, both_text}
 use Rattle.ll_prooftext.proofs.write.Goals as goal
 
 pub returns-in_err-write_version-clause-begun : goal.returns-in_err-write_version-clause-begun
@@ -66,3 +66,16 @@ returns-in_err-write_asked-clause-text c = IfOk-from_err c.from_residual-in_err-
 
 pub returns-in_err-write_nodes-clause-text : goal.returns-in_err-write_nodes-clause-text
 returns-in_err-write_nodes-clause-text c = IfOk-from_err c.from_residual-in_err-write_nodes.result _ c.from_residual-in_err-write_nodes.ensures.0
+
+pub returns-clause-text : goal.returns-clause-text
+returns-clause-text c =
+    let d = c.args.derivation.now in
+    let asked = flat_map (let_text c.args.names.now) d.asked in
+    let nodes = flat_map (λ n. line (node_text c.args.names.now n)) d.nodes in
+    both_text (line (codes "proof 1")) (asked ++ nodes) (proof_text c.args.names.now d) c.args.out.now.items c.write_version.new.out.items
+    c.write_nodes.new.out.items refl c.in_ok-write_version.ensures.text
+    (both_text asked nodes (asked ++ nodes) c.write_version.new.out.items c.write_asked.new.out.items c.write_nodes.new.out.items refl
+    (c.in_ok-write_asked.ensures.text ∙ ap (λ (ts : List Term). c.write_version.new.out.items ++ flat_map (let_text c.args.names.now) ts)
+    (ap (term_trees c.derivation.inside.bank) c.deref.ensures.value ∙ ap (λ (l : DerivationLines). l.asked) c.derivation.view_is))
+    (c.in_ok-write_nodes.ensures.text ∙ ap (λ (ns : List Line). c.write_asked.new.out.items ++ flat_map (λ n. line (node_text c.args.names.now n)) ns)
+    (ap (map (line_of c.derivation.inside.bank)) c.deref-2.ensures.value ∙ ap (λ (l : DerivationLines). l.nodes) c.derivation.view_is)))

@@ -106,3 +106,6 @@ returns-in_err-start c = IfOk-from_err c.from_residual.result _ c.from_residual.
 
 pub returns-in_err-verdict : goal.returns-in_err-verdict
 returns-in_err-verdict c = IfOk-from_err c.from_residual-in_err-verdict.result _ c.from_residual-in_err-verdict.ensures.0
+
+pub judge-requires-clause-inside : goal.judge-requires-clause-inside
+judge-requires-clause-inside c = c.in_ok-start.ensures.inside

@@ -67,3 +67,15 @@ returns-in_err-right-clause-settles c = IfOk-from_err c.from_residual.result _ c
 
 pub returns-in_err-right-clause-fresh : goal.returns-in_err-right-clause-fresh
 returns-in_err-right-clause-fresh c = IfOk-from_err c.from_residual.result _ c.from_residual.ensures.0
+
+pub closed-requires-clause-pattern : goal.closed-requires-clause-pattern
+closed-requires-clause-pattern c = c.requires.pattern
+
+pub closed-requires-clause-value : goal.closed-requires-clause-value
+closed-requires-clause-value c = c.requires.value
+
+pub closed-requires-clause-values : goal.closed-requires-clause-values
+closed-requires-clause-values c = c.requires.values
+
+pub closed-requires-clause-heads : goal.closed-requires-clause-heads
+closed-requires-clause-heads c = c.requires.heads

@@ -1,3 +1,4 @@
+use Rattle.std.proofs.Common.{le_trans, ◌∙◌}
 use Rattle.std.proofs.lemmas.Result.{err_from_is_err_and}
 use Rattle.ll_edge.proofs.CallerLemmas.{Rose-later}
 use Rattle.ll_judge.specs.declared.judge.Role.TheVariants.{Program, Query, Proof}
@@ -35,3 +36,42 @@ returns-clause-finds g c =
     (rw c.in_ok-program.ensures.same_texts at c.in_ok-query.ensures.read)
     (rw (c.in_ok-query.ensures.same_texts, c.in_ok-program.ensures.same_texts) at c.in_ok-proof.ensures.read) _
     (rw (c.deref.ensures.value, c.deref-2.ensures.value, c.deref-3.ensures.value) at c.finding_of.ensures)
+
+pub returns-in_err-program-clause-same_texts : goal.returns-in_err-program-clause-same_texts
+returns-in_err-program-clause-same_texts g c = c.in_err-program.ensures.same_texts
+
+pub returns-in_err-query-clause-same_texts : goal.returns-in_err-query-clause-same_texts
+returns-in_err-query-clause-same_texts g c = c.in_err-query.ensures.same_texts ∙ c.in_ok-program.ensures.same_texts
+
+pub returns-in_err-proof-clause-same_texts : goal.returns-in_err-proof-clause-same_texts
+returns-in_err-proof-clause-same_texts g c = c.in_err-proof.ensures.same_texts ∙ c.in_ok-query.ensures.same_texts ∙ c.in_ok-program.ensures.same_texts
+
+pub returns-clause-same_texts : goal.returns-clause-same_texts
+returns-clause-same_texts g c = c.in_ok-proof.ensures.same_texts ∙ c.in_ok-query.ensures.same_texts ∙ c.in_ok-program.ensures.same_texts
+
+pub returns-in_err-program-clause-faults_kept : goal.returns-in_err-program-clause-faults_kept
+returns-in_err-program-clause-faults_kept g c = c.in_err-program.ensures.faults_kept
+
+pub returns-in_err-query-clause-faults_kept : goal.returns-in_err-query-clause-faults_kept
+returns-in_err-query-clause-faults_kept g c = le_trans c.in_ok-program.ensures.faults_kept c.in_err-query.ensures.faults_kept
+
+pub returns-in_err-proof-clause-faults_kept : goal.returns-in_err-proof-clause-faults_kept
+returns-in_err-proof-clause-faults_kept g c =
+    le_trans (le_trans c.in_ok-program.ensures.faults_kept c.in_ok-query.ensures.faults_kept) c.in_err-proof.ensures.faults_kept
+
+pub returns-clause-faults_kept : goal.returns-clause-faults_kept
+returns-clause-faults_kept g c = le_trans (le_trans c.in_ok-program.ensures.faults_kept c.in_ok-query.ensures.faults_kept) c.in_ok-proof.ensures.faults_kept
+
+pub returns-in_err-program-clause-absences_kept : goal.returns-in_err-program-clause-absences_kept
+returns-in_err-program-clause-absences_kept g c = c.in_err-program.ensures.absences_kept
+
+pub returns-in_err-query-clause-absences_kept : goal.returns-in_err-query-clause-absences_kept
+returns-in_err-query-clause-absences_kept g c = le_trans c.in_ok-program.ensures.absences_kept c.in_err-query.ensures.absences_kept
+
+pub returns-in_err-proof-clause-absences_kept : goal.returns-in_err-proof-clause-absences_kept
+returns-in_err-proof-clause-absences_kept g c =
+    le_trans (le_trans c.in_ok-program.ensures.absences_kept c.in_ok-query.ensures.absences_kept) c.in_err-proof.ensures.absences_kept
+
+pub returns-clause-absences_kept : goal.returns-clause-absences_kept
+returns-clause-absences_kept g c =
+    le_trans (le_trans c.in_ok-program.ensures.absences_kept c.in_ok-query.ensures.absences_kept) c.in_ok-proof.ensures.absences_kept

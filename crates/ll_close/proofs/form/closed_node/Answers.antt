@@ -13,6 +13,7 @@ use Rattle.ll_bank.proofs.CallerLemmas.{Extends-refl, Extends-trans, HasForm-ext
 use Rattle.ll_close.specs.Closing.{env_of, under, same_spot, IsNum}
 use Rattle.ll_close.proofs.Known.{on_ok, term_images_extend}
 use Rattle.ll_close.proofs.Parts.{one_image, two_inside, first_inside, second_inside, joins_one, joins_two}
+use Rattle.std.proofs.lemmas.Result.{IfOk-from_err}
 use Rattle.ll_close.proofs.form.closed_node.Goals as goal
 
 pub form_at-requires : goal.form_at-requires
@@ -575,3 +576,48 @@ returns-in_ok-args-in-Use-2-clause-shows c =
     let f = form_tree-extends c.closed_terms.ensures.keeps _ t.inside ∙ t.tree in
     subst (λ u. IfOk c.share_form-in-Use.result (λ image. ShowsForm c.share_form-in-Use.new.bank image.0 u))
     ((λ i. Use c.in-Use.module (a i) (f i)) ∙ sym (ap (close_form e) c.in-Use.ensures.shown.tree)) c.share_form-in-Use.ensures.shows
+
+pub returns-in_err-atom-in-Atom-clause-shows : goal.returns-in_err-atom-in-Atom-clause-shows
+returns-in_err-atom-in-Atom-clause-shows c = IfOk-from_err c.from_residual.result _ c.from_residual.ensures.0
+
+pub returns-in_err-atom-in-Atom-clause-terms : goal.returns-in_err-atom-in-Atom-clause-terms
+returns-in_err-atom-in-Atom-clause-terms c = IfOk-from_err c.from_residual.result _ c.from_residual.ensures.0
+
+pub returns-in_err-args-in-Use-clause-shows : goal.returns-in_err-args-in-Use-clause-shows
+returns-in_err-args-in-Use-clause-shows c = IfOk-from_err c.from_residual-in_err-args-in-Use.result _ c.from_residual-in_err-args-in-Use.ensures.0
+
+pub returns-in_err-args-in-Use-clause-terms : goal.returns-in_err-args-in-Use-clause-terms
+returns-in_err-args-in-Use-clause-terms c = IfOk-from_err c.from_residual-in_err-args-in-Use.result _ c.from_residual-in_err-args-in-Use.ensures.0
+
+pub returns-in_err-args-in-Use-2-clause-shows : goal.returns-in_err-args-in-Use-2-clause-shows
+returns-in_err-args-in-Use-2-clause-shows c = IfOk-from_err c.from_residual-in_err-args-in-Use-2.result _ c.from_residual-in_err-args-in-Use-2.ensures.0
+
+pub returns-in_err-args-in-Use-2-clause-terms : goal.returns-in_err-args-in-Use-2-clause-terms
+returns-in_err-args-in-Use-2-clause-terms c = IfOk-from_err c.from_residual-in_err-args-in-Use-2.result _ c.from_residual-in_err-args-in-Use-2.ensures.0
+
+pub returns-in-Is-clause-shows : goal.returns-in-Is-clause-shows
+returns-in-Is-clause-shows c = c.closed_number_goal.ensures.shows
+
+pub returns-in-Is-clause-terms : goal.returns-in-Is-clause-terms
+returns-in-Is-clause-terms c = c.closed_number_goal.ensures.terms
+
+pub returns-in-Is-clause-keeps : goal.returns-in-Is-clause-keeps
+returns-in-Is-clause-keeps c = c.closed_number_goal.ensures.keeps
+
+pub returns-in-Less-clause-shows : goal.returns-in-Less-clause-shows
+returns-in-Less-clause-shows c = c.closed_number_goal-in-Less.ensures.shows
+
+pub returns-in-Less-clause-terms : goal.returns-in-Less-clause-terms
+returns-in-Less-clause-terms c = c.closed_number_goal-in-Less.ensures.terms
+
+pub returns-in-Less-clause-keeps : goal.returns-in-Less-clause-keeps
+returns-in-Less-clause-keeps c = c.closed_number_goal-in-Less.ensures.keeps
+
+pub returns-in-Most-clause-shows : goal.returns-in-Most-clause-shows
+returns-in-Most-clause-shows c = c.closed_number_goal-in-Most.ensures.shows
+
+pub returns-in-Most-clause-terms : goal.returns-in-Most-clause-terms
+returns-in-Most-clause-terms c = c.closed_number_goal-in-Most.ensures.terms
+
+pub returns-in-Most-clause-keeps : goal.returns-in-Most-clause-keeps
+returns-in-Most-clause-keeps c = c.closed_number_goal-in-Most.ensures.keeps

@@ -74,3 +74,9 @@ returns-in_err-image-in-App-clause-shows c = IfOk-from_err c.from_residual.resul
 
 pub returns-in_err-image-in-App-clause-made : goal.returns-in_err-image-in-App-clause-made
 returns-in_err-image-in-App-clause-made c = IfOk-from_err c.from_residual.result _ c.from_residual.ensures.0
+
+pub closed_head-requires-clause-inside : goal.closed_head-requires-clause-inside
+closed_head-requires-clause-inside c = c.requires.inside
+
+pub closed_head-requires-clause-values : goal.closed_head-requires-clause-values
+closed_head-requires-clause-values c = c.requires.values

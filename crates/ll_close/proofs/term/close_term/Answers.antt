@@ -16,3 +16,12 @@ returns-then-is_empty-clause-shows c =
 pub returns-then-is_empty-clause-keeps : goal.returns-then-is_empty-clause-keeps
 returns-then-is_empty-clause-keeps c =
     Extends-refl c.args.bank.now
+
+pub closed_term-requires-clause-inside : goal.closed_term-requires-clause-inside
+closed_term-requires-clause-inside c = c.requires.inside
+
+pub closed_term-requires-clause-values : goal.closed_term-requires-clause-values
+closed_term-requires-clause-values c = c.requires.values
+
+pub closed_term-requires-clause-heads : goal.closed_term-requires-clause-heads
+closed_term-requires-clause-heads c = c.requires.heads

@@ -12,6 +12,7 @@ use Rattle.ll_close.proofs.Stacks.{closing_begins, closing_builds, closing_found
 use Rattle.ll_close.proofs.Stacks.{work_pops, work_expands}
 use Rattle.ll_close.proofs.Parts.{term_parts_first}
 use Rattle.ll_close.proofs.Steps.{term_turn, term_left}
+use Rattle.std.proofs.lemmas.Result.{IfOk-from_err}
 use Rattle.ll_close.proofs.term.closed_deep.Goals as goal
 
 one_left : {made : List At} {x : At} (n : ℕ) → n ≡ length made → made ≡ x ∷ [] → 0 < n
@@ -261,3 +262,45 @@ index-requires c =
     let left = closing_ends (term_parts_at first) (IsGoodTerm first env) (c.args.at.0, c.args.level) (λ q (x : At). IsTermImage now env q x.0)
     c.loop-task.made.items c.loop-task.tasks.items (let h = c.in_default.ensures.cases.0 in search rules) c.loop-task.invariant.closing in
     one_left {x = left.0} _ c.loop-task.made.ok.0 left.1
+
+pub returns-in_err-push_part-clause-shows : goal.returns-in_err-push_part-clause-shows
+returns-in_err-push_part-clause-shows c = IfOk-from_err c.from_residual.result _ c.from_residual.ensures.0
+
+pub returns-in_err-push_part-clause-images : goal.returns-in_err-push_part-clause-images
+returns-in_err-push_part-clause-images c = IfOk-from_err c.from_residual.result _ c.from_residual.ensures.0
+
+pub returns-in_err-image-clause-shows : goal.returns-in_err-image-clause-shows
+returns-in_err-image-clause-shows c = IfOk-from_err c.from_residual-in_err-image.result _ c.from_residual-in_err-image.ensures.0
+
+pub returns-in_err-image-clause-images : goal.returns-in_err-image-clause-images
+returns-in_err-image-clause-images c = IfOk-from_err c.from_residual-in_err-image.result _ c.from_residual-in_err-image.ensures.0
+
+pub returns-in_err-push-clause-shows : goal.returns-in_err-push-clause-shows
+returns-in_err-push-clause-shows c = IfOk-from_err c.from_residual-in_err-push.result _ c.from_residual-in_err-push.ensures.0
+
+pub returns-in_err-push-clause-images : goal.returns-in_err-push-clause-images
+returns-in_err-push-clause-images c = IfOk-from_err c.from_residual-in_err-push.result _ c.from_residual-in_err-push.ensures.0
+
+pub returns-in_err-push-2-clause-shows : goal.returns-in_err-push-2-clause-shows
+returns-in_err-push-2-clause-shows c = IfOk-from_err c.from_residual-in_err-push-2.result _ c.from_residual-in_err-push-2.ensures.0
+
+pub returns-in_err-push-2-clause-images : goal.returns-in_err-push-2-clause-images
+returns-in_err-push-2-clause-images c = IfOk-from_err c.from_residual-in_err-push-2.result _ c.from_residual-in_err-push-2.ensures.0
+
+pub returns-in_err-image-2-clause-shows : goal.returns-in_err-image-2-clause-shows
+returns-in_err-image-2-clause-shows c = IfOk-from_err c.from_residual-in_err-image-2.result _ c.from_residual-in_err-image-2.ensures.0
+
+pub returns-in_err-image-2-clause-images : goal.returns-in_err-image-2-clause-images
+returns-in_err-image-2-clause-images c = IfOk-from_err c.from_residual-in_err-image-2.result _ c.from_residual-in_err-image-2.ensures.0
+
+pub returns-in_err-push-3-clause-shows : goal.returns-in_err-push-3-clause-shows
+returns-in_err-push-3-clause-shows c = IfOk-from_err c.from_residual-in_err-push-3.result _ c.from_residual-in_err-push-3.ensures.0
+
+pub returns-in_err-push-3-clause-images : goal.returns-in_err-push-3-clause-images
+returns-in_err-push-3-clause-images c = IfOk-from_err c.from_residual-in_err-push-3.result _ c.from_residual-in_err-push-3.ensures.0
+
+pub returns-in_err-push_term-clause-shows : goal.returns-in_err-push_term-clause-shows
+returns-in_err-push_term-clause-shows c = IfOk-from_err c.from_residual-in_err-push_term.result _ c.from_residual-in_err-push_term.ensures.0
+
+pub returns-in_err-push_term-clause-images : goal.returns-in_err-push_term-clause-images
+returns-in_err-push_term-clause-images c = IfOk-from_err c.from_residual-in_err-push_term.result _ c.from_residual-in_err-push_term.ensures.0

@@ -25,3 +25,12 @@ returns-in-None-clause-copy g c =
     IfOk-weaker c.carry.result _ _
     (λ made h. subst (ShowsTerm c.carry.new.other made.0) (c.walk-end.ensures.same (found first t) (Obeys-found first t c.requires.table.ordered)) h)
     c.carry.ensures.copy
+
+pub walk-end-requires-clause-table : goal.walk-end-requires-clause-table
+walk-end-requires-clause-table g c = c.requires.table
+
+pub carry-requires-clause-table : goal.carry-requires-clause-table
+carry-requires-clause-table g c = c.requires.table
+
+pub carry-requires-clause-known : goal.carry-requires-clause-known
+carry-requires-clause-known g c = c.requires.known

@@ -1,8 +1,12 @@
 use Rattle.std.proofs.lemmas.Result.{IfOk-from_err}
-use Rattle.std.proofs.Common.{get_or, refl, ◌+◌}
+use Rattle.std.proofs.Common.{ℕ, ◌<◌, ◌-◌, get_or, map, refl, ap, ◌∙◌, ◌+◌, arith}
 use Rattle.ll_bank.specs.declared.At.{At}
 use Rattle.ll_bank.proofs.CallerLemmas.{Extends-refl, Extends-trans}
 use Rattle.ll_copy.proofs.Copies.{read-none, carried-more}
+use Rattle.std.proofs.lemmas.List.{take_all}
+use Rattle.ll_bank.specs.Term.{sub}
+use Rattle.ll_bank.specs.Nodes.{term_trees}
+use Rattle.ll_bindings.specs.Bindings.{found}
 use Rattle.ll_copy.proofs.carry.read_into.Goals as goal
 
 pub returns-in_err-copies-clause-keeps : goal.returns-in_err-copies-clause-keeps
@@ -53,3 +57,31 @@ returns-in_err-push-clause-inside g c = IfOk-from_err c.from_residual-in_err-pus
 
 pub returns-in_err-push-clause-shows : goal.returns-in_err-push-clause-shows
 returns-in_err-push-clause-shows g c = IfOk-from_err c.from_residual-in_err-push.result _ c.from_residual-in_err-push.ensures.0
+
+-- a turn of the loop leaves fewer places
+one-less : (n i : ℕ) → i < n → n - (i + 1) < n - i
+one-less n i l = omega arith
+
+pub carry_one-requires-clause-table : goal.carry_one-requires-clause-table
+carry_one-requires-clause-table g c = c.requires.table
+
+pub carry_one-requires-clause-known : goal.carry_one-requires-clause-known
+carry_one-requires-clause-known g c = c.loop-place.invariant.known
+
+pub carry_one-requires-clause-at : goal.carry_one-requires-clause-at
+carry_one-requires-clause-at g c = c.requires.places c.loop-place.place-index (record { 0 = 0 }) c.loop-place-test.true
+
+pub loop-place-smaller : goal.loop-place-smaller
+loop-place-smaller g c = one-less _ _ c.loop-place-test.true
+
+pub returns-clause-inside : goal.returns-clause-inside
+returns-clause-inside g c = c.loop-place.invariant.read.inside
+
+pub returns-clause-shows : goal.returns-clause-shows
+returns-clause-shows g c =
+    c.loop-place.invariant.read.shows
+    ∙ ap (λ xs. map (sub (found c.args.bank.now (g.T.Bindings.table c.args.table.now))) (term_trees c.args.bank.now xs))
+    (take_all c.loop-place.place-index c.args.places.now c.loop-place-test.false)
+
+pub returns-clause-keeps : goal.returns-clause-keeps
+returns-clause-keeps g c = c.loop-place.invariant.keeps

@@ -24,3 +24,12 @@ returns-in-None-clause-copy g c =
     IfOk-weaker c.copy.result _ _
     (λ made h. subst (ShowsTerm c.copy.new.bank made.0) (c.walk-end.ensures.same (found first t) (Obeys-found first t c.requires.table.ordered)) h)
     c.copy.ensures.copy
+
+pub walk-end-requires-clause-table : goal.walk-end-requires-clause-table
+walk-end-requires-clause-table g c = c.requires.table
+
+pub copy-requires-clause-table : goal.copy-requires-clause-table
+copy-requires-clause-table g c = c.requires.table
+
+pub copy-requires-clause-known : goal.copy-requires-clause-known
+copy-requires-clause-known g c = c.requires.known

@@ -7,7 +7,7 @@ use Rattle.std.specs.BTreeSet.{contains}
 use Rattle.ll_bank.specs.Nodes.{places}
 use Rattle.ll_bank.proofs.CallerLemmas.{below_places}
 use Rattle.ll_terms.proofs.CallerLemmas.{inserted, ceiling_falls, removed_other, removed_less}
-use Rattle.ll_cover.proofs.Closes.{closing-begins, closing-on}
+use Rattle.ll_cover.proofs.Closes.{closing-begins, closing-on, closing-stops}
 use Rattle.ll_cover.proofs.closing.is_closed.Goals as goal
 
 pub loop-place-init : goal.loop-place-init
@@ -36,3 +36,11 @@ returns-in_err-insert c = IfOk-from_err c.from_residual.result _ c.from_residual
 
 pub returns-in_err-insert_all : goal.returns-in_err-insert_all
 returns-in_err-insert_all c = IfOk-from_err c.from_residual-in_err-insert_all.result _ c.from_residual-in_err-insert_all.ensures.0
+
+pub parts-requires : goal.parts-requires
+parts-requires c = c.loop-place.invariant.inside c.in-Some.place c.in-Some.ensures.member
+
+pub returns-in_default-parts : goal.returns-in_default-parts
+returns-in_default-parts c =
+    closing-stops c.args.bank.now c.args.at.0 (contains nat_cmp c.loop-place.waiting) c.in-Some.place c.loop-place.invariant
+    c.in-Some.ensures.member c.in_default-parts.ensures

@@ -59,3 +59,6 @@ returns-in_err-meet_all c = IfOk-from_err c.from_residual.result _ c.from_residu
 
 pub returns-in_err-look : goal.returns-in_err-look
 returns-in_err-look c = IfOk-from_err c.from_residual-in_err-look.result _ c.from_residual-in_err-look.ensures.0
+
+pub meet_all-requires-clause-inside : goal.meet_all-requires-clause-inside
+meet_all-requires-clause-inside c = c.requires.terms

@@ -44,3 +44,21 @@ returns-else-is_same_head c = λ g closing h. elim c.else-is_same_head.branch [
       (term_trees c.args.bank.now c.in-App.args.now)
       (term_trees c.args.other.now c.in-App-term_at-2.others.now) c.in-App.ensures.shown.0 c.in-App-term_at-2.ensures.shown.0 (search rules) g
 ]
+
+pub meet_variable-requires-clause-inside : goal.meet_variable-requires-clause-inside
+meet_variable-requires-clause-inside c = c.requires.image
+
+pub meet_variable-requires-clause-values : goal.meet_variable-requires-clause-values
+meet_variable-requires-clause-values c = c.requires.values
+
+pub term_at-requires : goal.term_at-requires
+term_at-requires c = c.requires.place
+
+pub term_at-requires-in-Int : goal.term_at-requires-in-Int
+term_at-requires-in-Int c = c.requires.image
+
+pub term_at-requires-in-App : goal.term_at-requires-in-App
+term_at-requires-in-App c = c.requires.image
+
+pub meet_all-requires-clause-images : goal.meet_all-requires-clause-images
+meet_all-requires-clause-images c = c.requires.waiting

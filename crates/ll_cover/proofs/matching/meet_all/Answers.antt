@@ -31,3 +31,15 @@ returns-in_err-meet-clause-images c = IfOk-from_err c.from_residual.result _ c.f
 
 pub returns-in_err-meet-clause-below : goal.returns-in_err-meet-clause-below
 returns-in_err-meet-clause-below c = IfOk-from_err c.from_residual.result _ c.from_residual.ensures.0
+
+pub returns-clause-images : goal.returns-clause-images
+returns-clause-images c = c.loop-i.invariant.images
+
+pub returns-clause-below : goal.returns-clause-below
+returns-clause-below c = c.loop-i.invariant.below
+
+pub returns-then-not-branch-clause-images : goal.returns-then-not-branch-clause-images
+returns-then-not-branch-clause-images c = c.in_ok-meet.ensures.images
+
+pub meet-requires-clause-images : goal.meet-requires-clause-images
+meet-requires-clause-images c = c.loop-i.invariant.images

@@ -77,3 +77,6 @@ returns-in-Err-clause-counts g c = _
 
 pub returns-then-done-clause-refused : goal.returns-then-done-clause-refused
 returns-then-done-clause-refused g c = _
+
+pub stretch-requires-clause-suits : goal.stretch-requires-clause-suits
+stretch-requires-clause-suits g c κs within = c.requires.suits

@@ -14,3 +14,12 @@ returns-in_default-clause-given g c = _
 
 pub returns-in_default-clause-counts : goal.returns-in_default-clause-counts
 returns-in_default-clause-counts g c = _
+
+pub start_with-requires-clause-valid : goal.start_with-requires-clause-valid
+start_with-requires-clause-valid g c = c.requires.valid
+
+pub start_with-requires-clause-index : goal.start_with-requires-clause-index
+start_with-requires-clause-index g c = c.requires.index
+
+pub give_each-given-requires-clause-suits : goal.give_each-given-requires-clause-suits
+give_each-given-requires-clause-suits g c κs within = c.requires.suits

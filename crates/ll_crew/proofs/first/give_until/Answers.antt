@@ -89,3 +89,18 @@ returns-in-Err-2-clause-given g c = _
 
 pub returns-in-Err-2-clause-counts : goal.returns-in-Err-2-clause-counts
 returns-in-Err-2-clause-counts g c = _
+
+pub crew_by-requires-clause-workers : goal.crew_by-requires-clause-workers
+crew_by-requires-clause-workers g c κs within = c.requires.workers
+
+pub crew_by-requires-clause-valid : goal.crew_by-requires-clause-valid
+crew_by-requires-clause-valid g c κs within = c.requires.valid
+
+pub crew_by-requires-clause-suits : goal.crew_by-requires-clause-suits
+crew_by-requires-clause-suits g c κs within = c.requires.suits
+
+pub crew_by-requires-clause-index : goal.crew_by-requires-clause-index
+crew_by-requires-clause-index g c κs within = c.requires.index
+
+pub crew_by-requires-clause-welcome : goal.crew_by-requires-clause-welcome
+crew_by-requires-clause-welcome g c κs within = c.requires.welcome

@@ -15,3 +15,12 @@ pub returns-in-None-clause-problem : goal.returns-in-None-clause-problem
 returns-in-None-clause-problem g c =
     its_problems (alternatives_in (arc_value c.args.batch)) c.args.k c.args.job.now.problem.now c.resume_shared.result c.requires.inside
     c.resume_shared.ensures.owes
+
+pub advance-requires-clause-inside : goal.advance-requires-clause-inside
+advance-requires-clause-inside g c = c.requires.inside
+
+pub resume_shared-requires-clause-inside : goal.resume_shared-requires-clause-inside
+resume_shared-requires-clause-inside g c = c.requires.inside
+
+pub resume_shared-requires-clause-of : goal.resume_shared-requires-clause-of
+resume_shared-requires-clause-of g c = c.requires.of

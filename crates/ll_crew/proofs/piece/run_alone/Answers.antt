@@ -92,3 +92,6 @@ returns-then-branch-clause-failed g c = _
 
 pub returns-then-is_none-clause-failed : goal.returns-then-is_none-clause-failed
 returns-then-is_none-clause-failed g c = _
+
+pub stretch-requires-clause-suits : goal.stretch-requires-clause-suits
+stretch-requires-clause-suits g c κs within = c.requires.suits

@@ -13,3 +13,15 @@ returns-in_err-engine-clause-kept g c = IfOk-from_err c.from_residual.result _ c
 
 pub returns-in_err-engine-clause-ends : goal.returns-in_err-engine-clause-ends
 returns-in_err-engine-clause-ends g c = IfOk-from_err c.from_residual.result _ c.from_residual.ensures.0
+
+pub engine_for-requires-clause-kept : goal.engine_for-requires-clause-kept
+engine_for-requires-clause-kept g c κs within = c.requires.kept
+
+pub engine_for-requires-clause-of : goal.engine_for-requires-clause-of
+engine_for-requires-clause-of g c κs within = c.requires.of
+
+pub run_to_end-ending-requires-clause-suits : goal.run_to_end-ending-requires-clause-suits
+run_to_end-ending-requires-clause-suits g c κs within = c.requires.suits
+
+pub run_to_end-ending-requires-clause-stands : goal.run_to_end-ending-requires-clause-stands
+run_to_end-ending-requires-clause-stands g c κs within = c.requires.stands

@@ -68,3 +68,21 @@ pub returns-clause-failed : goal.returns-clause-failed
 returns-clause-failed g c =
     let chosen = c.choose.ensures in
     chosen_fails _ c.run_alone-done.result c.choose.result (Some c.cost-inferences.result) None chosen.yes chosen.no c.run_alone-done.ensures.failed
+
+pub engine_for-requires-clause-kept : goal.engine_for-requires-clause-kept
+engine_for-requires-clause-kept g c κs within = c.requires.kept
+
+pub engine_for-requires-clause-inside : goal.engine_for-requires-clause-inside
+engine_for-requires-clause-inside g c κs within = c.requires.inside
+
+pub engine_for-requires-clause-of : goal.engine_for-requires-clause-of
+engine_for-requires-clause-of g c κs within = c.requires.of
+
+pub run_alone-done-requires-clause-suits : goal.run_alone-done-requires-clause-suits
+run_alone-done-requires-clause-suits g c κs within = c.requires.suits
+
+pub run_alone-done-requires-clause-seat : goal.run_alone-done-requires-clause-seat
+run_alone-done-requires-clause-seat g c κs within = c.requires.seat
+
+pub run_alone-done-requires-clause-stands : goal.run_alone-done-requires-clause-stands
+run_alone-done-requires-clause-stands g c κs within = c.requires.stands

@@ -63,3 +63,27 @@ returns-in-Left-clause-some g c = _
 
 pub returns-in-Left-clause-failed : goal.returns-in-Left-clause-failed
 returns-in-Left-clause-failed g c = _
+
+pub run_claimed-requires-clause-suits : goal.run_claimed-requires-clause-suits
+run_claimed-requires-clause-suits g c κs within = c.requires.suits
+
+pub run_claimed-requires-clause-seat : goal.run_claimed-requires-clause-seat
+run_claimed-requires-clause-seat g c κs within = c.requires.seat
+
+pub run_claimed-requires-clause-stands : goal.run_claimed-requires-clause-stands
+run_claimed-requires-clause-stands g c κs within = c.requires.stands
+
+pub run_claimed-requires-clause-kept : goal.run_claimed-requires-clause-kept
+run_claimed-requires-clause-kept g c κs within = c.requires.kept
+
+pub run_claimed-requires-clause-owes : goal.run_claimed-requires-clause-owes
+run_claimed-requires-clause-owes g c κs within = c.requires.owes
+
+pub run_claimed-requires-clause-of : goal.run_claimed-requires-clause-of
+run_claimed-requires-clause-of g c κs within = c.requires.of
+
+pub run_claimed-requires-clause-none : goal.run_claimed-requires-clause-none
+run_claimed-requires-clause-none g c κs within = c.requires.none
+
+pub run_batch-ran-requires-clause-suits : goal.run_batch-ran-requires-clause-suits
+run_batch-ran-requires-clause-suits g c κs within = c.requires.suits

@@ -76,3 +76,18 @@ returns-in-Done-clause-failed g c = _
 
 pub returns-in-Left-clause-failed : goal.returns-in-Left-clause-failed
 returns-in-Left-clause-failed g c = _
+
+pub run-requires-clause-suits : goal.run-requires-clause-suits
+run-requires-clause-suits g c κs within = c.requires.suits
+
+pub run-requires-clause-seat : goal.run-requires-clause-seat
+run-requires-clause-seat g c κs within = c.requires.seat
+
+pub run-requires-clause-stands : goal.run-requires-clause-stands
+run-requires-clause-stands g c κs within = c.requires.stands
+
+pub run-requires-clause-owes : goal.run-requires-clause-owes
+run-requires-clause-owes g c κs within = c.requires.owes
+
+pub run_alone-done-requires-clause-suits : goal.run_alone-done-requires-clause-suits
+run_alone-done-requires-clause-suits g c κs within = c.requires.suits

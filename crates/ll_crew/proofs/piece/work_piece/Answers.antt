@@ -71,3 +71,15 @@ returns-in-Err-clause-done g c = _
 
 pub returns-in-Err-clause-left : goal.returns-in-Err-clause-left
 returns-in-Err-clause-left g c = _
+
+pub run_piece-requires-clause-suits : goal.run_piece-requires-clause-suits
+run_piece-requires-clause-suits g c κs within = c.requires.suits
+
+pub run_piece-requires-clause-seat : goal.run_piece-requires-clause-seat
+run_piece-requires-clause-seat g c κs within = c.requires.seat
+
+pub run_piece-requires-clause-stands : goal.run_piece-requires-clause-stands
+run_piece-requires-clause-stands g c κs within = c.requires.stands
+
+pub run_piece-requires-clause-kept : goal.run_piece-requires-clause-kept
+run_piece-requires-clause-kept g c κs within = c.requires.kept

@@ -18,3 +18,27 @@ returns-in-Err-clause-given g c = _
 
 pub returns-in-Err-clause-counts : goal.returns-in-Err-clause-counts
 returns-in-Err-clause-counts g c = _
+
+pub search_alone-requires-clause-valid : goal.search_alone-requires-clause-valid
+search_alone-requires-clause-valid g c κs within = c.requires.valid
+
+pub search_alone-requires-clause-suits : goal.search_alone-requires-clause-suits
+search_alone-requires-clause-suits g c κs within = c.requires.suits
+
+pub search_alone-requires-clause-index : goal.search_alone-requires-clause-index
+search_alone-requires-clause-index g c κs within = c.requires.index
+
+pub search_alone-requires-clause-welcome : goal.search_alone-requires-clause-welcome
+search_alone-requires-clause-welcome g c κs within = c.requires.welcome
+
+pub crew_of-requires-clause-workers : goal.crew_of-requires-clause-workers
+crew_of-requires-clause-workers g c κs within = c.requires.workers
+
+pub crew_of-requires-clause-valid : goal.crew_of-requires-clause-valid
+crew_of-requires-clause-valid g c κs within = c.requires.valid
+
+pub crew_of-requires-clause-index : goal.crew_of-requires-clause-index
+crew_of-requires-clause-index g c κs within = c.requires.index
+
+pub search-requires-clause-suits : goal.search-requires-clause-suits
+search-requires-clause-suits g c κs within = c.requires.suits

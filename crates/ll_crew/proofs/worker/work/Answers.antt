@@ -9,3 +9,6 @@ returns-in_err-work_as-clause-quit g c = IfOk-from_err c.from_residual.result _ 
 
 pub returns-clause-starved : goal.returns-clause-starved
 returns-clause-starved g c = _
+
+pub work_as-requires-clause-suits : goal.work_as-requires-clause-suits
+work_as-requires-clause-suits g c κs within = c.requires.suits

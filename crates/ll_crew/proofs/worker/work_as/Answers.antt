@@ -14,3 +14,12 @@ returns-in-Err-clause-done g c = _
 
 pub returns-in-Err-clause-left : goal.returns-in-Err-clause-left
 returns-in-Err-clause-left g c = _
+
+pub work_on-requires-clause-suits : goal.work_on-requires-clause-suits
+work_on-requires-clause-suits g c κs within = c.requires.suits
+
+pub work_on-requires-clause-seat : goal.work_on-requires-clause-seat
+work_on-requires-clause-seat g c κs within = c.requires.seat
+
+pub work_on-requires-clause-stands : goal.work_on-requires-clause-stands
+work_on-requires-clause-stands g c κs within = c.requires.stands

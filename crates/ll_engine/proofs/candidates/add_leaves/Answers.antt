@@ -1,4 +1,4 @@
-use Rattle.std.proofs.Common.{◌++◌, ap, sym, ◌∙◌}
+use Rattle.std.proofs.Common.{◌++◌, ap, sym, ◌∙◌, rules}
 use Rattle.std.proofs.lemmas.Result.{IfOk-from_err}
 use Rattle.ll_bank.specs.Nodes.{term_tree}
 use Rattle.ll_engine.specs.Leaves.{heads, head_tries, waiting_heads, walk_size}
@@ -200,3 +200,12 @@ returns-in_err-push-clause-found c = IfOk-from_err c.from_residual.result _ c.fr
 
 pub returns-in_err-push-clause-none : goal.returns-in_err-push-clause-none
 returns-in_err-push-clause-none c = IfOk-from_err c.from_residual.result _ c.from_residual.ensures.0
+
+pub loop-form-init : goal.loop-form-init
+loop-form-init c = search rules
+
+pub returns-clause-found : goal.returns-clause-found
+returns-clause-found c = search rules
+
+pub returns-clause-none : goal.returns-clause-none
+returns-clause-none c = search rules

@@ -84,3 +84,9 @@ expand-requires-clause-goal c = sym c.is_empty.ensures ∙ c.if-is_empty.false
 
 pub returns-clause-sound : goal.returns-clause-sound
 returns-clause-sound c = c.in_ok-running.ensures.sound
+
+pub returns-then-is_empty-clause-sound : goal.returns-then-is_empty-clause-sound
+returns-then-is_empty-clause-sound c = search rules
+
+pub returns-then-left-eq0-clause-sound : goal.returns-then-left-eq0-clause-sound
+returns-then-left-eq0-clause-sound c = search rules

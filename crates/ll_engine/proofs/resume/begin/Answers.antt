@@ -16,3 +16,15 @@ attempt-requires-clause-candidate c =
 
 pub returns-then-is_start-clause-later : goal.returns-then-is_start-clause-later
 returns-then-is_start-clause-later c = later_same c.args.machine.now
+
+pub returns-then-is_start-clause-begins : goal.returns-then-is_start-clause-begins
+returns-then-is_start-clause-begins c = search rules
+
+pub candidate-requires : goal.candidate-requires
+candidate-requires c = search rules
+
+pub returns-clause-begins : goal.returns-clause-begins
+returns-clause-begins c = search rules
+
+pub returns-clause-later : goal.returns-clause-later
+returns-clause-later c = search rules

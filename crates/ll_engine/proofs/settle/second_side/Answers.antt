@@ -1,4 +1,4 @@
-use Rattle.std.proofs.Common.{refl, ap, ◌∙◌, ◌∷◌}
+use Rattle.std.proofs.Common.{refl, ap, ◌∙◌, ◌∷◌, rules}
 use Rattle.std.proofs.lemmas.Result.{IfOk-from_err}
 use Rattle.ll_agenda.specs.Frames.{items_at}
 use Rattle.ll_agenda.proofs.CallerLemmas.{Extends-trans}
@@ -46,3 +46,15 @@ returns-in_err-machine-clause-reaches c = IfOk-from_err c.from_residual-in_err-m
 
 pub returns-in_err-machine-clause-later : goal.returns-in_err-machine-clause-later
 returns-in_err-machine-clause-later c = IfOk-from_err c.from_residual-in_err-machine.result _ c.from_residual-in_err-machine.ensures.0
+
+pub item-requires : goal.item-requires
+item-requires c = c.requires.rest
+
+pub item-requires-2 : goal.item-requires-2
+item-requires-2 c = search rules
+
+pub push-requires : goal.push-requires
+push-requires c = search rules
+
+pub push-requires-2 : goal.push-requires-2
+push-requires-2 c = search rules

@@ -54,3 +54,15 @@ returns-in_err-work_off-clause-same c = IfOk-from_err c.from_residual.result _ c
 
 pub returns-in_err-work_off-clause-later : goal.returns-in_err-work_off-clause-later
 returns-in_err-work_off-clause-later c = IfOk-from_err c.from_residual.result _ c.from_residual.ensures.0
+
+pub item-requires : goal.item-requires
+item-requires c = search rules
+
+pub returns-in-Settled-clause-same : goal.returns-in-Settled-clause-same
+returns-in-Settled-clause-same c = search rules
+
+pub returns-clause-same : goal.returns-clause-same
+returns-clause-same c = search rules
+
+pub returns-clause-later : goal.returns-clause-later
+returns-clause-later c = search rules

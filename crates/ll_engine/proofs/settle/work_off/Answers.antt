@@ -1,4 +1,4 @@
-use Rattle.std.proofs.Common.{false, refl, ap, ◌∙◌, ◌∷◌}
+use Rattle.std.proofs.Common.{false, refl, ap, ◌∙◌, ◌∷◌, rules}
 use Rattle.std.proofs.lemmas.Result.{IfOk-from_err}
 use Rattle.ll_agenda.specs.Frames.{items_at}
 use Rattle.ll_resources.specs.Resources.{load_end, with_end}
@@ -121,3 +121,30 @@ returns-in_err-bang_end-in-BangEnd-clause-works c =
 pub returns-in_err-bang_end-in-BangEnd-clause-later : goal.returns-in_err-bang_end-in-BangEnd-clause-later
 returns-in_err-bang_end-in-BangEnd-clause-later c =
     IfOk-from_err c.from_residual-in_err-bang_end-in-BangEnd.result _ c.from_residual-in_err-bang_end-in-BangEnd.ensures.0
+
+pub close-requires : goal.close-requires
+close-requires c = search rules
+
+pub returns-then-not-branch-clause-works : goal.returns-then-not-branch-clause-works
+returns-then-not-branch-clause-works c = search rules
+
+pub close-requires-in-ImpEnd : goal.close-requires-in-ImpEnd
+close-requires-in-ImpEnd c = search rules
+
+pub returns-then-not-branch-2-clause-works : goal.returns-then-not-branch-2-clause-works
+returns-then-not-branch-2-clause-works c = search rules
+
+pub second_side-requires-clause-going : goal.second_side-requires-clause-going
+second_side-requires-clause-going c = search rules
+
+pub second_side-requires-clause-rest : goal.second_side-requires-clause-rest
+second_side-requires-clause-rest c = c.requires.rest
+
+pub returns-then-not-branch-3-clause-works : goal.returns-then-not-branch-3-clause-works
+returns-then-not-branch-3-clause-works c = search rules
+
+pub returns-in-Goal-clause-works : goal.returns-in-Goal-clause-works
+returns-in-Goal-clause-works c = search rules
+
+pub returns-in_ok-second_side-in-Mid-clause-works : goal.returns-in_ok-second_side-in-Mid-clause-works
+returns-in_ok-second_side-in-Mid-clause-works c = search rules

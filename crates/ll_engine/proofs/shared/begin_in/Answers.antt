@@ -1,5 +1,5 @@
 use Rattle.std.proofs.lemmas.Result.{IfOk-from_err}
-use Rattle.std.proofs.Common.{ap, subst, ◌∙◌}
+use Rattle.std.proofs.Common.{ap, subst, ◌∙◌, rules}
 use Rattle.ll_laws.specs.Problem.{ProblemTree}
 use Rattle.ll_freeze.specs.Parts.{parts_of, base_of}
 use Rattle.ll_freeze.proofs.CallerLemmas.{keeps}
@@ -22,3 +22,12 @@ returns-in_err-began-clause-sound c = IfOk-from_err c.from_residual.result _ c.f
 
 pub returns-in_err-began-clause-begins : goal.returns-in_err-began-clause-begins
 returns-in_err-began-clause-begins c = IfOk-from_err c.from_residual.result _ c.from_residual.ensures.0
+
+pub returns-clause-begins : goal.returns-clause-begins
+returns-clause-begins c = search rules
+
+pub begin-requires-clause-inside : goal.begin-requires-clause-inside
+begin-requires-clause-inside c = rw c.deref.ensures c.requires.inside
+
+pub begin-requires-clause-thaws : goal.begin-requires-clause-thaws
+begin-requires-clause-thaws c = rw c.deref.ensures c.requires.thaws

@@ -58,3 +58,12 @@ returns-in_err-push_back-clause-marks c = IfOk-from_err c.from_residual.result _
 
 pub returns-in_err-push_back-clause-floors : goal.returns-in_err-push_back-clause-floors
 returns-in_err-push_back-clause-floors c = IfOk-from_err c.from_residual.result _ c.from_residual.ensures.0
+
+pub returns-then-is_empty-clause-kept : goal.returns-then-is_empty-clause-kept
+returns-then-is_empty-clause-kept c = search rules
+
+pub returns-then-is_empty-clause-marks : goal.returns-then-is_empty-clause-marks
+returns-then-is_empty-clause-marks c = search rules
+
+pub returns-then-is_empty-clause-floors : goal.returns-then-is_empty-clause-floors
+returns-then-is_empty-clause-floors c = search rules

@@ -48,3 +48,9 @@ returns-then-depth-lt-MOST_SHARED c =
 
 pub returns-then-is_err : goal.returns-then-is_err
 returns-then-is_err c = _
+
+pub onto-requires-clause-good : goal.onto-requires-clause-good
+onto-requires-clause-good c = c.requires.good
+
+pub whole-requires-clause-good : goal.whole-requires-clause-good
+whole-requires-clause-good c = c.requires.good

@@ -1,4 +1,4 @@
-use Rattle.std.proofs.Common.{◌≡◌, ℕ, suc, ◌+◌, ◌-◌, ◌<◌, ◌≤◌, [], refl, ap, sym, subst, ◌∙◌, arith}
+use Rattle.std.proofs.Common.{◌≡◌, ℕ, suc, length, ◌+◌, ◌-◌, ◌<◌, ◌≤◌, [], refl, ap, sym, subst, ◌∙◌, arith}
 use Rattle.std.proofs.lemmas.List.{append-nil}
 use Rattle.std.proofs.lemmas.Result.{IfOk-from_err}
 use Rattle.ll_bank.specs.Nodes.{Nodes, Extends}
@@ -168,3 +168,14 @@ returns-in_err-push-clause-attempts c = IfOk-from_err c.from_residual-in_err-pus
 
 pub returns-in_err-push-clause-later : goal.returns-in_err-push-clause-later
 returns-in_err-push-clause-later c = IfOk-from_err c.from_residual-in_err-push.result _ c.from_residual-in_err-push.ensures.0
+
+pub open_leaf-requires-clause-among : goal.open_leaf-requires-clause-among
+open_leaf-requires-clause-among c = c.requires.among
+
+pub slice_bounds-variables-count : goal.slice_bounds-variables-count
+slice_bounds-variables-count c =
+    no_less _ _ (length c.deref.result.now) c.len-before.result _
+    (count_is (parts_of c.args.machine.now) c.requires.fits c.args.candidate.label (resource c.args.entry) c.requires.found c.args.rest
+    c.args.candidate.leaf c.open_leaf.new.bank c.open_leaf.new.agenda c.open_leaf.new.terms.items c.in_ok-opened.opened.head
+    c.in_ok-opened.opened.top c.in_ok-opened.ensures.keeps c.in_ok-opened.ensures.opened)
+    (ap length c.deref.ensures.value) (c.len-before.ensures ∙ c.args.machine.now.terms.ok.0)

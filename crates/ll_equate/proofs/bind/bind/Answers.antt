@@ -176,3 +176,101 @@ returns-in_err-set-in-Var-term_at-2-clause-meets g c =
 pub returns-in_err-set-in-Var-term_at-2-clause-fresh : goal.returns-in_err-set-in-Var-term_at-2-clause-fresh
 returns-in_err-set-in-Var-term_at-2-clause-fresh g c =
     IfOk-from_err c.from_residual-in_err-set-in-Var-term_at-2.result _ c.from_residual-in_err-set-in-Var-term_at-2.ensures.0
+
+pub term_at-requires : goal.term_at-requires
+term_at-requires g c = c.requires.meet.left_end.place.inside
+
+pub term_at-requires-in-Var : goal.term_at-requires-in-Var
+term_at-requires-in-Var g c = c.requires.meet.right_end.place.inside
+
+pub term_at-requires-in-Int : goal.term_at-requires-in-Int
+term_at-requires-in-Int g c = c.requires.meet.right_end.place.inside
+
+pub term_at-requires-in-App : goal.term_at-requires-in-App
+term_at-requires-in-App g c = c.requires.meet.right_end.place.inside
+
+pub set-requires-clause-free : goal.set-requires-clause-free
+set-requires-clause-free g c = c.requires.meet.right_end.free c.in-Var-term_at.y c.in-Var-term_at.ensures.shown
+
+pub set-requires-else-is_older-clause-free : goal.set-requires-else-is_older-clause-free
+set-requires-else-is_older-clause-free g c = c.requires.meet.left_end.free c.in-Var.x c.in-Var.ensures.shown
+
+pub returns-in_err-set-in-Var-term_at-clause-grows : goal.returns-in_err-set-in-Var-term_at-clause-grows
+returns-in_err-set-in-Var-term_at-clause-grows g c = c.set.ensures.grows
+
+pub returns-in_err-set-in-Var-term_at-2-clause-grows : goal.returns-in_err-set-in-Var-term_at-2-clause-grows
+returns-in_err-set-in-Var-term_at-2-clause-grows g c = c.set-else-is_older.ensures.grows
+
+pub bind_term-requires-clause-table : goal.bind_term-requires-clause-table
+bind_term-requires-clause-table g c = c.requires.table
+
+pub bind_term-requires-clause-free : goal.bind_term-requires-clause-free
+bind_term-requires-clause-free g c = c.requires.meet.left_end.free c.in-Var.x c.in-Var.ensures.shown
+
+pub bind_term-requires-clause-to : goal.bind_term-requires-clause-to
+bind_term-requires-clause-to g c = c.requires.meet.right_end
+
+pub bind_term-requires-in-App-term_at-clause-table : goal.bind_term-requires-in-App-term_at-clause-table
+bind_term-requires-in-App-term_at-clause-table g c = c.requires.table
+
+pub bind_term-requires-in-App-term_at-clause-free : goal.bind_term-requires-in-App-term_at-clause-free
+bind_term-requires-in-App-term_at-clause-free g c = c.requires.meet.left_end.free c.in-Var.x c.in-Var.ensures.shown
+
+pub bind_term-requires-in-App-term_at-clause-to : goal.bind_term-requires-in-App-term_at-clause-to
+bind_term-requires-in-App-term_at-clause-to g c = c.requires.meet.right_end
+
+pub bind_term-requires-clause-no_var : goal.bind_term-requires-clause-no_var
+bind_term-requires-clause-no_var g c =
+    no-var-int (term_tree c.args.bank.now c.args.right.0) c.in-Int-term_at.field-0 c.in-Int-term_at.ensures.shown
+
+pub bind_right-requires-clause-table : goal.bind_right-requires-clause-table
+bind_right-requires-clause-table g c = c.requires.table
+
+pub bind_right-requires-clause-free : goal.bind_right-requires-clause-free
+bind_right-requires-clause-free g c = c.requires.meet.right_end.free c.in-Var-term_at-2.y c.in-Var-term_at-2.ensures.shown
+
+pub bind_right-requires-clause-to : goal.bind_right-requires-clause-to
+bind_right-requires-clause-to g c = c.requires.meet.left_end
+
+pub bind_right-requires-clause-fresh : goal.bind_right-requires-clause-fresh
+bind_right-requires-clause-fresh g c = c.requires.fresh
+
+pub bind_right-requires-in-Var-term_at-3-clause-table : goal.bind_right-requires-in-Var-term_at-3-clause-table
+bind_right-requires-in-Var-term_at-3-clause-table g c = c.requires.table
+
+pub bind_right-requires-in-Var-term_at-3-clause-free : goal.bind_right-requires-in-Var-term_at-3-clause-free
+bind_right-requires-in-Var-term_at-3-clause-free g c = c.requires.meet.right_end.free c.in-Var-term_at-3.y c.in-Var-term_at-3.ensures.shown
+
+pub bind_right-requires-in-Var-term_at-3-clause-to : goal.bind_right-requires-in-Var-term_at-3-clause-to
+bind_right-requires-in-Var-term_at-3-clause-to g c = c.requires.meet.left_end
+
+pub bind_right-requires-in-Var-term_at-3-clause-fresh : goal.bind_right-requires-in-Var-term_at-3-clause-fresh
+bind_right-requires-in-Var-term_at-3-clause-fresh g c = c.requires.fresh
+
+pub bind_right-requires-clause-no_var : goal.bind_right-requires-clause-no_var
+bind_right-requires-clause-no_var g c =
+    no-var-int (term_tree c.args.bank.now c.args.left.0) c.in-Int.field-0 c.in-Int.ensures.shown
+
+pub unreachable-requires : goal.unreachable-requires
+unreachable-requires g c =
+    no-meeting c.args.bank.now (g.T.Bindings.table c.args.table.now) c.args.left.0 c.args.right.0 c.requires.meet
+    (no-var-int (term_tree c.args.bank.now c.args.left.0) c.in-Int.field-0 c.in-Int.ensures.shown)
+    (no-var-int (term_tree c.args.bank.now c.args.right.0) c.in-Int-term_at-2.field-0 c.in-Int-term_at-2.ensures.shown)
+
+pub returns-in_ok-set-in-Var-term_at-clause-grows : goal.returns-in_ok-set-in-Var-term_at-clause-grows
+returns-in_ok-set-in-Var-term_at-clause-grows g c = c.set.ensures.grows
+
+pub returns-in_ok-set-in-Var-term_at-2-clause-grows : goal.returns-in_ok-set-in-Var-term_at-2-clause-grows
+returns-in_ok-set-in-Var-term_at-2-clause-grows g c = c.set-else-is_older.ensures.grows
+
+pub returns-in-Int-term_at-clause-grows : goal.returns-in-Int-term_at-clause-grows
+returns-in-Int-term_at-clause-grows g c = c.bind_term.ensures.grows
+
+pub returns-in-App-term_at-clause-grows : goal.returns-in-App-term_at-clause-grows
+returns-in-App-term_at-clause-grows g c = c.bind_term-in-App-term_at.ensures.grows
+
+pub returns-in-Var-term_at-2-clause-grows : goal.returns-in-Var-term_at-2-clause-grows
+returns-in-Var-term_at-2-clause-grows g c = c.bind_right.ensures.grows
+
+pub returns-in-Var-term_at-3-clause-grows : goal.returns-in-Var-term_at-3-clause-grows
+returns-in-Var-term_at-3-clause-grows g c = c.bind_right-in-Var-term_at-3.ensures.grows

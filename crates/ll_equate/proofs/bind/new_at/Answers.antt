@@ -19,3 +19,6 @@ returns-then-is_variable-clause-meeting g c = _
 
 pub returns-then-is_variable-clause-no_var : goal.returns-then-is_variable-clause-no_var
 returns-then-is_variable-clause-no_var g c = _
+
+pub fresh_at-requires-clause-table : goal.fresh_at-requires-clause-table
+fresh_at-requires-clause-table g c = c.requires.table

@@ -60,3 +60,18 @@ returns-in-Open-clause-fresh g c =
     (λ good h e. leaves-open c.args.bank.now (g.T.Bindings.table c.args.table.now) (g.T.Bindings.table c.open_next.new.table) c.args.fresh.now
     c.open_next.new.fresh (term_tree c.args.bank.now c.args.left.0) c.in-Open.a c.in-Open.b c.in-Open.ensures.compared.left c.requires.table (h e))
     c.open_next.ensures.fresh
+
+pub compare-requires-clause-table : goal.compare-requires-clause-table
+compare-requires-clause-table g c = c.requires.table
+
+pub compare-requires-clause-left : goal.compare-requires-clause-left
+compare-requires-clause-left g c = c.requires.left
+
+pub compare-requires-clause-right : goal.compare-requires-clause-right
+compare-requires-clause-right g c = c.requires.right
+
+pub bind-requires-clause-table : goal.bind-requires-clause-table
+bind-requires-clause-table g c = c.requires.table
+
+pub open_next-requires-clause-table : goal.open_next-requires-clause-table
+open_next-requires-clause-table g c = c.requires.table

@@ -42,3 +42,9 @@ returns-in_err-push-clause-settles g c = IfOk-from_err c.from_residual.result _ 
 
 pub returns-in_err-push-clause-fresh : goal.returns-in_err-push-clause-fresh
 returns-in_err-push-clause-fresh g c = IfOk-from_err c.from_residual.result _ c.from_residual.ensures.0
+
+pub settle-requires-clause-table : goal.settle-requires-clause-table
+settle-requires-clause-table g c = c.requires.table
+
+pub settle-requires-clause-classes : goal.settle-requires-clause-classes
+settle-requires-clause-classes g c = c.requires.classes

@@ -24,3 +24,39 @@ returns-in_err-bind_new-clause-settles g c = IfOk-from_err c.from_residual.resul
 
 pub returns-in_err-bind_new-clause-fresh : goal.returns-in_err-bind_new-clause-fresh
 returns-in_err-bind_new-clause-fresh g c = IfOk-from_err c.from_residual.result _ c.from_residual.ensures.0
+
+pub new_at-requires-clause-table : goal.new_at-requires-clause-table
+new_at-requires-clause-table g c = c.requires.table
+
+pub new_at-requires-clause-left : goal.new_at-requires-clause-left
+new_at-requires-clause-left g c = c.requires.left
+
+pub new_at-requires-clause-right : goal.new_at-requires-clause-right
+new_at-requires-clause-right g c = c.requires.right
+
+pub bind_new-requires-clause-table : goal.bind_new-requires-clause-table
+bind_new-requires-clause-table g c = c.requires.table
+
+pub bind_new-requires-clause-fresh : goal.bind_new-requires-clause-fresh
+bind_new-requires-clause-fresh g c = c.requires.fresh
+
+pub is_met-requires-clause-left : goal.is_met-requires-clause-left
+is_met-requires-clause-left g c = c.requires.left
+
+pub is_met-requires-clause-right : goal.is_met-requires-clause-right
+is_met-requires-clause-right g c = c.requires.right
+
+pub bind-requires-clause-table : goal.bind-requires-clause-table
+bind-requires-clause-table g c = c.requires.table
+
+pub bind-requires-clause-fresh : goal.bind-requires-clause-fresh
+bind-requires-clause-fresh g c = c.requires.fresh
+
+pub equal_next-requires-clause-table : goal.equal_next-requires-clause-table
+equal_next-requires-clause-table g c = c.requires.table
+
+pub equal_next-requires-clause-right : goal.equal_next-requires-clause-right
+equal_next-requires-clause-right g c = c.requires.right
+
+pub equal_next-requires-clause-fresh : goal.equal_next-requires-clause-fresh
+equal_next-requires-clause-fresh g c = c.requires.fresh

@@ -170,3 +170,57 @@ pub compare_applied-requires-clause-left : goal.compare_applied-requires-clause-
 compare_applied-requires-clause-left g c =
     let k = (c.find-left.ensures.class c.args.bank.now (g.T.Bindings.table c.args.table.now) c.requires.classes).below in
     let i = c.walk-left.ensures.end.place.inside in omega arith
+
+pub returns-then-x-y-clause-classes : goal.returns-then-x-y-clause-classes
+returns-then-x-y-clause-classes g c = c.requires.classes
+
+pub returns-else-x-y-clause-classes : goal.returns-else-x-y-clause-classes
+returns-else-x-y-clause-classes g c = c.requires.classes
+
+pub returns-in-Int-term_at-clause-classes : goal.returns-in-Int-term_at-clause-classes
+returns-in-Int-term_at-clause-classes g c = c.requires.classes
+
+pub returns-in-App-term_at-clause-classes : goal.returns-in-App-term_at-clause-classes
+returns-in-App-term_at-clause-classes g c = c.requires.classes
+
+pub returns-in-Var-term_at-2-clause-classes : goal.returns-in-Var-term_at-2-clause-classes
+returns-in-Var-term_at-2-clause-classes g c = c.requires.classes
+
+pub returns-then-is_same_int-clause-classes : goal.returns-then-is_same_int-clause-classes
+returns-then-is_same_int-clause-classes g c = c.requires.classes
+
+pub returns-else-is_same_int-clause-classes : goal.returns-else-is_same_int-clause-classes
+returns-else-is_same_int-clause-classes g c = c.requires.classes
+
+pub returns-in-App-term_at-2-clause-classes : goal.returns-in-App-term_at-2-clause-classes
+returns-in-App-term_at-2-clause-classes g c = c.requires.classes
+
+pub returns-in-Var-term_at-3-clause-classes : goal.returns-in-Var-term_at-3-clause-classes
+returns-in-Var-term_at-3-clause-classes g c = c.requires.classes
+
+pub returns-in-Int-term_at-3-clause-classes : goal.returns-in-Int-term_at-3-clause-classes
+returns-in-Int-term_at-3-clause-classes g c = c.requires.classes
+
+pub walk-left-requires-clause-table : goal.walk-left-requires-clause-table
+walk-left-requires-clause-table g c = c.requires.table
+
+pub walk-left-requires-clause-place : goal.walk-left-requires-clause-place
+walk-left-requires-clause-place g c = c.requires.left
+
+pub walk-right-requires-clause-table : goal.walk-right-requires-clause-table
+walk-right-requires-clause-table g c = c.requires.table
+
+pub walk-right-requires-clause-place : goal.walk-right-requires-clause-place
+walk-right-requires-clause-place g c = c.requires.right
+
+pub term_at-requires : goal.term_at-requires
+term_at-requires g c = c.walk-left.ensures.end.place.inside
+
+pub term_at-requires-in-Var : goal.term_at-requires-in-Var
+term_at-requires-in-Var g c = c.walk-right.ensures.end.place.inside
+
+pub term_at-requires-in-Int : goal.term_at-requires-in-Int
+term_at-requires-in-Int g c = c.walk-right.ensures.end.place.inside
+
+pub term_at-requires-in-App : goal.term_at-requires-in-App
+term_at-requires-in-App g c = c.walk-right.ensures.end.place.inside

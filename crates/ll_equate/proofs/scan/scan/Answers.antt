@@ -9,3 +9,6 @@ frames-init g c =
 
 pub returns-in_err-pass : goal.returns-in_err-pass
 returns-in_err-pass g c = IfOk-from_err c.from_residual.result _ c.from_residual.ensures.0
+
+pub pass-requires-clause-table : goal.pass-requires-clause-table
+pass-requires-clause-table g c = c.requires.table

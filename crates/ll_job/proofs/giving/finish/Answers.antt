@@ -59,3 +59,15 @@ returns-in-None-clause-given g c = _
 
 pub returns-in-None-clause-counts : goal.returns-in-None-clause-counts
 returns-in-None-clause-counts g c = _
+
+pub returns-in-Ok-true-clause-given : goal.returns-in-Ok-true-clause-given
+returns-in-Ok-true-clause-given g c = c.give_rest.ensures.given
+
+pub returns-in-Ok-true-clause-counts : goal.returns-in-Ok-true-clause-counts
+returns-in-Ok-true-clause-counts g c = c.give_rest.ensures.counts
+
+pub returns-in-Ok-true-clause-write : goal.returns-in-Ok-true-clause-write
+returns-in-Ok-true-clause-write g c = c.give_rest.ensures.write
+
+pub returns-in-Ok-true-clause-kept : goal.returns-in-Ok-true-clause-kept
+returns-in-Ok-true-clause-kept g c = c.give_rest.ensures.kept

@@ -30,3 +30,6 @@ returns-clause-given g c = _
 
 pub returns-clause-counts : goal.returns-clause-counts
 returns-clause-counts g c = _
+
+pub returns-in-Ok-clause-write : goal.returns-in-Ok-clause-write
+returns-in-Ok-clause-write g c = λ e. absurd (cc)

@@ -1,6 +1,7 @@
-use Rattle.std.proofs.Common.{◌≡◌, ◌⊎◌, true, false, inl, inr}
+use Rattle.std.proofs.Common.{◌≡◌, ◌⊎◌, true, false, inl, inr, refl, sym}
 use Rattle.ll_core.specs.Calls.{overview}
 use Rattle.ll_job.proofs.Goings.{looked, look_goes, look_leaves, goes_on, goes_out}
+use Rattle.std.proofs.lemmas.Bool.{false≢true}
 use Rattle.ll_job.proofs.lead.look.Goals as goal
 use Rattle.ll_job.proofs.lead.look.Goals.{Joined-then-look, then-look-via-then-look, then-look-via-else-look+then-look-2}
 
@@ -36,3 +37,21 @@ returns-clause-on g c = λ e.
     let yes : c.tell.result ≡ true = cc in
     goes_on g.O.Outlet.takes g.O.Outlet.breaks g.O.Outlet.welcome g.O.Outlet.faults c.args.job.now.start.now.value c.args.job.now.problem.now
     c.args.seat.now c.look-look.new.seat c.tell.new.seat _ _ go (c.tell.ensures.on yes)
+
+pub returns-then-look-clause-leads : goal.returns-then-look-clause-leads
+returns-then-look-clause-leads g c = refl
+
+pub returns-then-look-clause-on : goal.returns-then-look-clause-on
+returns-then-look-clause-on g c = λ e. absurd (false≢true e)
+
+pub returns-then-not-tell-clause-leads : goal.returns-then-not-tell-clause-leads
+returns-then-not-tell-clause-leads g c = c.tell.ensures.leads
+
+pub returns-then-not-tell-clause-on : goal.returns-then-not-tell-clause-on
+returns-then-not-tell-clause-on g c = λ e. absurd (false≢true e)
+
+pub returns-clause-leads : goal.returns-clause-leads
+returns-clause-leads g c = c.tell.ensures.leads
+
+pub returns-clause-left : goal.returns-clause-left
+returns-clause-left g c = λ e. absurd (false≢true (sym e))

@@ -1,4 +1,6 @@
 use Rattle.ll_core.specs.Calls.{publish_answer}
+use Rattle.std.proofs.Common.{sym}
+use Rattle.std.proofs.lemmas.Bool.{false≢true}
 use Rattle.ll_job.proofs.sharing.put.Goals as goal
 
 pub returns-in-Ok-clause-turn : goal.returns-in-Ok-clause-turn
@@ -18,3 +20,9 @@ returns-clause-rest g c = _
 
 pub returns-clause-full : goal.returns-clause-full
 returns-clause-full g c = _
+
+pub returns-in-Ok-clause-full : goal.returns-in-Ok-clause-full
+returns-in-Ok-clause-full g c = λ e. absurd (false≢true (sym e))
+
+pub returns-in-Err-Full-clause-rest : goal.returns-in-Err-Full-clause-rest
+returns-in-Err-Full-clause-rest g c = λ e. absurd (false≢true e)

@@ -1,3 +1,4 @@
+use Rattle.std.proofs.Common.{le_refl}
 use Rattle.ll_words.specs.Words.{shown_convert}
 use Rattle.ll_judge.specs.Faults.{OversizedAs}
 use Rattle.ll_judge.specs.Endings.{cause_of}
@@ -25,3 +26,63 @@ returns-in-Err-Text-clause-ends g c =
     let convert = shown_convert c.args.convert.now in
     convert-refusal-ends _ _ _ convert _ _ _ (cause_of convert.proof c.in-Err-Text.refusal) _ (rw c.in-Err-Text.field-0-is at c.in-Err-Text.ensures.converts)
     (rw c.cause.ensures at c.refuse-in-Err-Text.ensures.refuses)
+
+pub returns-in-Ok-clause-same_texts : goal.returns-in-Ok-clause-same_texts
+returns-in-Ok-clause-same_texts g c = c.conversion.ensures.same_texts
+
+pub returns-in-Ok-clause-shelf_faults_kept : goal.returns-in-Ok-clause-shelf_faults_kept
+returns-in-Ok-clause-shelf_faults_kept g c = c.conversion.ensures.faults_kept
+
+pub returns-in-Ok-clause-absences_kept : goal.returns-in-Ok-clause-absences_kept
+returns-in-Ok-clause-absences_kept g c = c.conversion.ensures.absences_kept
+
+pub returns-in-Ok-Whole-clause-same_texts : goal.returns-in-Ok-Whole-clause-same_texts
+returns-in-Ok-Whole-clause-same_texts g c = c.conversion.ensures.same_texts
+
+pub returns-in-Ok-Whole-clause-shelf_faults_kept : goal.returns-in-Ok-Whole-clause-shelf_faults_kept
+returns-in-Ok-Whole-clause-shelf_faults_kept g c = c.conversion.ensures.faults_kept
+
+pub returns-in-Ok-Whole-clause-absences_kept : goal.returns-in-Ok-Whole-clause-absences_kept
+returns-in-Ok-Whole-clause-absences_kept g c = c.conversion.ensures.absences_kept
+
+pub returns-in-Ok-TooLong-clause-same_texts : goal.returns-in-Ok-TooLong-clause-same_texts
+returns-in-Ok-TooLong-clause-same_texts g c = c.conversion.ensures.same_texts
+
+pub returns-in-Ok-TooLong-clause-shelf_faults_kept : goal.returns-in-Ok-TooLong-clause-shelf_faults_kept
+returns-in-Ok-TooLong-clause-shelf_faults_kept g c = c.conversion.ensures.faults_kept
+
+pub returns-in-Ok-TooLong-clause-absences_kept : goal.returns-in-Ok-TooLong-clause-absences_kept
+returns-in-Ok-TooLong-clause-absences_kept g c = c.conversion.ensures.absences_kept
+
+pub returns-in-Err-Text-clause-same_texts : goal.returns-in-Err-Text-clause-same_texts
+returns-in-Err-Text-clause-same_texts g c = c.conversion.ensures.same_texts
+
+pub returns-in-Err-Text-clause-shelf_faults_kept : goal.returns-in-Err-Text-clause-shelf_faults_kept
+returns-in-Err-Text-clause-shelf_faults_kept g c = c.conversion.ensures.faults_kept
+
+pub returns-in-Err-Text-clause-absences_kept : goal.returns-in-Err-Text-clause-absences_kept
+returns-in-Err-Text-clause-absences_kept g c = c.conversion.ensures.absences_kept
+
+pub returns-clause-same_texts : goal.returns-clause-same_texts
+returns-clause-same_texts g c = c.conversion.ensures.same_texts
+
+pub returns-clause-shelf_faults_kept : goal.returns-clause-shelf_faults_kept
+returns-clause-shelf_faults_kept g c = c.conversion.ensures.faults_kept
+
+pub returns-clause-absences_kept : goal.returns-clause-absences_kept
+returns-clause-absences_kept g c = c.conversion.ensures.absences_kept
+
+pub returns-in-Ok-clause-sink_faults_kept : goal.returns-in-Ok-clause-sink_faults_kept
+returns-in-Ok-clause-sink_faults_kept g c = c.write_all.ensures.faults_kept
+
+pub returns-in-Ok-Whole-clause-sink_faults_kept : goal.returns-in-Ok-Whole-clause-sink_faults_kept
+returns-in-Ok-Whole-clause-sink_faults_kept g c = c.write_all.ensures.faults_kept
+
+pub returns-in-Ok-TooLong-clause-sink_faults_kept : goal.returns-in-Ok-TooLong-clause-sink_faults_kept
+returns-in-Ok-TooLong-clause-sink_faults_kept g c = c.refuse.ensures.faults_kept
+
+pub returns-in-Err-Text-clause-sink_faults_kept : goal.returns-in-Err-Text-clause-sink_faults_kept
+returns-in-Err-Text-clause-sink_faults_kept g c = c.refuse-in-Err-Text.ensures.faults_kept
+
+pub returns-clause-sink_faults_kept : goal.returns-clause-sink_faults_kept
+returns-clause-sink_faults_kept g c = le_refl _

@@ -1,5 +1,5 @@
 use Rattle.std.proofs.lemmas.Result.{IfOk-from_err}
-use Rattle.std.proofs.Common.{arith}
+use Rattle.std.proofs.Common.{arith, le_trans}
 use Rattle.ll_lists.proofs.CallerLemmas.{OnErr-always}
 use Rattle.ll_judge.proofs.PartsLemmas.{one-written, part-cut}
 use Rattle.ll_judge.proofs.fault.write_parts.Goals as goal
@@ -24,3 +24,9 @@ returns-clause-failed g c = _
 
 pub returns-clause-prefix : goal.returns-clause-prefix
 returns-clause-prefix g c = _
+
+pub returns-clause-faults_kept : goal.returns-clause-faults_kept
+returns-clause-faults_kept g c = c.loop-part.invariant.faults
+
+pub returns-in_err-write_all-clause-faults_kept : goal.returns-in_err-write_all-clause-faults_kept
+returns-in_err-write_all-clause-faults_kept g c = le_trans c.loop-part.invariant.faults c.in_err-write_all.ensures.faults_kept

@@ -13,3 +13,9 @@ returns-clause-cause c = query-asked c.args.loaded c.args.text.now _ c.ask.resul
 
 pub returns-in_err-query-clause-asks : goal.returns-in_err-query-clause-asks
 returns-in_err-query-clause-asks c = IfOk-from_err c.from_residual.result _ c.from_residual.ensures.0
+
+pub ask-requires-clause-bound : goal.ask-requires-clause-bound
+ask-requires-clause-bound c = c.requires.bound
+
+pub judge_query-requires : goal.judge_query-requires
+judge_query-requires c = c.requires.text

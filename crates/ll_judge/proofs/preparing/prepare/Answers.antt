@@ -1,3 +1,4 @@
+use Rattle.std.proofs.Common.{le_trans, ◌∙◌}
 use Rattle.std.proofs.lemmas.Result.{IfOk-from_err}
 use Rattle.std.proofs.lemmas.Result.{err_from_is_err_and}
 use Rattle.ll_edge.proofs.CallerLemmas.{Rose-later}
@@ -28,3 +29,36 @@ returns-in_err-program-clause-valid g c = IfOk-from_err c.from_residual.result _
 
 pub returns-in_err-query-clause-valid : goal.returns-in_err-query-clause-valid
 returns-in_err-query-clause-valid g c = IfOk-from_err c.from_residual-in_err-query.result _ c.from_residual-in_err-query.ensures.0
+
+pub returns-in_err-program-clause-same_texts : goal.returns-in_err-program-clause-same_texts
+returns-in_err-program-clause-same_texts g c = c.in_err-program.ensures.same_texts
+
+pub returns-in_err-query-clause-same_texts : goal.returns-in_err-query-clause-same_texts
+returns-in_err-query-clause-same_texts g c = c.in_err-query.ensures.same_texts ∙ c.in_ok-program.ensures.same_texts
+
+pub returns-clause-same_texts : goal.returns-clause-same_texts
+returns-clause-same_texts g c = c.in_ok-query.ensures.same_texts ∙ c.in_ok-program.ensures.same_texts
+
+pub returns-in_err-program-clause-faults_kept : goal.returns-in_err-program-clause-faults_kept
+returns-in_err-program-clause-faults_kept g c = c.in_err-program.ensures.faults_kept
+
+pub returns-in_err-query-clause-faults_kept : goal.returns-in_err-query-clause-faults_kept
+returns-in_err-query-clause-faults_kept g c = le_trans c.in_ok-program.ensures.faults_kept c.in_err-query.ensures.faults_kept
+
+pub returns-clause-faults_kept : goal.returns-clause-faults_kept
+returns-clause-faults_kept g c = le_trans c.in_ok-program.ensures.faults_kept c.in_ok-query.ensures.faults_kept
+
+pub returns-in_err-program-clause-absences_kept : goal.returns-in_err-program-clause-absences_kept
+returns-in_err-program-clause-absences_kept g c = c.in_err-program.ensures.absences_kept
+
+pub returns-in_err-query-clause-absences_kept : goal.returns-in_err-query-clause-absences_kept
+returns-in_err-query-clause-absences_kept g c = le_trans c.in_ok-program.ensures.absences_kept c.in_err-query.ensures.absences_kept
+
+pub returns-clause-absences_kept : goal.returns-clause-absences_kept
+returns-clause-absences_kept g c = le_trans c.in_ok-program.ensures.absences_kept c.in_ok-query.ensures.absences_kept
+
+pub returns-clause-valid : goal.returns-clause-valid
+returns-clause-valid g c = c.problem_of.ensures.valid
+
+pub problem_of-requires-clause-bound : goal.problem_of-requires-clause-bound
+problem_of-requires-clause-bound g c = c.requires.bound

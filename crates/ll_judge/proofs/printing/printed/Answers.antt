@@ -14,3 +14,21 @@ returns-clause-refused g c = source-unprinted _ _ _ c.args.name.now c.in_ok-text
 
 pub returns-in_err-text-clause-bytes : goal.returns-in_err-text-clause-bytes
 returns-in_err-text-clause-bytes g c = IfOk-from_err c.from_residual.result _ c.from_residual.ensures.0
+
+pub returns-in_err-text-clause-same_texts : goal.returns-in_err-text-clause-same_texts
+returns-in_err-text-clause-same_texts g c = c.in_err-text.ensures.same_texts
+
+pub returns-clause-same_texts : goal.returns-clause-same_texts
+returns-clause-same_texts g c = c.in_ok-text.ensures.same_texts
+
+pub returns-in_err-text-clause-faults_kept : goal.returns-in_err-text-clause-faults_kept
+returns-in_err-text-clause-faults_kept g c = c.in_err-text.ensures.faults_kept
+
+pub returns-clause-faults_kept : goal.returns-clause-faults_kept
+returns-clause-faults_kept g c = c.in_ok-text.ensures.faults_kept
+
+pub returns-in_err-text-clause-absences_kept : goal.returns-in_err-text-clause-absences_kept
+returns-in_err-text-clause-absences_kept g c = c.in_err-text.ensures.absences_kept
+
+pub returns-clause-absences_kept : goal.returns-clause-absences_kept
+returns-clause-absences_kept g c = c.in_ok-text.ensures.absences_kept

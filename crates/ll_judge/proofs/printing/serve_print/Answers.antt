@@ -1,3 +1,4 @@
+use Rattle.std.proofs.Common.{le_trans}
 use Rattle.ll_edge.proofs.CallerLemmas.{Rose-later}
 use Rattle.ll_judge.specs.Endings.{cause_of}
 use Rattle.ll_judge.proofs.OutcomeLemmas.{printed-ends, print-cut-ends, refuses-later, print-refusal-ends}
@@ -14,3 +15,51 @@ returns-in-Err-Text-clause-ends g c =
     let h = rw c.in-Err-Text.field-0-is at c.in-Err-Text.ensures.ends in
     print-refusal-ends _ _ _ c.args.name.now _ _ _ _ (cause_of c.args.name.now c.in-Err-Text.refusal) _ h.0 h.1
     (refuses-later _ _ _ _ _ _ (Rose-later _ _ _ c.in-Err-Text.ensures.sink_faults_kept) (rw c.cause.ensures at c.refuse.ensures.refuses))
+
+pub returns-in-Ok-clause-same_texts : goal.returns-in-Ok-clause-same_texts
+returns-in-Ok-clause-same_texts g c = c.in-Ok.ensures.same_texts
+
+pub returns-in-Ok-clause-shelf_faults_kept : goal.returns-in-Ok-clause-shelf_faults_kept
+returns-in-Ok-clause-shelf_faults_kept g c = c.in-Ok.ensures.shelf_faults_kept
+
+pub returns-in-Ok-clause-absences_kept : goal.returns-in-Ok-clause-absences_kept
+returns-in-Ok-clause-absences_kept g c = c.in-Ok.ensures.absences_kept
+
+pub returns-in-Ok-clause-sink_faults_kept : goal.returns-in-Ok-clause-sink_faults_kept
+returns-in-Ok-clause-sink_faults_kept g c = c.in-Ok.ensures.sink_faults_kept
+
+pub returns-in-Err-Text-clause-same_texts : goal.returns-in-Err-Text-clause-same_texts
+returns-in-Err-Text-clause-same_texts g c = c.in-Err-Text.ensures.same_texts
+
+pub returns-in-Err-Text-clause-shelf_faults_kept : goal.returns-in-Err-Text-clause-shelf_faults_kept
+returns-in-Err-Text-clause-shelf_faults_kept g c = c.in-Err-Text.ensures.shelf_faults_kept
+
+pub returns-in-Err-Text-clause-absences_kept : goal.returns-in-Err-Text-clause-absences_kept
+returns-in-Err-Text-clause-absences_kept g c = c.in-Err-Text.ensures.absences_kept
+
+pub returns-in-Err-Text-clause-sink_faults_kept : goal.returns-in-Err-Text-clause-sink_faults_kept
+returns-in-Err-Text-clause-sink_faults_kept g c = le_trans c.in-Err-Text.ensures.sink_faults_kept c.refuse.ensures.faults_kept
+
+pub returns-in-Err-Unwritable-clause-same_texts : goal.returns-in-Err-Unwritable-clause-same_texts
+returns-in-Err-Unwritable-clause-same_texts g c = c.in-Err-Unwritable.ensures.same_texts
+
+pub returns-in-Err-Unwritable-clause-shelf_faults_kept : goal.returns-in-Err-Unwritable-clause-shelf_faults_kept
+returns-in-Err-Unwritable-clause-shelf_faults_kept g c = c.in-Err-Unwritable.ensures.shelf_faults_kept
+
+pub returns-in-Err-Unwritable-clause-absences_kept : goal.returns-in-Err-Unwritable-clause-absences_kept
+returns-in-Err-Unwritable-clause-absences_kept g c = c.in-Err-Unwritable.ensures.absences_kept
+
+pub returns-in-Err-Unwritable-clause-sink_faults_kept : goal.returns-in-Err-Unwritable-clause-sink_faults_kept
+returns-in-Err-Unwritable-clause-sink_faults_kept g c = c.in-Err-Unwritable.ensures.sink_faults_kept
+
+pub returns-in-Err-OutOfMemory-clause-same_texts : goal.returns-in-Err-OutOfMemory-clause-same_texts
+returns-in-Err-OutOfMemory-clause-same_texts g c = c.in-Err-OutOfMemory.ensures.same_texts
+
+pub returns-in-Err-OutOfMemory-clause-shelf_faults_kept : goal.returns-in-Err-OutOfMemory-clause-shelf_faults_kept
+returns-in-Err-OutOfMemory-clause-shelf_faults_kept g c = c.in-Err-OutOfMemory.ensures.shelf_faults_kept
+
+pub returns-in-Err-OutOfMemory-clause-absences_kept : goal.returns-in-Err-OutOfMemory-clause-absences_kept
+returns-in-Err-OutOfMemory-clause-absences_kept g c = c.in-Err-OutOfMemory.ensures.absences_kept
+
+pub returns-in-Err-OutOfMemory-clause-sink_faults_kept : goal.returns-in-Err-OutOfMemory-clause-sink_faults_kept
+returns-in-Err-OutOfMemory-clause-sink_faults_kept g c = c.in-Err-OutOfMemory.ensures.sink_faults_kept

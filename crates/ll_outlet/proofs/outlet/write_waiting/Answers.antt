@@ -1,3 +1,4 @@
+use Rattle.std.proofs.Common.{le_refl}
 use Rattle.ll_outlet.proofs.outlet.write_waiting.Goals as goal
 
 pub returns-then-is_empty-clause-cut : goal.returns-then-is_empty-clause-cut
@@ -14,3 +15,18 @@ returns-in-Ok-clause-write g c = _
 
 pub returns-in-Err-clause-written : goal.returns-in-Err-clause-written
 returns-in-Err-clause-written g c = _
+
+pub returns-then-is_empty-clause-faults_kept : goal.returns-then-is_empty-clause-faults_kept
+returns-then-is_empty-clause-faults_kept g c = le_refl _
+
+pub returns-in-Ok-clause-faults_kept : goal.returns-in-Ok-clause-faults_kept
+returns-in-Ok-clause-faults_kept g c = c.write_all-written.ensures.faults_kept
+
+pub returns-in-Err-clause-faults_kept : goal.returns-in-Err-clause-faults_kept
+returns-in-Err-clause-faults_kept g c = c.write_all-written.ensures.faults_kept
+
+pub returns-in-Ok-clause-written : goal.returns-in-Ok-clause-written
+returns-in-Ok-clause-written g c = rw c.deref.ensures.value at c.in-Ok.ensures.appends
+
+pub returns-in-Err-clause-write : goal.returns-in-Err-clause-write
+returns-in-Err-clause-write g c = c.in-Err.ensures.failed

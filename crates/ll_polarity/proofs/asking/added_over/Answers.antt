@@ -62,3 +62,21 @@ returns-in_err-goal-clause-names c = IfOk-from_err c.from_residual.result _ c.fr
 
 pub returns-in_err-goal-clause-shows : goal.returns-in_err-goal-clause-shows
 returns-in_err-goal-clause-shows c = IfOk-from_err c.from_residual.result _ c.from_residual.ensures.0
+
+pub goal_of-requires-clause-few : goal.goal_of-requires-clause-few
+goal_of-requires-clause-few c = c.requires.few
+
+pub goal_of-requires-clause-first : goal.goal_of-requires-clause-first
+goal_of-requires-clause-first c = c.requires.first
+
+pub returns-in_err-goal-clause-keeps : goal.returns-in_err-goal-clause-keeps
+returns-in_err-goal-clause-keeps c = c.goal_of.ensures.keeps
+
+pub returns-in_err-asked-clause-keeps : goal.returns-in_err-asked-clause-keeps
+returns-in_err-asked-clause-keeps c = c.goal_of.ensures.keeps
+
+pub returns-clause-inside : goal.returns-clause-inside
+returns-clause-inside c = c.in_ok-goal.ensures.inside
+
+pub returns-clause-keeps : goal.returns-clause-keeps
+returns-clause-keeps c = c.goal_of.ensures.keeps

@@ -1,4 +1,4 @@
-use Rattle.std.proofs.Common.{[], length, None, ap, ◌∙◌, arith}
+use Rattle.std.proofs.Common.{[], length, None, ap, ◌∙◌, arith, rules}
 use Rattle.std.proofs.lemmas.Result.{IfOk-from_err}
 use Rattle.std.specs.Prelude.{unwrap_or}
 use Rattle.ll_bank.proofs.CallerLemmas.{Extends-refl}
@@ -74,3 +74,12 @@ returns-in_err-goal-clause-met c = IfOk-from_err c.from_residual-in_err-goal.res
 
 pub returns-in_err-goal-clause-shows : goal.returns-in_err-goal-clause-shows
 returns-in_err-goal-clause-shows c = IfOk-from_err c.from_residual-in_err-goal.result _ c.from_residual-in_err-goal.ensures.0
+
+pub returns-in_err-goal-clause-keeps : goal.returns-in_err-goal-clause-keeps
+returns-in_err-goal-clause-keeps c = c.form.ensures.keeps
+
+pub returns-clause-inside : goal.returns-clause-inside
+returns-clause-inside c = search rules
+
+pub returns-clause-keeps : goal.returns-clause-keeps
+returns-clause-keeps c = c.form.ensures.keeps

@@ -1,3 +1,4 @@
+use Rattle.std.proofs.Common.{rules}
 use Rattle.std.proofs.lemmas.Result.{IfOk-from_err}
 use Rattle.ll_bank.proofs.CallerLemmas.{Extends-refl}
 use Rattle.ll_polarity.proofs.asking.judged.Goals as goal
@@ -67,3 +68,36 @@ returns-in-Some-clause-inside c = _
 
 pub returns-clause-cause : goal.returns-clause-cause
 returns-clause-cause c = _
+
+pub query_fault-requires-clause-whole : goal.query_fault-requires-clause-whole
+query_fault-requires-clause-whole c = c.requires.whole
+
+pub returns-in_err-fault-clause-cause : goal.returns-in_err-fault-clause-cause
+returns-in_err-fault-clause-cause c = search rules
+
+pub added-requires-clause-whole : goal.added-requires-clause-whole
+added-requires-clause-whole c = c.requires.whole
+
+pub added-requires-clause-numbered : goal.added-requires-clause-numbered
+added-requires-clause-numbered c = c.requires.numbered
+
+pub added-requires-clause-first : goal.added-requires-clause-first
+added-requires-clause-first c = c.requires.first
+
+pub returns-in_err-addition-clause-keeps : goal.returns-in_err-addition-clause-keeps
+returns-in_err-addition-clause-keeps c = c.added.ensures.keeps
+
+pub returns-in_err-addition-clause-cause : goal.returns-in_err-addition-clause-cause
+returns-in_err-addition-clause-cause c = search rules
+
+pub returns-clause-asked : goal.returns-clause-asked
+returns-clause-asked c = c.in_ok-addition.ensures.asked
+
+pub returns-clause-names : goal.returns-clause-names
+returns-clause-names c = c.in_ok-addition.ensures.names
+
+pub returns-clause-inside : goal.returns-clause-inside
+returns-clause-inside c = c.in_ok-addition.ensures.inside
+
+pub returns-clause-keeps : goal.returns-clause-keeps
+returns-clause-keeps c = c.added.ensures.keeps

@@ -1,4 +1,4 @@
-use Rattle.std.proofs.Common.{◌+◌, ◌∷◌, map, drop, [], sym, ap, ◌∙◌, slice_index_or}
+use Rattle.std.proofs.Common.{◌+◌, ◌∷◌, map, drop, [], sym, ap, ◌∙◌, slice_index_or, rules}
 use Rattle.std.proofs.lemmas.Result.{IfOk-from_err}
 use Rattle.std.specs.List.{list_any}
 use Rattle.std.specs.Str.{bytes_eq}
@@ -59,3 +59,12 @@ returns-in_err-fault c = IfOk-from_err c.from_residual-in_err-fault.result _ c.f
 
 pub returns-in_err-open : goal.returns-in_err-open
 returns-in_err-open c = IfOk-from_err c.from_residual.result _ c.from_residual.ensures.0
+
+pub loop-module-init : goal.loop-module-init
+loop-module-init c = search rules
+
+pub has-requires : goal.has-requires
+has-requires c = search rules
+
+pub open-requires : goal.open-requires
+open-requires c = search rules

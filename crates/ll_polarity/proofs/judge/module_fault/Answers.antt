@@ -1,4 +1,4 @@
-use Rattle.std.proofs.Common.{◌++◌, map, [], subst, sym, ap, ◌∙◌}
+use Rattle.std.proofs.Common.{◌++◌, map, [], subst, sym, ap, ◌∙◌, rules}
 use Rattle.std.proofs.lemmas.Result.{IfOk-from_err}
 use Rattle.ll_parser.specs.Nodes.{identifier, shown_clause}
 use Rattle.ll_polarity.specs.Scope.{Scoped}
@@ -83,3 +83,12 @@ clauses_fault-requires-clause-texts c =
 pub clauses_fault-requires-clause-ready : goal.clauses_fault-requires-clause-ready
 clauses_fault-requires-clause-ready c =
     subst (AreClausesReady c.args.source.now.names.now c.args.source.now.forms.now) (sym c.deref-3.ensures.value) c.requires.ready.clauses
+
+pub returns-then-is_some-clause-first : goal.returns-then-is_some-clause-first
+returns-then-is_some-clause-first c = search rules
+
+pub returns-then-is_some-clause-binders : goal.returns-then-is_some-clause-binders
+returns-then-is_some-clause-binders c = search rules
+
+pub returns-clause-binders : goal.returns-clause-binders
+returns-clause-binders c = search rules

@@ -1,4 +1,4 @@
-use Rattle.std.proofs.Common.{◌≡◌, ℕ, ◌+◌, ◌*◌, ◌<◌, ◌≤◌, zero-le, [], length, Some, ap, ◌∙◌, arith}
+use Rattle.std.proofs.Common.{◌≡◌, ℕ, ◌+◌, ◌*◌, ◌<◌, ◌≤◌, zero-le, [], length, Some, ap, ◌∙◌, arith, rules}
 use Rattle.std.specs.Prelude.{◌^◌}
 use Rattle.std.proofs.lemmas.Result.{IfOk-weaker, IfOk-from_err}
 use Rattle.ll_bank.specs.Nodes.{HasForm, ShowsForm, form_tree}
@@ -131,3 +131,18 @@ returns-in_err-body-clause-scope c = IfOk-from_err c.from_residual-in_err-body.r
 
 pub returns-in_err-body-clause-texts : goal.returns-in_err-body-clause-texts
 returns-in_err-body-clause-texts c = IfOk-from_err c.from_residual-in_err-body.result _ c.from_residual-in_err-body.ensures.0
+
+pub counted-requires-clause-stands : goal.counted-requires-clause-stands
+counted-requires-clause-stands c = c.requires.stands
+
+pub counted-requires-clause-ready : goal.counted-requires-clause-ready
+counted-requires-clause-ready c = c.requires.ready
+
+pub counted-requires-clause-room : goal.counted-requires-clause-room
+counted-requires-clause-room c = c.requires.room
+
+pub form-requires-clause-ready : goal.form-requires-clause-ready
+form-requires-clause-ready c = c.requires.ready
+
+pub under-requires : goal.under-requires
+under-requires c = search rules

@@ -1,4 +1,4 @@
-use Rattle.std.proofs.Common.{◌≡◌, ℕ, suc, ◌+◌, ◌*◌, ◌<◌, ◌≤◌, List, length, refl, sym, subst, ap, arith}
+use Rattle.std.proofs.Common.{◌≡◌, ℕ, suc, ◌+◌, ◌*◌, ◌<◌, ◌≤◌, List, length, refl, sym, subst, ap, arith, rules}
 use Rattle.std.proofs.lemmas.Result.{IfOk-from_err}
 use Rattle.std.specs.Prelude.{◌^◌, unwrap_or}
 use Rattle.ll_bank.specs.Form.{One, Top}
@@ -222,3 +222,63 @@ returns-in_err-form-in-Head-clause-stands c = IfOk-from_err c.from_residual.resu
 
 pub returns-in_err-form-in-Head-clause-step : goal.returns-in_err-form-in-Head-clause-step
 returns-in_err-form-in-Head-clause-step c = IfOk-from_err c.from_residual.result _ c.from_residual.ensures.0
+
+pub node-requires : goal.node-requires
+node-requires c = c.requires.ready.inside
+
+pub loads-requires-clause-stands : goal.loads-requires-clause-stands
+loads-requires-clause-stands c = c.requires.stands
+
+pub loads-requires-clause-ready : goal.loads-requires-clause-ready
+loads-requires-clause-ready c = c.requires.ready
+
+pub loads-requires-clause-room : goal.loads-requires-clause-room
+loads-requires-clause-room c = c.requires.room
+
+pub atom-requires-clause-stands : goal.atom-requires-clause-stands
+atom-requires-clause-stands c = c.requires.stands
+
+pub atom-requires-clause-ready : goal.atom-requires-clause-ready
+atom-requires-clause-ready c = c.requires.ready
+
+pub returns-in_err-form-in-Head-clause-keeps : goal.returns-in_err-form-in-Head-clause-keeps
+returns-in_err-form-in-Head-clause-keeps c = c.atom.ensures.keeps
+
+pub number_goal-requires-clause-stands : goal.number_goal-requires-clause-stands
+number_goal-requires-clause-stands c = c.requires.stands
+
+pub number_goal-requires-clause-ready : goal.number_goal-requires-clause-ready
+number_goal-requires-clause-ready c = c.requires.ready
+
+pub number_goal-requires-clause-room : goal.number_goal-requires-clause-room
+number_goal-requires-clause-room c = c.requires.room
+
+pub number_goal-requires-in-Less-clause-stands : goal.number_goal-requires-in-Less-clause-stands
+number_goal-requires-in-Less-clause-stands c = c.requires.stands
+
+pub number_goal-requires-in-Less-clause-ready : goal.number_goal-requires-in-Less-clause-ready
+number_goal-requires-in-Less-clause-ready c = c.requires.ready
+
+pub number_goal-requires-in-Less-clause-room : goal.number_goal-requires-in-Less-clause-room
+number_goal-requires-in-Less-clause-room c = c.requires.room
+
+pub number_goal-requires-in-Most-clause-stands : goal.number_goal-requires-in-Most-clause-stands
+number_goal-requires-in-Most-clause-stands c = c.requires.stands
+
+pub number_goal-requires-in-Most-clause-ready : goal.number_goal-requires-in-Most-clause-ready
+number_goal-requires-in-Most-clause-ready c = c.requires.ready
+
+pub number_goal-requires-in-Most-clause-room : goal.number_goal-requires-in-Most-clause-room
+number_goal-requires-in-Most-clause-room c = c.requires.room
+
+pub returns-in_ok-form-in-Head-clause-step : goal.returns-in_ok-form-in-Head-clause-step
+returns-in_ok-form-in-Head-clause-step c = search rules
+
+pub returns-in_ok-form-in-Head-clause-stands : goal.returns-in_ok-form-in-Head-clause-stands
+returns-in_ok-form-in-Head-clause-stands c = c.requires.stands
+
+pub returns-in_ok-form-in-Head-clause-scope : goal.returns-in_ok-form-in-Head-clause-scope
+returns-in_ok-form-in-Head-clause-scope c = one_more (length c.args.binders.now.scope)
+
+pub returns-in_ok-form-in-Head-clause-keeps : goal.returns-in_ok-form-in-Head-clause-keeps
+returns-in_ok-form-in-Head-clause-keeps c = c.atom.ensures.keeps

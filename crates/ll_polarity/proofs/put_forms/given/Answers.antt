@@ -13,6 +13,7 @@ use Rattle.ll_polarity.specs.Standing.{around}
 use Rattle.ll_polarity.specs.Numbered.{text_of}
 use Rattle.ll_polarity.specs.Frames.{FrameFits, Advances, wraps, within, frame_left}
 use Rattle.ll_polarity.proofs.putting.Framing.{advance_give, advance_read, back_out}
+use Rattle.ll_polarity.specs.Frames.{FrameHas}
 use Rattle.ll_polarity.proofs.put_forms.given.Goals as goal
 
 pub returns-in_err-push-in-Left-clause-keeps : goal.returns-in_err-push-in-Left-clause-keeps
@@ -104,3 +105,87 @@ returns-in_err-joined-in-Right-clause-step c = IfOk-from_err c.from_residual-in_
 
 pub returns-in_err-push-in-Left-clause-step : goal.returns-in_err-push-in-Left-clause-step
 returns-in_err-push-in-Left-clause-step c = IfOk-from_err c.from_residual-in_err-push-in-Left.result _ c.from_residual-in_err-push-in-Left.ensures.0
+
+pub form-requires : goal.form-requires
+form-requires c = c.requires.form
+
+pub returns-in_err-form-in-Braces-clause-texts : goal.returns-in_err-form-in-Braces-clause-texts
+returns-in_err-form-in-Braces-clause-texts c = refl
+
+pub returns-in_err-form-in-Braces-clause-keeps : goal.returns-in_err-form-in-Braces-clause-keeps
+returns-in_err-form-in-Braces-clause-keeps c = c.form.ensures.keeps
+
+pub form-requires-in-Forall : goal.form-requires-in-Forall
+form-requires-in-Forall c = c.requires.form
+
+pub returns-in_err-form-in-Forall-clause-texts : goal.returns-in_err-form-in-Forall-clause-texts
+returns-in_err-form-in-Forall-clause-texts c = c.left.ensures.texts
+
+pub returns-in_err-form-in-Forall-clause-keeps : goal.returns-in_err-form-in-Forall-clause-keeps
+returns-in_err-form-in-Forall-clause-keeps c = c.form-in-Forall.ensures.keeps
+
+pub form-requires-in-Exists : goal.form-requires-in-Exists
+form-requires-in-Exists c = c.requires.form
+
+pub returns-in_err-form-in-Exists-clause-texts : goal.returns-in_err-form-in-Exists-clause-texts
+returns-in_err-form-in-Exists-clause-texts c = c.left-in-Exists.ensures.texts
+
+pub returns-in_err-form-in-Exists-clause-keeps : goal.returns-in_err-form-in-Exists-clause-keeps
+returns-in_err-form-in-Exists-clause-keeps c = c.form-in-Exists.ensures.keeps
+
+pub returns-in_err-push-in-Left-clause-texts : goal.returns-in_err-push-in-Left-clause-texts
+returns-in_err-push-in-Left-clause-texts c = refl
+
+pub joined-requires-clause-left : goal.joined-requires-clause-left
+joined-requires-clause-left c = subst (FrameHas c.args.bank.now) c.in-Right.is c.requires.fits
+
+pub joined-requires-clause-right : goal.joined-requires-clause-right
+joined-requires-clause-right c = c.requires.form
+
+pub returns-in_err-joined-in-Right-clause-texts : goal.returns-in_err-joined-in-Right-clause-texts
+returns-in_err-joined-in-Right-clause-texts c = refl
+
+pub returns-in_err-joined-in-Right-clause-keeps : goal.returns-in_err-joined-in-Right-clause-keeps
+returns-in_err-joined-in-Right-clause-keeps c = c.joined.ensures.keeps
+
+pub form-requires-in-Load : goal.form-requires-in-Load
+form-requires-in-Load c = (rw c.deref.ensures.value (subst (FrameHas c.args.bank.now) c.in-Load.is c.requires.fits), c.requires.form)
+
+pub returns-in_err-form-in-Load-clause-texts : goal.returns-in_err-form-in-Load-clause-texts
+returns-in_err-form-in-Load-clause-texts c = refl
+
+pub returns-in_err-form-in-Load-clause-keeps : goal.returns-in_err-form-in-Load-clause-keeps
+returns-in_err-form-in-Load-clause-keeps c = c.form-in-Load.ensures.keeps
+
+pub returns-in_ok-form-in-Braces-clause-texts : goal.returns-in_ok-form-in-Braces-clause-texts
+returns-in_ok-form-in-Braces-clause-texts c = refl
+
+pub returns-in_ok-form-in-Braces-clause-keeps : goal.returns-in_ok-form-in-Braces-clause-keeps
+returns-in_ok-form-in-Braces-clause-keeps c = c.form.ensures.keeps
+
+pub returns-in_ok-form-in-Forall-clause-texts : goal.returns-in_ok-form-in-Forall-clause-texts
+returns-in_ok-form-in-Forall-clause-texts c = c.left.ensures.texts
+
+pub returns-in_ok-form-in-Forall-clause-keeps : goal.returns-in_ok-form-in-Forall-clause-keeps
+returns-in_ok-form-in-Forall-clause-keeps c = c.form-in-Forall.ensures.keeps
+
+pub returns-in_ok-form-in-Exists-clause-texts : goal.returns-in_ok-form-in-Exists-clause-texts
+returns-in_ok-form-in-Exists-clause-texts c = c.left-in-Exists.ensures.texts
+
+pub returns-in_ok-form-in-Exists-clause-keeps : goal.returns-in_ok-form-in-Exists-clause-keeps
+returns-in_ok-form-in-Exists-clause-keeps c = c.form-in-Exists.ensures.keeps
+
+pub returns-in_ok-push-in-Left-clause-texts : goal.returns-in_ok-push-in-Left-clause-texts
+returns-in_ok-push-in-Left-clause-texts c = refl
+
+pub returns-in_ok-joined-in-Right-clause-texts : goal.returns-in_ok-joined-in-Right-clause-texts
+returns-in_ok-joined-in-Right-clause-texts c = refl
+
+pub returns-in_ok-joined-in-Right-clause-keeps : goal.returns-in_ok-joined-in-Right-clause-keeps
+returns-in_ok-joined-in-Right-clause-keeps c = c.joined.ensures.keeps
+
+pub returns-in_ok-form-in-Load-clause-texts : goal.returns-in_ok-form-in-Load-clause-texts
+returns-in_ok-form-in-Load-clause-texts c = refl
+
+pub returns-in_ok-form-in-Load-clause-keeps : goal.returns-in_ok-form-in-Load-clause-keeps
+returns-in_ok-form-in-Load-clause-keeps c = c.form-in-Load.ensures.keeps

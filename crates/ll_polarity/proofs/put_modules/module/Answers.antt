@@ -149,3 +149,9 @@ returns-in_err-open_all-clause-names c = IfOk-from_err c.from_residual-in_err-op
 
 pub returns-in_err-open_all-clause-shows : goal.returns-in_err-open_all-clause-shows
 returns-in_err-open_all-clause-shows c = IfOk-from_err c.from_residual-in_err-open_all.result _ c.from_residual-in_err-open_all.ensures.0
+
+pub add-requires : goal.add-requires
+add-requires c = search rules
+
+pub returns-clause-binders : goal.returns-clause-binders
+returns-clause-binders c = search rules

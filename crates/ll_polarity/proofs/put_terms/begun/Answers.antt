@@ -1,4 +1,4 @@
-use Rattle.std.proofs.Common.{refl, subst, arith}
+use Rattle.std.proofs.Common.{refl, subst, arith, rules}
 use Rattle.std.proofs.lemmas.Result.{IfOk-from_err}
 use Rattle.ll_bank.proofs.CallerLemmas.{Extends-refl}
 use Rattle.ll_parser.specs.Nodes.{identifier, raws_in, raw_trees}
@@ -118,3 +118,18 @@ returns-in_ok-term-in-Any-clause-next c = _
 
 pub returns-in_ok-term-in-Int-clause-next : goal.returns-in_ok-term-in-Int-clause-next
 returns-in_ok-term-in-Int-clause-next c = _
+
+pub with_arguments-requires : goal.with_arguments-requires
+with_arguments-requires c = search rules
+
+pub returns-in_ok-term-in-Any-clause-fits : goal.returns-in_ok-term-in-Any-clause-fits
+returns-in_ok-term-in-Any-clause-fits c = search rules
+
+pub returns-in_ok-term-in-Int-clause-begun : goal.returns-in_ok-term-in-Int-clause-begun
+returns-in_ok-term-in-Int-clause-begun c = search rules
+
+pub returns-in_ok-term-in-Int-clause-fits : goal.returns-in_ok-term-in-Int-clause-fits
+returns-in_ok-term-in-Int-clause-fits c = search rules
+
+pub returns-in_ok-term-in-True : goal.returns-in_ok-term-in-True
+returns-in_ok-term-in-True c = search rules

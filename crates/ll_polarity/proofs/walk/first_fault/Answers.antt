@@ -1,4 +1,4 @@
-use Rattle.std.proofs.Common.{◌∷◌, sym, subst, ap, ◌∙◌}
+use Rattle.std.proofs.Common.{◌∷◌, sym, subst, ap, ◌∙◌, refl, rules}
 use Rattle.std.proofs.lemmas.Result.{IfOk-from_err}
 use Rattle.ll_polarity.specs.Pending.{pending_faults, AreReady}
 use Rattle.ll_polarity.proofs.walk.first_fault.Goals as goal
@@ -49,3 +49,39 @@ open_term-requires-clause-texts c = c.loop-part.invariant.texts
 
 pub returns-in-Found-clause-binders : goal.returns-in-Found-clause-binders
 returns-in-Found-clause-binders c = tt
+
+pub same-parts : goal.same-parts
+same-parts c = refl
+
+pub loop-part-init : goal.loop-part-init
+loop-part-init c = search rules
+
+pub same-parts-in-Continue-branch-2 : goal.same-parts-in-Continue-branch-2
+same-parts-in-Continue-branch-2 c = refl
+
+pub loop-part-smaller-in-Continue-branch-2 : goal.loop-part-smaller-in-Continue-branch-2
+loop-part-smaller-in-Continue-branch-2 c = search rules
+
+pub loop-part-preserved-in-Continue-branch-2 : goal.loop-part-preserved-in-Continue-branch-2
+loop-part-preserved-in-Continue-branch-2 c = search rules
+
+pub same-parts-in-Continue-branch-3 : goal.same-parts-in-Continue-branch-3
+same-parts-in-Continue-branch-3 c = refl
+
+pub loop-part-smaller-in-Continue-branch-3 : goal.loop-part-smaller-in-Continue-branch-3
+loop-part-smaller-in-Continue-branch-3 c = search rules
+
+pub loop-part-preserved-in-Continue-branch-3 : goal.loop-part-preserved-in-Continue-branch-3
+loop-part-preserved-in-Continue-branch-3 c = search rules
+
+pub loop-part-smaller : goal.loop-part-smaller
+loop-part-smaller c = search rules
+
+pub loop-part-preserved : goal.loop-part-preserved
+loop-part-preserved c = search rules
+
+pub returns-clause-first : goal.returns-clause-first
+returns-clause-first c = search rules
+
+pub returns-clause-binders : goal.returns-clause-binders
+returns-clause-binders c = search rules

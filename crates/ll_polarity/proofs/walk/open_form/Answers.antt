@@ -1,4 +1,4 @@
-use Rattle.std.proofs.Common.{ℕ, suc, ◌+◌, ◌*◌, ◌<◌, ◌≤◌, List, [], ◌∷◌, ◌++◌, map, length, append_assoc, sym, subst, ap, ◌∙◌, arith, slice_index_or}
+use Rattle.std.proofs.Common.{ℕ, suc, ◌+◌, ◌*◌, ◌<◌, ◌≤◌, List, [], ◌∷◌, ◌++◌, map, length, append_assoc, sym, subst, ap, ◌∙◌, arith, slice_index_or, rules}
 use Rattle.std.proofs.lemmas.Result.{IfOk-from_err}
 use Rattle.std.specs.Prelude.{option_to_list, OnOk}
 use Rattle.ll_lexer.specs.declared.Fault.{Fault}
@@ -11,6 +11,7 @@ use Rattle.ll_polarity.specs.Named.{IsNamed}
 use Rattle.ll_polarity.specs.Pending.{side_of, size, IsReady, IsOpened}
 use Rattle.ll_polarity.proofs.putting.Opening.{opened-head, opened-load, opened-faults, opened-last, opened-body, fault-before, opened-as}
 use Rattle.ll_polarity.proofs.putting.Opening.{form-before, opened-result, opened-quantifier, unless-few, ok-each, ok-always, ok-texts}
+use Rattle.ll_polarity.proofs.naming.Named.{number-within}
 use Rattle.ll_polarity.proofs.walk.open_form.Goals as goal
 
 -- what is put next of one part, and of two
@@ -179,3 +180,41 @@ returns-in_err-open_number-in-Is-clause-opened c =
 pub returns-in_err-open_number-in-Is-clause-texts : goal.returns-in_err-open_number-in-Is-clause-texts
 returns-in_err-open_number-in-Is-clause-texts c =
     IfOk-from_err c.from_residual-in_err-open_number-in-Is.result _ c.from_residual-in_err-open_number-in-Is.ensures.0
+
+pub place-place-requires : goal.place-place-requires
+place-place-requires c = c.requires.ready.0
+
+pub node-requires : goal.node-requires
+node-requires c = c.requires.ready.0
+
+pub open_body-requires : goal.open_body-requires
+open_body-requires c =
+    let texts = c.args.source.now.names.now in
+    subst (λ (ts : List (List ℕ)). c.in-Forall.name.name < length ts) (sym c.requires.texts)
+    (number-within texts c.in-Forall.name (subst IsNamed (c.in-Forall.ensures.tree texts) c.requires.ready.1).0)
+
+pub open_body-requires-in-Exists : goal.open_body-requires-in-Exists
+open_body-requires-in-Exists c =
+    let texts = c.args.source.now.names.now in
+    subst (λ (ts : List (List ℕ)). c.in-Exists.name.name < length ts) (sym c.requires.texts)
+    (number-within texts c.in-Exists.name (subst IsNamed (c.in-Exists.ensures.tree texts) c.requires.ready.1).0)
+
+pub text-text-requires : goal.text-text-requires
+text-text-requires c =
+    let texts = c.args.source.now.names.now in
+    number-within texts c.in-Load.name (subst IsNamed (c.in-Load.ensures.tree texts) c.requires.ready.1).0
+
+pub meaning-requires : goal.meaning-requires
+meaning-requires c =
+    let texts = c.args.source.now.names.now in
+    subst (λ (ts : List (List ℕ)). c.in-Head.name.name < length ts) (sym c.requires.texts)
+    (number-within texts c.in-Head.name (subst IsNamed (c.in-Head.ensures.tree texts) c.requires.ready.1).0)
+
+pub returns-in-Erase-clause-opened : goal.returns-in-Erase-clause-opened
+returns-in-Erase-clause-opened c = search rules
+
+pub returns-in-Erase-clause-texts : goal.returns-in-Erase-clause-texts
+returns-in-Erase-clause-texts c = c.requires.texts
+
+pub returns-in_ok-open_number-in-Is-clause-texts : goal.returns-in_ok-open_number-in-Is-clause-texts
+returns-in_ok-open_number-in-Is-clause-texts c = c.requires.texts

@@ -34,3 +34,8 @@ returns-clause-begun c =
 
 pub returns-in_err-write_binding-clause-text : goal.returns-in_err-write_binding-clause-text
 returns-in_err-write_binding-clause-text c = IfOk-from_err c.from_residual.result _ c.from_residual.ensures.0
+
+pub returns-clause-text : goal.returns-clause-text
+returns-clause-text c =
+    subst (λ xs. c.loop-i.out.items ≡ c.args.out.now.items ++ binding_lines c.args.names.now xs (term_trees c.args.bank.now c.args.terms.now))
+    (take_all c.loop-i.i c.args.asked.now (omega arith)) c.loop-i.invariant

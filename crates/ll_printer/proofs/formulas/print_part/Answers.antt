@@ -1,6 +1,6 @@
-use Rattle.std.proofs.Common.{arith, rules, w64}
+use Rattle.std.proofs.Common.{arith, rules, w64, refl}
 use Rattle.std.specs.Prelude.{FitsSigned}
-use Rattle.ll_lists.proofs.CallerLemmas.{OnOk-weaker as on_ok}
+use Rattle.ll_lists.proofs.CallerLemmas.{OnOk-weaker as on_ok, OnErr-always as on_err}
 use Rattle.ll_printer.proofs.Parts.{moves-left, moves-written, moves-number}
 use Rattle.ll_printer.proofs.formulas.print_part.Goals as goal
 
@@ -47,3 +47,48 @@ pub returns-in-Expression-clause-moves : goal.returns-in-Expression-clause-moves
 returns-in-Expression-clause-moves c = on_ok c.push_expression.result
     (moves-left c.args.source.now.names.now c.args.source.now.forms.now _ c.args.part c.args.parts.now.items c.push_expression.new.parts.items
     c.args.out.now.items c.in-Expression.is) c.push_expression.ensures
+
+pub returns-in-Formula-clause-refused : goal.returns-in-Formula-clause-refused
+returns-in-Formula-clause-refused c = on_err c.push_formula.result refl
+
+pub returns-in-Inside-clause-refused : goal.returns-in-Inside-clause-refused
+returns-in-Inside-clause-refused c = on_err c.push_inside.result refl
+
+pub returns-in-Term-clause-refused : goal.returns-in-Term-clause-refused
+returns-in-Term-clause-refused c = on_err c.push_term.result refl
+
+pub returns-in-Argument-clause-refused : goal.returns-in-Argument-clause-refused
+returns-in-Argument-clause-refused c = on_err c.push_argument.result refl
+
+pub returns-in-Item-clause-refused : goal.returns-in-Item-clause-refused
+returns-in-Item-clause-refused c = on_err c.push_item.result refl
+
+pub returns-in-Expression-clause-refused : goal.returns-in-Expression-clause-refused
+returns-in-Expression-clause-refused c = on_err c.push_expression.result refl
+
+pub returns-in-Name-clause-refused : goal.returns-in-Name-clause-refused
+returns-in-Name-clause-refused c = c.write_identifier.ensures.refused
+
+pub returns-in-Number-clause-refused : goal.returns-in-Number-clause-refused
+returns-in-Number-clause-refused c = c.write_integer.ensures.refused
+
+pub returns-in-Word-clause-refused : goal.returns-in-Word-clause-refused
+returns-in-Word-clause-refused c = c.write_word.ensures.refused
+
+pub push_formula-requires : goal.push_formula-requires
+push_formula-requires c = rw c.in-Formula.is at c.requires
+
+pub push_inside-requires : goal.push_inside-requires
+push_inside-requires c = rw c.in-Inside.is at c.requires
+
+pub push_term-requires : goal.push_term-requires
+push_term-requires c = rw c.in-Term.is at c.requires
+
+pub push_argument-requires : goal.push_argument-requires
+push_argument-requires c = rw c.in-Argument.is at c.requires
+
+pub push_item-requires : goal.push_item-requires
+push_item-requires c = rw c.in-Item.is at c.requires
+
+pub push_expression-requires : goal.push_expression-requires
+push_expression-requires c = rw c.in-Expression.is at c.requires

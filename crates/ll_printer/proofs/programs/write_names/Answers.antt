@@ -1,7 +1,10 @@
-use Rattle.std.proofs.Common.{arith}
+use Rattle.std.proofs.Common.{arith, map}
 use Rattle.std.proofs.lemmas.Result.{IfOk-from_err}
 use Rattle.ll_lists.proofs.CallerLemmas.{OnErr-always as on_err}
-use Rattle.ll_printer.proofs.Lines.{names-on, names-refused}
+use Rattle.ll_parser.specs.Nodes.{identifier}
+use Rattle.ll_parser.specs.Printed.{names_text}
+use Rattle.ll_printer.proofs.Parts.{writing-begins}
+use Rattle.ll_printer.proofs.Lines.{names-on, names-refused, names-end, end-refused}
 use Rattle.ll_printer.proofs.programs.write_names.Goals as goal
 
 pub returns-in_err-write_name-clause-begun : goal.returns-in_err-write_name-clause-begun
@@ -16,3 +19,16 @@ loop-i-preserved c =
 
 pub returns-in_err-write_name-clause-text : goal.returns-in_err-write_name-clause-text
 returns-in_err-write_name-clause-text c = IfOk-from_err c.from_residual.result _ c.from_residual.ensures.0
+
+pub loop-i-init : goal.loop-i-init
+loop-i-init c = writing-begins (names_text (map (identifier c.args.names.now) c.args.list.now)) c.args.out.now.items
+
+pub returns-clause-text : goal.returns-clause-text
+returns-clause-text c =
+    names-end c.args.names.now c.args.list.now c.loop-i.i c.args.out.now.items c.loop-i.out.items c.extend_from_slice.new.self.items
+    (omega (arith, c.loop-i-test.false)) c.loop-i.invariant c.extend_from_slice.result c.extend_from_slice.ensures.items
+
+pub returns-clause-begun : goal.returns-clause-begun
+returns-clause-begun c =
+    end-refused c.args.names.now c.args.list.now c.loop-i.i c.args.out.now.items c.loop-i.out.items c.extend_from_slice.new.self.items
+    (omega (arith, c.loop-i-test.false)) c.loop-i.invariant c.extend_from_slice.result c.extend_from_slice.ensures.items

@@ -26,3 +26,6 @@ returns-in_err-number-in-App-2-clause-gain c = IfOk-from_err c.from_residual-in_
 
 pub returns-in_err-number-in-App-2-clause-number : goal.returns-in_err-number-in-App-2-clause-number
 returns-in_err-number-in-App-2-clause-number c = IfOk-from_err c.from_residual-in_err-number-in-App-2.result _ c.from_residual-in_err-number-in-App-2.ensures.0
+
+pub returns-after-loop-arg-clause-gain : goal.returns-after-loop-arg-clause-gain
+returns-after-loop-arg-clause-gain c = c.loop-arg.invariant.gain

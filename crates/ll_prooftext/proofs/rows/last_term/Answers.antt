@@ -37,3 +37,9 @@ returns-clause-grows c = c.term_field.ensures.grows
 
 pub returns-clause-err : goal.returns-clause-err
 returns-clause-err c = _
+
+pub term_field-requires-clause-end : goal.term_field-requires-clause-end
+term_field-requires-clause-end c = c.requires.end
+
+pub term_field-requires-clause-room : goal.term_field-requires-clause-room
+term_field-requires-clause-room c = c.requires.room

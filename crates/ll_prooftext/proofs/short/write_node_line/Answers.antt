@@ -79,3 +79,9 @@ returns-in_default c =
 
 pub write_plain_node-requires : goal.write_plain_node-requires
 write_plain_node-requires c = record { inside = c.requires.inside; plain = termless c.args.node.now c.in_default.not-Exists c.in_default.not-Clause }
+
+pub write_field-requires-clause-rows : goal.write_field-requires-clause-rows
+write_field-requires-clause-rows c = c.requires.rows
+
+pub write_fields-requires-clause-rows : goal.write_fields-requires-clause-rows
+write_fields-requires-clause-rows c = c.requires.rows

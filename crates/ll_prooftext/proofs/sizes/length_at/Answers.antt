@@ -57,3 +57,6 @@ returns-in_err-term c = IfOk-from_err c.from_residual.result _ c.from_residual.e
 
 pub returns-in_err-write_head : goal.returns-in_err-write_head
 returns-in_err-write_head c = IfOk-from_err c.from_residual-in_err-write_head.result _ c.from_residual-in_err-write_head.ensures.0
+
+pub spine_at-head-requires-clause-inside : goal.spine_at-head-requires-clause-inside
+spine_at-head-requires-clause-inside c = c.requires.inside

@@ -6,3 +6,9 @@ returns-in_err-classes-clause-table c = IfOk-from_err c.from_residual.result _ c
 
 pub returns-in_err-classes-clause-reach : goal.returns-in_err-classes-clause-reach
 returns-in_err-classes-clause-reach c = IfOk-from_err c.from_residual.result _ c.from_residual.ensures.0
+
+pub returns-clause-table : goal.returns-clause-table
+returns-clause-table c = c.table_with.ensures.table
+
+pub returns-clause-reach : goal.returns-clause-reach
+returns-clause-reach c = c.table_with.ensures.reach

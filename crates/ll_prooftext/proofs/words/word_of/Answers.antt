@@ -102,3 +102,6 @@ returns-in-None-number_of-clause-moves c = _
 
 pub returns-in-None-name_of-clause-moves : goal.returns-in-None-name_of-clause-moves
 returns-in-None-name_of-clause-moves c = _
+
+pub returns-in-None-name_of-clause-grows : goal.returns-in-None-name_of-clause-grows
+returns-in-None-name_of-clause-grows c = grows_none c.args.names.now

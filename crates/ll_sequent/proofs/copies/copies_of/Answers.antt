@@ -58,3 +58,15 @@ returns-in_err-copy_line-clause-asked c = IfOk-from_err c.from_residual-in_err-c
 
 pub returns-in_err-copy_line-clause-lines : goal.returns-in_err-copy_line-clause-lines
 returns-in_err-copy_line-clause-lines c = IfOk-from_err c.from_residual-in_err-copy_line.result _ c.from_residual-in_err-copy_line.ensures.0
+
+pub returns-in_err-copy_all-clause-keeps : goal.returns-in_err-copy_all-clause-keeps
+returns-in_err-copy_all-clause-keeps c = c.in_err-copy_all.ensures.keeps
+
+pub returns-clause-copies : goal.returns-clause-copies
+returns-clause-copies c = c.loop-i.invariant.copies
+
+pub returns-clause-asked : goal.returns-clause-asked
+returns-clause-asked c = c.loop-i.invariant.asked
+
+pub returns-clause-keeps : goal.returns-clause-keeps
+returns-clause-keeps c = c.loop-i.invariant.keeps

@@ -36,3 +36,12 @@ returns-in_err-copy_up_to-clause-reach c = IfOk-from_err c.from_residual.result 
 
 pub returns-in_err-copy_up_to-clause-more : goal.returns-in_err-copy_up_to-clause-more
 returns-in_err-copy_up_to-clause-more c = IfOk-from_err c.from_residual.result _ c.from_residual.ensures.0
+
+pub returns-clause-copies : goal.returns-clause-copies
+returns-clause-copies c = c.loop-i.invariant.copies
+
+pub returns-clause-more : goal.returns-clause-more
+returns-clause-more c = c.loop-i.invariant.more
+
+pub returns-clause-keeps : goal.returns-clause-keeps
+returns-clause-keeps c = c.loop-i.invariant.keeps

@@ -10,3 +10,9 @@ returns-in_default c = record {
   more = omega arith;
   keeps = Extends-refl c.args.bank.now;
 }
+
+pub copy_up_to-requires-clause-copies : goal.copy_up_to-requires-clause-copies
+copy_up_to-requires-clause-copies c = c.requires.copies
+
+pub copy_all-requires-clause-copies : goal.copy_all-requires-clause-copies
+copy_all-requires-clause-copies c = c.requires.copies

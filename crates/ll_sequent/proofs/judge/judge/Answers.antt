@@ -33,3 +33,12 @@ returns c =
     → Tells verdict (fault_at (operators_of c.args.names.now) (map (module_tree c.args.start.bank) c.args.modules.now) x
     (sequent_in c.args.start.bank c.args.start.free.items c.args.start.root))) in
     subst P c.deref.ensures.value c.judge_nodes.ensures
+
+pub judge_nodes-requires-clause-has : goal.judge_nodes-requires-clause-has
+judge_nodes-requires-clause-has c = c.requires.has
+
+pub judge_nodes-requires-clause-modules : goal.judge_nodes-requires-clause-modules
+judge_nodes-requires-clause-modules c = c.requires.modules
+
+pub judge_nodes-requires-clause-holds : goal.judge_nodes-requires-clause-holds
+judge_nodes-requires-clause-holds c = c.requires.holds

@@ -28,3 +28,9 @@ returns-in_default c = record {
 
 pub returns-in_err-goal-in-Exists-clause-is : goal.returns-in_err-goal-in-Exists-clause-is
 returns-in_err-goal-in-Exists-clause-is c = IfOk-from_err c.from_residual.result _ c.from_residual.ensures.0
+
+pub returns-in_err-goal-in-Exists-clause-keeps : goal.returns-in_err-goal-in-Exists-clause-keeps
+returns-in_err-goal-in-Exists-clause-keeps c = c.in_err-goal-in-Exists.ensures.keeps
+
+pub returns-in_ok-goal-in-Exists-clause-keeps : goal.returns-in_ok-goal-in-Exists-clause-keeps
+returns-in_ok-goal-in-Exists-clause-keeps c = c.in_ok-goal-in-Exists.ensures.keeps

@@ -46,3 +46,9 @@ returns-in_err-push_all-in-App-term_at-clause-inside c = IfOk-from_err c.from_re
 
 pub returns-in_err-push_all-in-App-term_at-clause-same : goal.returns-in_err-push_all-in-App-term_at-clause-same
 returns-in_err-push_all-in-App-term_at-clause-same c = IfOk-from_err c.from_residual.result _ c.from_residual.ensures.0
+
+pub is_one_node-requires-clause-left : goal.is_one_node-requires-clause-left
+is_one_node-requires-clause-left c = c.requires.left
+
+pub is_one_node-requires-clause-right : goal.is_one_node-requires-clause-right
+is_one_node-requires-clause-right c = c.requires.right

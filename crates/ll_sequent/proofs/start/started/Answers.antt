@@ -124,3 +124,9 @@ returns-in_err-free-clause-reach c = IfOk-from_err c.from_residual-in_err-free.r
 
 pub returns-in_err-free-clause-lines : goal.returns-in_err-free-clause-lines
 returns-in_err-free-clause-lines c = IfOk-from_err c.from_residual-in_err-free.result _ c.from_residual-in_err-free.ensures.0
+
+pub copies_of-requires-clause-asked : goal.copies_of-requires-clause-asked
+copies_of-requires-clause-asked c = c.requires.asked
+
+pub copies_of-requires-clause-lines : goal.copies_of-requires-clause-lines
+copies_of-requires-clause-lines c = c.requires.lines

@@ -228,3 +228,9 @@ returns-in_err-left-in-Most-clause-shows c = IfOk-from_err c.from_residual-in_er
 
 pub returns-in_err-left-in-Most-clause-terms : goal.returns-in_err-left-in-Most-clause-terms
 returns-in_err-left-in-Most-clause-terms c = IfOk-from_err c.from_residual-in_err-left-in-Most.result _ c.from_residual-in_err-left-in-Most.ensures.0
+
+pub returns-in_ok-args-in-Use-clause-terms : goal.returns-in_ok-args-in-Use-clause-terms
+returns-in_ok-args-in-Use-clause-terms c = c.load_image.ensures.terms
+
+pub returns-in_ok-args-in-Use-clause-keeps : goal.returns-in_ok-args-in-Use-clause-keeps
+returns-in_ok-args-in-Use-clause-keeps c = c.load_image.ensures.keeps

@@ -33,3 +33,6 @@ returns-in_ok-images-in-App-clause-shows c =
 
 pub returns-in_err-images-in-App-clause-shows : goal.returns-in_err-images-in-App-clause-shows
 returns-in_err-images-in-App-clause-shows c = IfOk-from_err c.from_residual.result _ c.from_residual.ensures.0
+
+pub returns-in_ok-images-in-App-clause-keeps : goal.returns-in_ok-images-in-App-clause-keeps
+returns-in_ok-images-in-App-clause-keeps c = c.app.ensures.keeps

@@ -60,3 +60,6 @@ returns-in_err-image-clause-shows c = IfOk-from_err c.from_residual.result _ c.f
 
 pub returns-in_err-push-clause-shows : goal.returns-in_err-push-clause-shows
 returns-in_err-push-clause-shows c = IfOk-from_err c.from_residual-in_err-push.result _ c.from_residual-in_err-push.ensures.0
+
+pub returns-in_err-push-clause-keeps : goal.returns-in_err-push-clause-keeps
+returns-in_err-push-clause-keeps c = Extends-trans c.growth.invariant.keeps c.form_image.ensures.keeps

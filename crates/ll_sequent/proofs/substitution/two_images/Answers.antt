@@ -61,3 +61,9 @@ returns-in_err-second-clause-right c = IfOk-from_err c.from_residual-in_err-seco
 
 pub returns-in_err-second-clause-terms : goal.returns-in_err-second-clause-terms
 returns-in_err-second-clause-terms c = IfOk-from_err c.from_residual-in_err-second.result _ c.from_residual-in_err-second.ensures.0
+
+pub term_image-requires-clause-values : goal.term_image-requires-clause-values
+term_image-requires-clause-values c = c.requires.values
+
+pub term_image-requires-clause-terms : goal.term_image-requires-clause-terms
+term_image-requires-clause-terms c = c.requires.terms

@@ -305,3 +305,69 @@ returns-in_err-left-in-Most-clause-shows c = IfOk-from_err c.from_residual-in_er
 
 pub returns-in_err-left-in-Most-clause-terms : goal.returns-in_err-left-in-Most-clause-terms
 returns-in_err-left-in-Most-clause-terms c = IfOk-from_err c.from_residual-in_err-left-in-Most.result _ c.from_residual-in_err-left-in-Most.ensures.0
+
+pub open_term-requires-clause-inside : goal.open_term-requires-clause-inside
+open_term-requires-clause-inside c = c.in-Atom.ensures.shown.parts
+
+pub open_term-requires-clause-value : goal.open_term-requires-clause-value
+open_term-requires-clause-value c = c.requires.value
+
+pub open_term-requires-clause-images : goal.open_term-requires-clause-images
+open_term-requires-clause-images c = c.requires.terms
+
+pub returns-in_err-atom-in-Atom-clause-keeps : goal.returns-in_err-atom-in-Atom-clause-keeps
+returns-in_err-atom-in-Atom-clause-keeps c = c.open_term.ensures.keeps
+
+pub open_terms-requires-clause-value : goal.open_terms-requires-clause-value
+open_terms-requires-clause-value c = c.requires.value
+
+pub open_terms-requires-clause-images : goal.open_terms-requires-clause-images
+open_terms-requires-clause-images c = c.requires.terms
+
+pub returns-in_err-args-in-Use-2-clause-keeps : goal.returns-in_err-args-in-Use-2-clause-keeps
+returns-in_err-args-in-Use-2-clause-keeps c = c.open_terms.ensures.keeps
+
+pub open_two-requires-clause-left : goal.open_two-requires-clause-left
+open_two-requires-clause-left c = c.in-Is.ensures.shown.parts.0
+
+pub open_two-requires-clause-right : goal.open_two-requires-clause-right
+open_two-requires-clause-right c = c.in-Is.ensures.shown.parts.1
+
+pub open_two-requires-clause-value : goal.open_two-requires-clause-value
+open_two-requires-clause-value c = c.requires.value
+
+pub open_two-requires-clause-images : goal.open_two-requires-clause-images
+open_two-requires-clause-images c = c.requires.terms
+
+pub returns-in_err-left-in-Is-clause-keeps : goal.returns-in_err-left-in-Is-clause-keeps
+returns-in_err-left-in-Is-clause-keeps c = c.open_two.ensures.keeps
+
+pub open_two-requires-in-Less-clause-left : goal.open_two-requires-in-Less-clause-left
+open_two-requires-in-Less-clause-left c = c.in-Less.ensures.shown.parts.0
+
+pub open_two-requires-in-Less-clause-right : goal.open_two-requires-in-Less-clause-right
+open_two-requires-in-Less-clause-right c = c.in-Less.ensures.shown.parts.1
+
+pub open_two-requires-in-Less-clause-value : goal.open_two-requires-in-Less-clause-value
+open_two-requires-in-Less-clause-value c = c.requires.value
+
+pub open_two-requires-in-Less-clause-images : goal.open_two-requires-in-Less-clause-images
+open_two-requires-in-Less-clause-images c = c.requires.terms
+
+pub returns-in_err-left-in-Less-clause-keeps : goal.returns-in_err-left-in-Less-clause-keeps
+returns-in_err-left-in-Less-clause-keeps c = c.open_two-in-Less.ensures.keeps
+
+pub open_two-requires-in-Most-clause-left : goal.open_two-requires-in-Most-clause-left
+open_two-requires-in-Most-clause-left c = c.in-Most.ensures.shown.parts.0
+
+pub open_two-requires-in-Most-clause-right : goal.open_two-requires-in-Most-clause-right
+open_two-requires-in-Most-clause-right c = c.in-Most.ensures.shown.parts.1
+
+pub open_two-requires-in-Most-clause-value : goal.open_two-requires-in-Most-clause-value
+open_two-requires-in-Most-clause-value c = c.requires.value
+
+pub open_two-requires-in-Most-clause-images : goal.open_two-requires-in-Most-clause-images
+open_two-requires-in-Most-clause-images c = c.requires.terms
+
+pub returns-in_err-left-in-Most-clause-keeps : goal.returns-in_err-left-in-Most-clause-keeps
+returns-in_err-left-in-Most-clause-keeps c = c.open_two-in-Most.ensures.keeps

@@ -41,3 +41,9 @@ returns-in_err-all-in-App-clause-shows c = IfOk-from_err c.from_residual.result 
 pub returns-in_err-extend_from_slice-in-App-clause-shows : goal.returns-in_err-extend_from_slice-in-App-clause-shows
 returns-in_err-extend_from_slice-in-App-clause-shows c =
     IfOk-from_err c.from_residual-in_err-extend_from_slice-in-App.result _ c.from_residual-in_err-extend_from_slice-in-App.ensures.0
+
+pub term_at-requires : goal.term_at-requires
+term_at-requires c = c.requires.value
+
+pub returns-clause-keeps : goal.returns-clause-keeps
+returns-clause-keeps c = c.app.ensures.keeps

@@ -6,7 +6,7 @@ use Rattle.ll_bank.specs.Term.{head_of}
 use Rattle.ll_bank.specs.Nodes.{term_tree, term_trees}
 use Rattle.ll_terms.specs.Pairs.{AreEqual}
 use Rattle.ll_bank.proofs.CallerLemmas.{AllInTerms-below}
-use Rattle.ll_terms.proofs.PairLemmas.{two-signs, not-applied, other-head, other-count, one-head, inside-more}
+use Rattle.ll_terms.proofs.PairLemmas.{two-signs, not-applied, other-head, other-count, one-head, inside-more, var-int}
 use Rattle.ll_terms.proofs.pairs.open.Goals as goal
 
 pub returns-in-App-term_at-clause-equal : goal.returns-in-App-term_at-clause-equal
@@ -79,3 +79,59 @@ returns-in_err-push_all-in-App-term_at-3-clause-inside c = IfOk-from_err c.from_
 
 pub returns-in_err-push_all-in-App-term_at-3-clause-equal : goal.returns-in_err-push_all-in-App-term_at-3-clause-equal
 returns-in_err-push_all-in-App-term_at-3-clause-equal c = IfOk-from_err c.from_residual.result _ c.from_residual.ensures.0
+
+pub returns-then-not-is_same_head-clause-inside : goal.returns-then-not-is_same_head-clause-inside
+returns-then-not-is_same_head-clause-inside c = c.requires.inside
+
+pub returns-then-args-others-clause-inside : goal.returns-then-args-others-clause-inside
+returns-then-args-others-clause-inside c = c.requires.inside
+
+pub returns-in-Var-term_at-clause-inside : goal.returns-in-Var-term_at-clause-inside
+returns-in-Var-term_at-clause-inside c = c.requires.inside
+
+pub returns-in-Int-term_at-clause-inside : goal.returns-in-Int-term_at-clause-inside
+returns-in-Int-term_at-clause-inside c = c.requires.inside
+
+pub returns-in-App-term_at-clause-inside : goal.returns-in-App-term_at-clause-inside
+returns-in-App-term_at-clause-inside c = c.requires.inside
+
+pub returns-in-Var-term_at-2-clause-inside : goal.returns-in-Var-term_at-2-clause-inside
+returns-in-Var-term_at-2-clause-inside c = c.requires.inside
+
+pub returns-in-Int-term_at-2-clause-inside : goal.returns-in-Int-term_at-2-clause-inside
+returns-in-Int-term_at-2-clause-inside c = c.requires.inside
+
+pub returns-in-App-term_at-2-clause-inside : goal.returns-in-App-term_at-2-clause-inside
+returns-in-App-term_at-2-clause-inside c = c.requires.inside
+
+pub returns-in-Var-term_at-3-clause-inside : goal.returns-in-Var-term_at-3-clause-inside
+returns-in-Var-term_at-3-clause-inside c = c.requires.inside
+
+pub returns-in-Int-term_at-3-clause-inside : goal.returns-in-Int-term_at-3-clause-inside
+returns-in-Int-term_at-3-clause-inside c = c.requires.inside
+
+pub term_at-requires : goal.term_at-requires
+term_at-requires c = c.requires.left
+
+pub term_at-requires-in-Var : goal.term_at-requires-in-Var
+term_at-requires-in-Var c = c.requires.right
+
+pub term_at-requires-in-Int : goal.term_at-requires-in-Int
+term_at-requires-in-Int c = c.requires.right
+
+pub term_at-requires-in-App : goal.term_at-requires-in-App
+term_at-requires-in-App c = c.requires.right
+
+pub returns-in-Int-term_at-clause-equal : goal.returns-in-Int-term_at-clause-equal
+returns-in-Int-term_at-clause-equal c =
+    two-signs (AreEqual c.args.bank.now c.args.other.now c.args.pairs.now.items) (term_tree c.args.bank.now c.args.pair.left.0)
+    (term_tree c.args.other.now c.args.pair.right.0)
+    (var-int (term_tree c.args.bank.now c.args.pair.left.0) (term_tree c.args.other.now c.args.pair.right.0) c.in-Var.number c.in-Int-term_at.field-0
+    c.in-Var.ensures.shown c.in-Int-term_at.ensures.shown)
+
+pub returns-in-Var-term_at-2-clause-equal : goal.returns-in-Var-term_at-2-clause-equal
+returns-in-Var-term_at-2-clause-equal c =
+    two-signs (AreEqual c.args.bank.now c.args.other.now c.args.pairs.now.items) (term_tree c.args.bank.now c.args.pair.left.0)
+    (term_tree c.args.other.now c.args.pair.right.0)
+    (λ e. var-int (term_tree c.args.other.now c.args.pair.right.0) (term_tree c.args.bank.now c.args.pair.left.0) c.in-Var-term_at-2.field-0 c.in-Int.value
+    c.in-Var-term_at-2.ensures.shown c.in-Int.ensures.shown (sym e))

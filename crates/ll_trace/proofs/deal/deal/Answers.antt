@@ -30,3 +30,9 @@ returns-in_err-new-clause-dealt c = IfOk-from_err c.from_residual-in_err-new.res
 
 pub returns-in_err-new-clause-places : goal.returns-in_err-new-clause-places
 returns-in_err-new-clause-places c = IfOk-from_err c.from_residual-in_err-new.result _ c.from_residual-in_err-new.ensures.0
+
+pub returns-clause-dealt : goal.returns-clause-dealt
+returns-clause-dealt c = c.deal_by.ensures.dealt
+
+pub returns-clause-places : goal.returns-clause-places
+returns-clause-places c = c.deal_by.ensures.places

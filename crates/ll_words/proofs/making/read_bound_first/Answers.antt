@@ -7,7 +7,7 @@ use Rattle.ll_words.specs.declared.making.MadeOptions.{MadeOptions}
 use Rattle.ll_words.specs.Words.{word_texts}
 use Rattle.ll_words.specs.Words.{greatest_bound}
 use Rattle.ll_words.specs.MakeForm.{IsBadMakeWord, HasOptions}
-use Rattle.ll_words.proofs.WordValues.{bad-answer, this-word}
+use Rattle.ll_words.proofs.WordValues.{bad-answer, this-word, word-inside, value-small, number-word-at, value-least}
 use Rattle.ll_words.proofs.MakeLemmas.{no-options, no-value, no-second, no-last, one-more, whole-bound_first, bound_first, number-inside, text-inside}
 use Rattle.ll_words.proofs.making.read_bound_first.Goals as goal
 
@@ -91,3 +91,14 @@ returns-then-words-gt7-clause-bound c = _
 
 pub returns-then-words-gt7-clause-workers : goal.returns-then-words-gt7-clause-workers
 returns-then-words-gt7-clause-workers c = _
+
+pub number_at-requires : goal.number_at-requires
+number_at-requires c = word-inside c.args.words.now 3 _ (this-word (word_texts c.args.words.now) 3 _ c.in_ok-this_at.ensures)
+
+pub returns-clause-bound : goal.returns-clause-bound
+returns-clause-bound c = let n = number-word-at (word_texts c.args.words.now) 4 0 1000000 _ c.in_ok-bound.ensures in value-small 0 1000000 n.word _ n.number
+
+pub returns-clause-workers : goal.returns-clause-workers
+returns-clause-workers c =
+    let n = number-word-at (word_texts c.args.words.now) 6 1 64 _ c.in_ok-workers.ensures in
+    (value-least 1 64 n.word _ n.number, value-small 1 64 n.word _ n.number)

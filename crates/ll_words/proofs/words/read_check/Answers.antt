@@ -4,7 +4,7 @@ use Rattle.std.proofs.lemmas.List.{length-map}
 use Rattle.ll_words.specs.Words.{word_texts}
 use Rattle.ll_words.specs.Words.{IsCheck, check_form, shown_check}
 use Rattle.ll_words.specs.FormWords.{IsBadFormWord}
-use Rattle.ll_words.proofs.WordValues.{bad-answer, has-name}
+use Rattle.ll_words.proofs.WordValues.{bad-answer, has-name, word-inside, this-word}
 use Rattle.ll_words.proofs.CommandWords.{no-checked_program, no-checked_query, no-checked_proof, one-more_checked, whole-check}
 use Rattle.ll_words.proofs.words.read_check.Goals as goal
 
@@ -46,3 +46,12 @@ returns c =
     whole-check words c.requires (has-name words 1 _ c.in_ok-program.ensures.0 c.in_ok-program.ensures.1)
     (has-name words 2 _ c.in_ok-query.ensures.0 c.in_ok-query.ensures.1)
     (has-name words 3 _ c.in_ok-proof.ensures.0 c.in_ok-proof.ensures.1) _ refl c.in_ok-program.ensures.0 c.in_ok-query.ensures.0 c.in_ok-proof.ensures.0 few
+
+pub name_at-requires : goal.name_at-requires
+name_at-requires c = word-inside c.args.words.now 0 _ (this-word (word_texts c.args.words.now) 0 _ c.requires)
+
+pub name_at-requires-2 : goal.name_at-requires-2
+name_at-requires-2 c = word-inside c.args.words.now 1 _ c.in_ok-program.ensures.0
+
+pub name_at-requires-3 : goal.name_at-requires-3
+name_at-requires-3 c = word-inside c.args.words.now 2 _ c.in_ok-query.ensures.0

@@ -112,3 +112,72 @@ returns-in_err-read_convert-in-Convert-clause-bound c =
 
 pub returns-in_ok-read_print-in-Print-clause-bound : goal.returns-in_ok-read_print-in-Print-clause-bound
 returns-in_ok-read_print-in-Print-clause-bound c = _
+
+pub returns-in_ok-read_run-in-Run-clause-command : goal.returns-in_ok-read_run-in-Run-clause-command
+returns-in_ok-read_run-in-Run-clause-command c = c.in_ok-read_run-in-Run.ensures.run
+
+pub returns-in_ok-read_run-in-Run-clause-bound : goal.returns-in_ok-read_run-in-Run-clause-bound
+returns-in_ok-read_run-in-Run-clause-bound c = c.in_ok-read_run-in-Run.ensures.bound
+
+pub returns-in_ok-read_session-in-Session-clause-command : goal.returns-in_ok-read_session-in-Session-clause-command
+returns-in_ok-read_session-in-Session-clause-command c = c.in_ok-read_session-in-Session.ensures.session
+
+pub returns-in_ok-read_session-in-Session-clause-bound : goal.returns-in_ok-read_session-in-Session-clause-bound
+returns-in_ok-read_session-in-Session-clause-bound c = c.in_ok-read_session-in-Session.ensures.bound
+
+pub returns-in_ok-read_deepen-in-Deepen-clause-command : goal.returns-in_ok-read_deepen-in-Deepen-clause-command
+returns-in_ok-read_deepen-in-Deepen-clause-command c = c.in_ok-read_deepen-in-Deepen.ensures.deepen
+
+pub returns-in_ok-read_deepen-in-Deepen-clause-bound : goal.returns-in_ok-read_deepen-in-Deepen-clause-bound
+returns-in_ok-read_deepen-in-Deepen-clause-bound c = c.in_ok-read_deepen-in-Deepen.ensures.bound
+
+pub returns-in_ok-read_print-in-Print-clause-command : goal.returns-in_ok-read_print-in-Print-clause-command
+returns-in_ok-read_print-in-Print-clause-command c = c.in_ok-read_print-in-Print.ensures
+
+pub returns-in_ok-read_check-in-Check-clause-command : goal.returns-in_ok-read_check-in-Check-clause-command
+returns-in_ok-read_check-in-Check-clause-command c = c.in_ok-read_check-in-Check.ensures
+
+pub returns-in_ok-read_cover-in-Cover-clause-command : goal.returns-in_ok-read_cover-in-Cover-clause-command
+returns-in_ok-read_cover-in-Cover-clause-command c = c.in_ok-read_cover-in-Cover.ensures.cover
+
+pub returns-in_ok-read_cover-in-Cover-clause-bound : goal.returns-in_ok-read_cover-in-Cover-clause-bound
+returns-in_ok-read_cover-in-Cover-clause-bound c = c.in_ok-read_cover-in-Cover.ensures.bound
+
+pub returns-in_ok-read_convert-in-Convert-clause-command : goal.returns-in_ok-read_convert-in-Convert-clause-command
+returns-in_ok-read_convert-in-Convert-clause-command c = c.in_ok-read_convert-in-Convert.ensures.convert
+
+pub returns-in_ok-read_convert-in-Convert-clause-bound : goal.returns-in_ok-read_convert-in-Convert-clause-bound
+returns-in_ok-read_convert-in-Convert-clause-bound c = c.in_ok-read_convert-in-Convert.ensures.version
+
+pub returns-in-Make-clause-bound : goal.returns-in-Make-clause-bound
+returns-in-Make-clause-bound c = c.read_make.ensures.bound
+
+pub read_run-requires : goal.read_run-requires
+read_run-requires c = first-same form.Run c.args.words.now c.in-Some.first c.in-Some.ensures.value (c.in-Some-form_of.ensures ∙ ap form_word c.in-Run.is)
+
+pub read_session-requires : goal.read_session-requires
+read_session-requires c =
+    first-same form.Session c.args.words.now c.in-Some.first c.in-Some.ensures.value (c.in-Some-form_of.ensures ∙ ap form_word c.in-Session.is)
+
+pub read_deepen-requires : goal.read_deepen-requires
+read_deepen-requires c =
+    first-same form.Deepen c.args.words.now c.in-Some.first c.in-Some.ensures.value (c.in-Some-form_of.ensures ∙ ap form_word c.in-Deepen.is)
+
+pub read_print-requires : goal.read_print-requires
+read_print-requires c =
+    first-same form.Print c.args.words.now c.in-Some.first c.in-Some.ensures.value (c.in-Some-form_of.ensures ∙ ap form_word c.in-Print.is)
+
+pub read_check-requires : goal.read_check-requires
+read_check-requires c =
+    first-same form.Check c.args.words.now c.in-Some.first c.in-Some.ensures.value (c.in-Some-form_of.ensures ∙ ap form_word c.in-Check.is)
+
+pub read_cover-requires : goal.read_cover-requires
+read_cover-requires c =
+    first-same form.Cover c.args.words.now c.in-Some.first c.in-Some.ensures.value (c.in-Some-form_of.ensures ∙ ap form_word c.in-Cover.is)
+
+pub read_convert-requires : goal.read_convert-requires
+read_convert-requires c =
+    first-same form.Convert c.args.words.now c.in-Some.first c.in-Some.ensures.value (c.in-Some-form_of.ensures ∙ ap form_word c.in-Convert.is)
+
+pub read_make-requires : goal.read_make-requires
+read_make-requires c = first-same form.Make c.args.words.now c.in-Some.first c.in-Some.ensures.value (c.in-Some-form_of.ensures ∙ ap form_word c.in-Make.is)

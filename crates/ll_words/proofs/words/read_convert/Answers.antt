@@ -5,7 +5,7 @@ use Rattle.std.proofs.lemmas.List.{length-map}
 use Rattle.ll_words.specs.Words.{word_texts}
 use Rattle.ll_words.specs.Words.{IsConvert, convert_form, shown_convert}
 use Rattle.ll_words.specs.FormWords.{IsBadFormWord}
-use Rattle.ll_words.proofs.WordValues.{bad-answer, has-name}
+use Rattle.ll_words.proofs.WordValues.{bad-answer, has-name, word-inside, this-word}
 use Rattle.ll_words.proofs.CommandWords.{no-converted, no-version_word, no-version, version-is, one-more_converted, whole-convert}
 use Rattle.ll_words.proofs.words.read_convert.Goals as goal
 
@@ -61,3 +61,12 @@ returns-in_err-version-clause-version c = IfOk-from_err c.from_residual-in_err-v
 
 pub returns-then-words-gt4-clause-version : goal.returns-then-words-gt4-clause-version
 returns-then-words-gt4-clause-version c = _
+
+pub name_at-requires : goal.name_at-requires
+name_at-requires c = word-inside c.args.words.now 0 _ (this-word (word_texts c.args.words.now) 0 _ c.requires)
+
+pub this_at-requires : goal.this_at-requires
+this_at-requires c = word-inside c.args.words.now 1 _ c.in_ok-proof.ensures.0
+
+pub number_at-requires : goal.number_at-requires
+number_at-requires c = word-inside c.args.words.now 2 _ (this-word (word_texts c.args.words.now) 2 _ c.in_ok-this_at.ensures)

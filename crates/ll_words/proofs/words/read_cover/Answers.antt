@@ -5,7 +5,7 @@ use Rattle.std.proofs.lemmas.List.{length-map}
 use Rattle.ll_words.specs.Words.{word_texts}
 use Rattle.ll_words.specs.Words.{IsCheck, cover_form, shown_check}
 use Rattle.ll_words.specs.FormWords.{IsBadFormWord}
-use Rattle.ll_words.proofs.WordValues.{bad-answer, has-name}
+use Rattle.ll_words.proofs.WordValues.{bad-answer, has-name, word-inside, this-word, value-small, number-word-at}
 use Rattle.ll_words.proofs.CommandWords.{no-covered_program, no-covered_query, no-covered_proof, no-bound_word, no-number, one-more_covered, whole-cover}
 use Rattle.ll_words.proofs.words.read_cover.Goals as goal
 
@@ -83,3 +83,21 @@ returns-in_err-bound-clause-bound c = IfOk-from_err c.from_residual-in_err-bound
 
 pub returns-then-words-gt6-clause-bound : goal.returns-then-words-gt6-clause-bound
 returns-then-words-gt6-clause-bound c = _
+
+pub name_at-requires : goal.name_at-requires
+name_at-requires c = word-inside c.args.words.now 0 _ (this-word (word_texts c.args.words.now) 0 _ c.requires)
+
+pub name_at-requires-2 : goal.name_at-requires-2
+name_at-requires-2 c = word-inside c.args.words.now 1 _ c.in_ok-program.ensures.0
+
+pub name_at-requires-3 : goal.name_at-requires-3
+name_at-requires-3 c = word-inside c.args.words.now 2 _ c.in_ok-query.ensures.0
+
+pub this_at-requires : goal.this_at-requires
+this_at-requires c = word-inside c.args.words.now 3 _ c.in_ok-proof.ensures.0
+
+pub number_at-requires : goal.number_at-requires
+number_at-requires c = word-inside c.args.words.now 4 _ (this-word (word_texts c.args.words.now) 4 _ c.in_ok-this_at.ensures)
+
+pub returns-clause-bound : goal.returns-clause-bound
+returns-clause-bound c = let n = number-word-at (word_texts c.args.words.now) 5 0 1000000 _ c.in_ok-bound.ensures in value-small 0 1000000 n.word _ n.number

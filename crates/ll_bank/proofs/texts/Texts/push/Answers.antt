@@ -1,13 +1,14 @@
 use Rattle.std.proofs.lemmas.Result.{IfOk-from_err}
-use Rattle.std.proofs.Common.{◌≡◌, ◌++◌, ◌∷◌, Some, None, [], map, length, ap, sym, subst, ◌∙◌}
+use Rattle.std.proofs.Common.{◌≡◌, ◌++◌, ◌∷◌, Some, None, [], map, length, ap, sym, subst, ◌∙◌, refl}
 use Rattle.std.proofs.lemmas.List.{map-append, length-map}
 use Rattle.std.proofs.lemmas.Map.Text.{hash_map_updates_text}
 use Rattle.std.specs.HashMap.{get_by_text}
 use Rattle.std.specs.Map.{update}
 use Rattle.std.specs.Str.{bytes_eq}
 use Rattle.std.specs.String.{string_bytes}
-use Rattle.ll_bank.specs.Names.{number_of}
+use Rattle.ll_bank.specs.Names.{number_of, ArePlaced}
 use Rattle.ll_bank.proofs.NameLaws.{placed_push}
+use Rattle.ll_lists.proofs.CallerLemmas.{OnErr-always}
 use Rattle.ll_bank.proofs.texts.Texts.push.Goals as goal
 
 pub invariant_of-self-2 : goal.invariant_of-self-2
@@ -43,3 +44,32 @@ returns-in_err-push-clause-pushed c = IfOk-from_err c.from_residual-in_err-push.
 
 pub returns-clause-refused : goal.returns-clause-refused
 returns-clause-refused c = _
+
+pub returns-in_err-owned-clause-refused : goal.returns-in_err-owned-clause-refused
+returns-in_err-owned-clause-refused c = OnErr-always c.from_residual.result refl
+
+pub returns-in_err-key-clause-refused : goal.returns-in_err-key-clause-refused
+returns-in_err-key-clause-refused c = OnErr-always c.from_residual-in_err-key.result refl
+
+pub returns-in_err-reserve-clause-refused : goal.returns-in_err-reserve-clause-refused
+returns-in_err-reserve-clause-refused c =
+    OnErr-always c.from_residual-in_err-reserve.result (ap (map string_bytes) c.in_err-reserve.ensures.items ∙ c.self.view_is)
+
+pub returns-in_err-insert-clause-refused : goal.returns-in_err-insert-clause-refused
+returns-in_err-insert-clause-refused c =
+    OnErr-always c.from_residual-in_err-insert.result (ap (map string_bytes) c.in_ok-reserve.ensures.items ∙ c.self.view_is)
+
+pub returns-in_err-push-clause-refused : goal.returns-in_err-push-clause-refused
+returns-in_err-push-clause-refused c =
+    OnErr-always c.from_residual-in_err-push.result (ap (map string_bytes) (c.in_err-push.ensures.items ∙ c.in_ok-reserve.ensures.items) ∙ c.self.view_is)
+
+pub invariant_of-self : goal.invariant_of-self
+invariant_of-self c =
+    subst (λ ts. ArePlaced (map string_bytes ts) (get_by_text c.self.inside.places)) (sym c.in_err-reserve.ensures.items) c.self.invariant
+
+pub returns-clause-pushed : goal.returns-clause-pushed
+returns-clause-pushed c =
+    let old = c.self.inside.texts.items in
+    ap (map string_bytes) (c.in_ok-push.ensures.items ∙ ap (λ ts. ts ++ c.in_ok-owned.owned ∷ []) c.in_ok-reserve.ensures.items)
+    ∙ (map-append string_bytes old (c.in_ok-owned.owned ∷ [])
+    ∙ (ap (λ t. map string_bytes old ++ t ∷ []) c.in_ok-owned.ensures.ok ∙ ap (λ ts. ts ++ c.args.text.now ∷ []) c.self.view_is))

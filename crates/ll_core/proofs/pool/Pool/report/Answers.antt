@@ -1,4 +1,4 @@
-use Rattle.std.proofs.Common.{◌∙◌, map, ap, refl, subst, sym, length}
+use Rattle.std.proofs.Common.{◌<◌, ◌∙◌, map, ap, refl, subst, sym, length}
 use Rattle.std.specs.Arc.{arc_value}
 use Rattle.ll_laws.specs.Pool.{Closed}
 use Rattle.ll_laws.specs.CoreEvents.{with_status, reported}
@@ -37,3 +37,8 @@ returns g c =
     report_is (map arc_value i.batches.items) i.pieces.items _ (length i.waiting.items) i.workers i.busy i.starved i.stopped c.args.piece c.args.report
     (slot_changed (with_status (Closed c.args.report)) _ c.args.piece _ _ (slot_below _ _ _ o.1) c.index_mut.ensures.value refl)
     ∙ ap (λ v. reported v c.args.piece c.args.report) c.self.view_is
+
+pub index_mut-requires : goal.index_mut-requires
+index_mut-requires g c =
+    let o = subst (λ v. IsOpenAt v c.args.piece) (sym c.self.view_is) c.requires in
+    subst (λ k. c.args.piece < k) (sym c.self.inside.pieces.ok.0) (slot_below c.self.inside.pieces.items c.args.piece o.0 o.1)

@@ -1,4 +1,4 @@
-use Rattle.std.proofs.Common.{◌∙◌}
+use Rattle.std.proofs.Common.{◌∙◌, rules, sym, ap}
 use Rattle.std.proofs.lemmas.Result.{IfOk-from_err}
 use Rattle.std.specs.Arc.{arc_value}
 use Rattle.ll_engine.specs.Pointed.{spine_of}
@@ -36,3 +36,18 @@ advance-requires-clause-inside c = c.requires.inside
 
 pub begun-requires-clause-sound : goal.begun-requires-clause-sound
 begun-requires-clause-sound c = c.in_ok-spine.ensures.sound
+
+pub returns-then-spent-clause-owes : goal.returns-then-spent-clause-owes
+returns-then-spent-clause-owes c = search rules
+
+pub advance-requires-clause-index : goal.advance-requires-clause-index
+advance-requires-clause-index c = (c.self.invariant c.if-spent.false).0.index
+
+pub advance-requires-clause-based : goal.advance-requires-clause-based
+advance-requires-clause-based c = (c.self.invariant c.if-spent.false).0.based
+
+pub resume_shared-requires-clause-of : goal.resume_shared-requires-clause-of
+resume_shared-requires-clause-of c = c.requires.of ∙ sym (ap (λ v. v.problem) c.self.view_is)
+
+pub advance-requires-clause-of : goal.advance-requires-clause-of
+advance-requires-clause-of c = c.requires.of ∙ sym (ap (λ v. v.problem) c.self.view_is)

@@ -1,5 +1,7 @@
 use Rattle.std.proofs.lemmas.Result.{IfOk-from_err}
-use Rattle.std.proofs.Common.{arith, subst, false, ◌+◌}
+use Rattle.std.proofs.Common.{arith, subst, false, ◌+◌, refl, sym, ap, ◌∙◌, Result, Ok, Err}
+use Rattle.std.specs.Prelude.{OnErr}
+use Rattle.std.proofs.lemmas.Bool.{false≢true}
 use Rattle.ll_engine.specs.Seen.{Owing}
 use Rattle.ll_engine.specs.Owed.{owing}
 use Rattle.ll_engine.specs.Pointed.{spine_of}
@@ -38,3 +40,58 @@ returns-in_err-batch-clause-split c = IfOk-from_err c.from_residual.result _ c.f
 
 pub returns-clause-refused : goal.returns-clause-refused
 returns-clause-refused c = _
+
+on_each : {A B : Type 0} (r : Result A B) (P : Type 0) → P → OnErr r P
+on_each (Ok a) P p = _
+on_each (Err b) P p = p
+
+pub same-self : goal.same-self
+same-self c = refl
+
+pub same-self-then-is_over : goal.same-self-then-is_over
+same-self-then-is_over c = refl
+
+pub returns-then-self-clause-spent : goal.returns-then-self-clause-spent
+returns-then-self-clause-spent c = λ e. refl
+
+pub returns-then-self-clause-refused : goal.returns-then-self-clause-refused
+returns-then-self-clause-refused c = sym (ap (λ v. v.spent) c.self.view_is) ∙ c.if-self.true
+
+pub returns-then-is_over-clause-spent : goal.returns-then-is_over-clause-spent
+returns-then-is_over-clause-spent c = λ e. sym c.if-self.false ∙ (ap (λ v. v.spent) c.self.view_is ∙ e)
+
+pub invariant_of-self : goal.invariant_of-self
+invariant_of-self c = λ e. absurd (false≢true (sym e))
+
+pub returns-then-self-2-clause-spent : goal.returns-then-self-2-clause-spent
+returns-then-self-2-clause-spent c = λ e. refl
+
+pub returns-then-self-2-clause-refused : goal.returns-then-self-2-clause-refused
+returns-then-self-2-clause-refused c = refl
+
+pub split-requires-clause-index : goal.split-requires-clause-index
+split-requires-clause-index c = (c.self.invariant c.if-self.false).0.index
+
+pub split-requires-clause-kept : goal.split-requires-clause-kept
+split-requires-clause-kept c = (c.self.invariant c.if-self.false).0.sound.points
+
+pub split-requires-clause-marks : goal.split-requires-clause-marks
+split-requires-clause-marks c = (c.self.invariant c.if-self.false).0.marks
+
+pub split-requires-clause-based : goal.split-requires-clause-based
+split-requires-clause-based c = (c.self.invariant c.if-self.false).0.based
+
+pub split-requires-clause-points : goal.split-requires-clause-points
+split-requires-clause-points c = sym c.is_over.ensures ∙ c.if-is_over.false
+
+pub invariant_of-self-in_err-batch : goal.invariant_of-self-in_err-batch
+invariant_of-self-in_err-batch c = λ e. absurd (false≢true (sym e))
+
+pub returns-in_err-batch-clause-spent : goal.returns-in_err-batch-clause-spent
+returns-in_err-batch-clause-spent c = λ e. absurd (false≢true (sym c.if-self.false ∙ (ap (λ v. v.spent) c.self.view_is ∙ e)))
+
+pub returns-in_err-batch-clause-refused : goal.returns-in_err-batch-clause-refused
+returns-in_err-batch-clause-refused c = on_each c.from_residual.result _ refl
+
+pub returns-clause-spent : goal.returns-clause-spent
+returns-clause-spent c = λ e. sym c.if-self.false ∙ (ap (λ v. v.spent) c.self.view_is ∙ e)

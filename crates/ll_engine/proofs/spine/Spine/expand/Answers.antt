@@ -1,5 +1,5 @@
 use Rattle.std.proofs.lemmas.Result.{IfOk-from_err}
-use Rattle.std.proofs.Common.{◌∙◌, ◌++◌, ◌∷◌, []}
+use Rattle.std.proofs.Common.{◌∙◌, ◌++◌, ◌∷◌, [], rules}
 use Rattle.ll_lists.proofs.CallerLemmas.{IfOk-each}
 use Rattle.ll_freeze.specs.Parts.{parts_of}
 use Rattle.ll_engine.specs.Matches.{all_found}
@@ -46,3 +46,21 @@ returns-in_err-found-clause-sound c = IfOk-from_err c.from_residual.result _ c.f
 
 pub returns-in_err-found-clause-expands : goal.returns-in_err-found-clause-expands
 returns-in_err-found-clause-expands c = IfOk-from_err c.from_residual.result _ c.from_residual.ensures.0
+
+pub choose-requires-clause-index : goal.choose-requires-clause-index
+choose-requires-clause-index c = c.requires.sound.index
+
+pub choose-requires-clause-points : goal.choose-requires-clause-points
+choose-requires-clause-points c = c.requires.sound.sound.points
+
+pub choose-requires-clause-marks : goal.choose-requires-clause-marks
+choose-requires-clause-marks c = c.requires.sound.marks
+
+pub choose-requires-clause-based : goal.choose-requires-clause-based
+choose-requires-clause-based c = c.requires.sound.based
+
+pub candidates-requires-clause-fits : goal.candidates-requires-clause-fits
+candidates-requires-clause-fits c = c.requires.sound.sound.machine.0
+
+pub choose-requires-clause-open : goal.choose-requires-clause-open
+choose-requires-clause-open c = search rules

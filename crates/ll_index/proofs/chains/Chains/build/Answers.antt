@@ -3,9 +3,10 @@ use Rattle.std.specs.Prelude.{unwrap_or, slice_set, slice_index_or}
 use Rattle.std.specs.HashMap.{get}
 use Rattle.ll_index.specs.declared.key.Key.{Key}
 use Rattle.ll_index.specs.declared.key.Key.TheVariants.{Unnamed}
-use Rattle.ll_index.specs.Chained.{links_from}
+use Rattle.ll_index.specs.Chained.{links_from, first_from}
 use Rattle.ll_index.specs.Keys.{key_eq}
 use Rattle.ll_index.proofs.ChainLemmas.{links-step, first-step, rising}
+use Rattle.std.proofs.lemmas.Result.{IfOk-from_err}
 use Rattle.ll_index.proofs.chains.Chains.build.Goals as goal
 
 pub loop-at-preserved : goal.loop-at-preserved
@@ -34,4 +35,22 @@ invariant_of-result c =
     record {
       rising = rising key_eq c.args.keys.now c.loop-at.next.items
           (subst (λ at. drop at c.loop-at.next.items ≡ links_from key_eq at (drop at c.args.keys.now)) z c.loop-at.invariant.links);
+    }
+
+pub returns-in_err-end : goal.returns-in_err-end
+returns-in_err-end c = IfOk-from_err c.from_residual.result _ c.from_residual.ensures.0
+
+pub returns-in_err-next : goal.returns-in_err-next
+returns-in_err-next c = IfOk-from_err c.from_residual-in_err-next.result _ c.from_residual-in_err-next.ensures.0
+
+pub returns-in_err-insert : goal.returns-in_err-insert
+returns-in_err-insert c = IfOk-from_err c.from_residual-in_err-insert.result _ c.from_residual-in_err-insert.ensures.0
+
+pub returns : goal.returns
+returns c =
+    let z : c.loop-at.at ≡ 0 = omega (arith, c.loop-at-test.false) in
+    record {
+      next = subst (λ at. drop at c.loop-at.next.items ≡ links_from key_eq at (drop at c.args.keys.now)) z c.loop-at.invariant.links;
+      first = λ key. subst (λ at. unwrap_or (get key_eq c.loop-at.first key) (length c.args.keys.now)
+          ≡ first_from key_eq at (drop at c.args.keys.now) key) z (c.loop-at.invariant.first key);
     }

@@ -1,4 +1,4 @@
-use Rattle.std.proofs.Common.{◌≡◌, ◌++◌, length, vec_len, ◌∙◌, ap, sym, refl, subst, arith, le_trans}
+use Rattle.std.proofs.Common.{◌≡◌, ◌++◌, length, vec_len, ◌∙◌, ap, sym, refl, subst, arith, le_trans, le_refl}
 use Rattle.std.specs.Prelude.{map}
 use Rattle.std.specs.Bool.{◌==◌}
 use Rattle.std.proofs.lemmas.List.{length-map}
@@ -143,3 +143,12 @@ returns-in_default-clause-taken g c = _
 
 pub returns-in-Err-clause-taken : goal.returns-in-Err-clause-taken
 returns-in-Err-clause-taken g c = _
+
+pub returns-then-is_empty-clause-faults_kept : goal.returns-then-is_empty-clause-faults_kept
+returns-then-is_empty-clause-faults_kept g c = le_refl _
+
+pub returns-then-is_empty-clause-welcome_kept : goal.returns-then-is_empty-clause-welcome_kept
+returns-then-is_empty-clause-welcome_kept g c = λ e. (λ h. h, λ h. h)
+
+pub returns-then-is_empty-clause-write : goal.returns-then-is_empty-clause-write
+returns-then-is_empty-clause-write g c = λ e. err_on _ _ e tt

@@ -17,3 +17,12 @@ returns-in_err-push_argument-clause-gives c = IfOk-from_err c.from_residual-in_e
 
 pub returns-in_err-push_argument-clause-grows : goal.returns-in_err-push_argument-clause-grows
 returns-in_err-push_argument-clause-grows c = IfOk-from_err c.from_residual-in_err-push_argument.result _ c.from_residual-in_err-push_argument.ensures.0
+
+pub add-requires : goal.add-requires
+add-requires c = c.requires
+
+pub push_argument-requires : goal.push_argument-requires
+push_argument-requires c = c.in_ok-arg.ensures.gives.inside
+
+pub returns-clause-grows : goal.returns-clause-grows
+returns-clause-grows c = λ later e. c.in_ok-arg.ensures.grows later (c.in_ok-push_argument.ensures.grows later e)

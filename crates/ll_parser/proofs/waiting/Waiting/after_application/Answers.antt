@@ -1,3 +1,11 @@
+use Rattle.std.proofs.Common.{sym, ap, ◌∙◌}
+use Rattle.std.proofs.lemmas.Result.{IfOk-from_err, IfOk-weaker}
+use Rattle.ll_parser.specs.Raw.{head}
+use Rattle.ll_parser.specs.Flat.{term_part, term_operate, flat_step}
+use Rattle.ll_parser.specs.Symbols.{symbol_tok}
+use Rattle.ll_parser.specs.Waiting.{known, word_view, tree, waiting, args_from, waiting_below}
+use Rattle.ll_parser.proofs.machines.Dropped.{same-gives}
+use Rattle.ll_parser.proofs.machines.Handing.{application-ends}
 use Rattle.ll_parser.proofs.waiting.Waiting.after_application.Goals as goal
 
 pub returns-in-Name-clause-gives : goal.returns-in-Name-clause-gives
@@ -41,3 +49,35 @@ extend_application-requires-in-Number-clause-fits c = c.requires
 
 pub finish_head-requires : goal.finish_head-requires
 finish_head-requires c = c.requires
+
+pub want_term-requires : goal.want_term-requires
+want_term-requires c = record { fits = c.requires; frame = c.requires.within }
+
+pub returns-in_err-term-in_default : goal.returns-in_err-term-in_default
+returns-in_err-term-in_default c = record {
+  gives = IfOk-from_err c.from_residual.result _ c.from_residual.ensures.0;
+  grows = IfOk-from_err c.from_residual.result _ c.from_residual.ensures.0;
+}
+
+pub after_term-requires : goal.after_term-requires
+after_term-requires c = record { fits = c.in_ok-term-in_default.ensures.gives.fits; term = c.in_ok-term-in_default.ensures.gives.inside }
+
+pub returns-in_ok-term-in_default : goal.returns-in_ok-term-in_default
+returns-in_ok-term-in_default c =
+    let old = c.args.self.now in
+    let mid = c.finish_head.new.self in
+    let made = c.in_ok-term-in_default.ensures.gives in
+    record {
+      gives = IfOk-weaker c.after_term.result _ _
+          (same-gives c.after_term.new.self (λ texts. term_operate (tree texts mid c.in_ok-term-in_default.term) (waiting texts mid) (symbol_tok texts
+          c.args.symbol))
+          (λ texts. flat_step (term_part (word_view texts c.args.word) (args_from texts old c.args.from) (waiting_below texts old c.args.from))
+          (symbol_tok texts c.args.symbol))
+          (λ texts. application-ends c.args.symbol c.in_default.not-Name c.in_default.not-Variable c.in_default.not-Any c.in_default.not-Number
+          c.in_default.not-ParenLeft (known texts) (word_view (known texts) c.args.word) (args_from (known texts) old c.args.from)
+          (waiting_below (known texts) old c.args.from)
+          ∙ (λ i. term_operate (sym (made.is texts ∙ ap (λ n. head n (args_from (known texts) old c.args.from)) (c.named.ensures (known texts))) i)
+          (sym (made.waits texts) i) (symbol_tok (known texts) c.args.symbol))))
+          c.after_term.ensures.gives;
+      grows = IfOk-weaker c.after_term.result _ _ (λ o g later e. c.in_ok-term-in_default.ensures.grows later (g later e)) c.after_term.ensures.grows;
+    }

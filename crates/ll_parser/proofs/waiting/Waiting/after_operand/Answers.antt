@@ -1,4 +1,12 @@
 use Rattle.std.proofs.lemmas.Result.{IfOk-from_err}
+use Rattle.std.proofs.Common.{List, ap}
+use Rattle.std.proofs.lemmas.Result.{IfOk-weaker}
+use Rattle.ll_parser.specs.Raw.{Raw}
+use Rattle.ll_parser.specs.Flat.{Pending, operate, close_bracket, close_brace}
+use Rattle.ll_parser.specs.Symbols.{symbol_tok}
+use Rattle.ll_parser.specs.Waiting.{known, tree, waiting}
+use Rattle.ll_parser.proofs.machines.Dropped.{same-gives}
+use Rattle.ll_parser.proofs.machines.Handing.{no-operator}
 use Rattle.ll_parser.proofs.waiting.Waiting.after_operand.Goals as goal
 
 pub returns-in-Semicolon-clause-gives : goal.returns-in-Semicolon-clause-gives
@@ -92,3 +100,52 @@ returns-in_err-formula-in-BraceRight-clause-gives c =
 pub returns-in_err-formula-in-BraceRight-clause-grows : goal.returns-in_err-formula-in-BraceRight-clause-grows
 returns-in_err-formula-in-BraceRight-clause-grows c =
     IfOk-from_err c.from_residual-in_err-formula-in-BraceRight.result _ c.from_residual-in_err-formula-in-BraceRight.ensures.0
+
+pub close_bracket-requires-clause-fits : goal.close_bracket-requires-clause-fits
+close_bracket-requires-clause-fits c = c.in_ok-formula-in-ParenRight.ensures.gives.fits
+
+pub close_bracket-requires-clause-formula : goal.close_bracket-requires-clause-formula
+close_bracket-requires-clause-formula c = c.in_ok-formula-in-ParenRight.ensures.gives.inside
+
+pub close_brace-requires-clause-fits : goal.close_brace-requires-clause-fits
+close_brace-requires-clause-fits c = c.in_ok-formula-in-BraceRight.ensures.gives.fits
+
+pub close_brace-requires-clause-formula : goal.close_brace-requires-clause-formula
+close_brace-requires-clause-formula c = c.in_ok-formula-in-BraceRight.ensures.gives.inside
+
+pub returns-in_ok-formula-in-ParenRight-clause-gives : goal.returns-in_ok-formula-in-ParenRight-clause-gives
+returns-in_ok-formula-in-ParenRight-clause-gives c =
+    let old = c.args.self.now in
+    let mid = c.reduce.new.self in
+    same-gives c.close_bracket.new.self (λ texts. close_bracket (tree texts mid c.in_ok-formula-in-ParenRight.formula) (waiting texts mid))
+    (λ texts. operate (tree texts old c.args.operand) (waiting texts old) (symbol_tok texts c.args.symbol))
+    (λ texts. rw c.in-ParenRight.is
+    (ap (λ (q : Raw × List Pending). close_bracket q.0 q.1) (c.in_ok-formula-in-ParenRight.ensures.gives.reduces texts)))
+    c.close_bracket.result c.close_bracket.ensures.gives
+
+pub returns-in_ok-formula-in-ParenRight-clause-grows : goal.returns-in_ok-formula-in-ParenRight-clause-grows
+returns-in_ok-formula-in-ParenRight-clause-grows c = λ later e.
+    c.in_ok-formula-in-ParenRight.ensures.grows later (c.close_bracket.ensures.grows later e)
+
+pub returns-in_ok-formula-in-BraceRight-clause-gives : goal.returns-in_ok-formula-in-BraceRight-clause-gives
+returns-in_ok-formula-in-BraceRight-clause-gives c =
+    let old = c.args.self.now in
+    let mid = c.reduce-in-BraceRight.new.self in
+    IfOk-weaker c.close_brace.result _ _
+    (same-gives c.close_brace.new.self (λ texts. close_brace (tree texts mid c.in_ok-formula-in-BraceRight.formula) (waiting texts mid))
+    (λ texts. operate (tree texts old c.args.operand) (waiting texts old) (symbol_tok texts c.args.symbol))
+    (λ texts. rw c.in-BraceRight.is
+    (ap (λ (q : Raw × List Pending). close_brace q.0 q.1) (c.in_ok-formula-in-BraceRight.ensures.gives.reduces texts))))
+    c.close_brace.ensures.gives
+
+pub returns-in_ok-formula-in-BraceRight-clause-grows : goal.returns-in_ok-formula-in-BraceRight-clause-grows
+returns-in_ok-formula-in-BraceRight-clause-grows c = IfOk-weaker c.close_brace.result _ _
+    (λ o g later e. c.in_ok-formula-in-BraceRight.ensures.grows later (g later e)) c.close_brace.ensures.grows
+
+pub returns-in_default : goal.returns-in_default
+returns-in_default c = record {
+  gives = λ texts. no-operator c.args.symbol c.in_default.not-Comma c.in_default.not-Ampersand c.in_default.not-Semicolon c.in_default.not-Lolli
+      c.in_default.not-RightArrow c.in_default.not-ColonDash c.in_default.not-LeftArrow c.in_default.not-ParenRight c.in_default.not-BraceRight
+      (known texts) (tree (known texts) c.args.self.now c.args.operand) (waiting (known texts) c.args.self.now);
+  grows = λ later e. e;
+}

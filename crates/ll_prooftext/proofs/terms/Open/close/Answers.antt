@@ -1,3 +1,4 @@
+use Rattle.ll_bank.proofs.CallerLemmas.{HasTerm-extends}
 use Rattle.ll_prooftext.proofs.reading.Calls.{fewer}
 use Rattle.std.proofs.lemmas.Result.{IfOk-from_err}
 use Rattle.std.proofs.Common.{sym, ap, subst, ◌∙◌, refl, Some}
@@ -88,3 +89,6 @@ close_item-requires c = fewer _ _ _ c.requires.room
 
 pub returns-in_default-part-clause-grows : goal.returns-in_default-part-clause-grows
 returns-in_default-part-clause-grows c = c.close_item.ensures.grows
+
+pub chain-requires-clause-items : goal.chain-requires-clause-items
+chain-requires-clause-items c = λ k d l. HasTerm-extends c.in_ok-last.ensures.keeps _ (c.requires.good.top.items k d l).good.inside

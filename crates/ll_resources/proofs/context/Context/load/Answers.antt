@@ -6,6 +6,7 @@ use Rattle.ll_resources.specs.Raw.{Raw, raw, shown}
 use Rattle.ll_resources.specs.Resources.{after_load}
 use Rattle.ll_resources.proofs.RawLemmas.{shown-loaded}
 use Rattle.ll_resources.proofs.ChangeLemmas.{sound-same, sound-alike, sound-noted, marks-alike, marks-noted, within-now, within-along, history-alike}
+use Rattle.ll_resources.proofs.RoomLemmas.{fits-32}
 use Rattle.ll_resources.proofs.context.Context.load.Goals as goal
 
 pub invariant_of-self : goal.invariant_of-self
@@ -71,3 +72,9 @@ returns-in_err-change-clause-refused g c = OnErr-always c.from_residual-in_err-c
 
 pub returns-clause-refused : goal.returns-clause-refused
 returns-clause-refused g c = _
+
+pub overflow_cast-label : goal.overflow_cast-label
+overflow_cast-label g c = fits-32 (subst (λ (h : History g.row.C.Denot). h.present.next < 2 ^ 32) (sym c.self.view_is) c.requires)
+
+pub returns-clause-label : goal.returns-clause-label
+returns-clause-label g c = ap (λ (h : History g.row.C.Denot). h.present.next) c.self.view_is

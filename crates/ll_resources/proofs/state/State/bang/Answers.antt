@@ -3,6 +3,10 @@ use Rattle.std.proofs.lemmas.Result.{IfOk-from_err}
 use Rattle.ll_lists.proofs.CallerLemmas.{OnErr-always}
 use Rattle.ll_resources.specs.declared.state.State.{State}
 use Rattle.ll_resources.specs.Raw.{raw}
+use Rattle.ll_resources.specs.declared.state.Change.TheVariants.{Remarked}
+use Rattle.ll_resources.specs.Changes.{taken_back}
+use Rattle.ll_resources.proofs.ChangeLemmas.{back-remarked}
+use Rattle.ll_resources.proofs.RoomLemmas.{le-refl, le-same}
 use Rattle.ll_resources.proofs.state.State.bang.Goals as goal
 
 pub returns-in_err-from-clause-banged : goal.returns-in_err-from-clause-banged
@@ -27,3 +31,21 @@ returns-clause-banged g c = λ i. record (raw c.args.self.now) {
 
 pub returns-clause-refused : goal.returns-clause-refused
 returns-clause-refused g c = _
+
+pub returns-in_err-from-clause-room : goal.returns-in_err-from-clause-room
+returns-in_err-from-clause-room g c = record { entries = le-refl _; live = le-refl _ }
+
+pub returns-clause-leads : goal.returns-clause-leads
+returns-clause-leads g c =
+    let old = c.args.self.now in
+    let marks : c.note.new.self.marks.items ≡ old.saves.marks.items ++ old.live.items =
+    c.in_ok-from.ensures.marks ∙ ap (λ ms. old.saves.marks.items ++ ms) c.as_slice.ensures.value in
+    record {
+      back = (λ i. taken_back (Remarked (c.in_ok-from.ensures.from i) old.flag)
+          (record (raw old) { live = c.clear.new.self.items; marks = marks i; kept = c.in_ok-from.ensures.kept i }))
+          ∙ back-remarked c.clear.new.self.items old.flag (raw old);
+      room = record { entries = le-refl _; live = le-same c.clear.ensures.capacity };
+    }
+
+pub returns-clause-room : goal.returns-clause-room
+returns-clause-room g c = record { entries = le-refl _; live = le-same c.clear.ensures.capacity }

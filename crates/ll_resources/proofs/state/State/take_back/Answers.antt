@@ -1,7 +1,9 @@
-use Rattle.std.proofs.Common.{◌≡◌, ap, ◌∙◌, drop, arith}
+use Rattle.std.proofs.Common.{◌≡◌, ap, ◌∙◌, drop, arith, sym}
 use Rattle.ll_resources.specs.Raw.{raw}
 use Rattle.ll_resources.specs.Changes.{before}
 use Rattle.ll_resources.proofs.ChangeLemmas.{back-next, sound-next, less-trans}
+use Rattle.std.proofs.lemmas.List.{drop_all}
+use Rattle.ll_resources.proofs.RoomLemmas.{le-refl}
 use Rattle.ll_resources.proofs.state.State.take_back.Goals as goal
 
 pub take_one_back-requires : goal.take_one_back-requires
@@ -31,3 +33,11 @@ returns-clause-state g c =
 
 pub returns-clause-room : goal.returns-clause-room
 returns-clause-room g c = c.loop-at.invariant.room
+
+pub loop-at-init : goal.loop-at-init
+loop-at-init g c = record {
+  from = c.requires.from;
+  within = le-refl _;
+  state = ap (λ cs. before cs (raw c.args.self.now)) (sym (drop_all _ c.args.changes.now (le-refl _)));
+  room = record { entries = le-refl _; live = le-refl _ };
+}

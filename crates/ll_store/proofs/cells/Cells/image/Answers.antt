@@ -6,6 +6,7 @@ use Rattle.ll_store.specs.Cells.{before}
 use Rattle.ll_store.specs.Packed.{cell_of, change_of}
 use Rattle.ll_store.specs.Trails.{Trailed}
 use Rattle.ll_store.proofs.CellLemmas.{before-take}
+use Rattle.std.proofs.lemmas.Result.{IfOk-from_err}
 use Rattle.ll_store.proofs.cells.Cells.image.Goals as goal
 
 pub returns-clause-cells : goal.returns-clause-cells
@@ -24,3 +25,15 @@ pub returns-clause-changes : goal.returns-clause-changes
 returns-clause-changes c =
     ap (map change_of) (c.in_ok-trail.ensures.items ∙ ap (take c.args.changes) c.deref-2.ensures.value)
     ∙ (sym (take-map change_of c.args.changes c.self.inside.trail.items) ∙ ap (λ (s : Trailed). take c.args.changes s.changes) c.self.view_is)
+
+pub returns-in_err-slots-clause-cells : goal.returns-in_err-slots-clause-cells
+returns-in_err-slots-clause-cells c = IfOk-from_err c.from_residual.result _ c.from_residual.ensures.0
+
+pub returns-in_err-slots-clause-changes : goal.returns-in_err-slots-clause-changes
+returns-in_err-slots-clause-changes c = IfOk-from_err c.from_residual.result _ c.from_residual.ensures.0
+
+pub returns-in_err-trail-clause-cells : goal.returns-in_err-trail-clause-cells
+returns-in_err-trail-clause-cells c = IfOk-from_err c.from_residual-in_err-trail.result _ c.from_residual-in_err-trail.ensures.0
+
+pub returns-in_err-trail-clause-changes : goal.returns-in_err-trail-clause-changes
+returns-in_err-trail-clause-changes c = IfOk-from_err c.from_residual-in_err-trail.result _ c.from_residual-in_err-trail.ensures.0

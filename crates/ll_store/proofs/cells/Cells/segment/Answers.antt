@@ -3,6 +3,7 @@ use Rattle.std.proofs.lemmas.List.{drop-map}
 use Rattle.ll_store.specs.Packed.{cell_of, change_of}
 use Rattle.ll_store.specs.Segments.{renewed_of, renewals}
 use Rattle.ll_store.proofs.SegmentLemmas.{now_cells, leads-cut, many}
+use Rattle.std.proofs.lemmas.Result.{IfOk-from_err}
 use Rattle.ll_store.proofs.cells.Cells.segment.Goals as goal
 
 pub renewals-requires-clause-count : goal.renewals-requires-clause-count
@@ -33,3 +34,12 @@ returns c =
     (c.in_ok-renewed.ensures ∙ (λ j. renewals c.args.from.0 (map cell_of (c.deref-2.ensures.value j))
     (map change_of (drop c.args.from.1 (take c.args.to.1 (c.as_slice-2.ensures.value j))))))
     (ap (map cell_of) (c.in_ok-more.ensures ∙ ap (drop c.args.from.0) c.deref-3.ensures.value) ∙ sym (drop-map cell_of c.args.from.0 now))
+
+pub returns-in_err-now : goal.returns-in_err-now
+returns-in_err-now c = IfOk-from_err c.from_residual.result _ c.from_residual.ensures.0
+
+pub returns-in_err-renewed : goal.returns-in_err-renewed
+returns-in_err-renewed c = IfOk-from_err c.from_residual-in_err-renewed.result _ c.from_residual-in_err-renewed.ensures.0
+
+pub returns-in_err-more : goal.returns-in_err-more
+returns-in_err-more c = IfOk-from_err c.from_residual-in_err-more.result _ c.from_residual-in_err-more.ensures.0

@@ -105,3 +105,15 @@ take_loading-requires-clause-inside c =
 
 pub take_loading-requires-clause-used : goal.take_loading-requires-clause-used
 take_loading-requires-clause-used c = c.requires.used
+
+pub take_loading-requires-clause-goal : goal.take_loading-requires-clause-goal
+take_loading-requires-clause-goal c =
+    let P : Goal → Type 0 = HasGoal c.args.forms.now (length c.args.modules.now) in
+    let e = c.in-Some.ensures.items ∙ ap (λ g. c.pop.new.self.items ++ g ∷ []) c.in-Loading.is in
+    (All-pop P c.args.self.now.goals.items c.pop.new.self.items (Some (LoadingGoal c.in-Loading.loading)) e c.requires.inside.goals).1.0
+
+pub take_loading-requires-clause-known : goal.take_loading-requires-clause-known
+take_loading-requires-clause-known c =
+    let P : Goal → Type 0 = HasGoal c.args.forms.now (length c.args.modules.now) in
+    let e = c.in-Some.ensures.items ∙ ap (λ g. c.pop.new.self.items ++ g ∷ []) c.in-Loading.is in
+    (All-pop P c.args.self.now.goals.items c.pop.new.self.items (Some (LoadingGoal c.in-Loading.loading)) e c.requires.inside.goals).1.1

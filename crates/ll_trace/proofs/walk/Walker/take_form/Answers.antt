@@ -1,12 +1,13 @@
+use Rattle.std.proofs.lemmas.List.{append-nil}
 use Rattle.std.proofs.Common.{refl, ap, sym, subst, ◌∙◌, arith, length, [], ◌∷◌, ◌++◌}
 use Rattle.std.proofs.lemmas.Result.{IfOk-from_err}
 use Rattle.std.proofs.lemmas.List.Elements.{All-nil, All-cons}
-use Rattle.ll_bank.specs.Form.{Form, Atom, With, Tensor, Plus, Bang, Lolli, Imp, Forall, Exists, Use}
+use Rattle.ll_bank.specs.Form.{Form, Atom, With, Tensor, Plus, Bang, Lolli, Imp, Forall, Exists, Use, One, Top}
 use Rattle.ll_bank.specs.Nodes.{form_tree, term_trees}
 use Rattle.ll_laws.specs.declared.Module.{Module}
 use Rattle.ll_laws.specs.declared.Rule.TheVariants.{Tensor as TensorRule, With as WithRule, Bang as BangRule, Lolli as LolliRule, Imp as ImpRule}
-use Rattle.ll_laws.specs.declared.Rule.TheVariants.{Forall as ForallRule, Exists as ExistsRule, Use as UseRule}
-use Rattle.ll_laws.specs.Line.{TensorLine, WithLine, BangLine, LolliLine, ImpLine, ForallLine}
+use Rattle.ll_laws.specs.declared.Rule.TheVariants.{Forall as ForallRule, Exists as ExistsRule, Use as UseRule, One as OneRule, Erase as EraseRule}
+use Rattle.ll_laws.specs.Line.{TensorLine, WithLine, BangLine, LolliLine, ImpLine, ForallLine, OneLine, EraseLine}
 use Rattle.ll_trace.specs.declared.walk.Goal.{Goal}
 use Rattle.ll_trace.specs.declared.walk.Goal.TheVariants.{Plain, Loading as LoadingGoal}
 use Rattle.ll_trace.specs.declared.walk.Loading.{Loading}
@@ -208,3 +209,28 @@ returns-in_err-push_two-in-Tensor c = IfOk-from_err c.from_residual.result _ c.f
 
 pub returns-in_err-push_two-in-With : goal.returns-in_err-push_two-in-With
 returns-in_err-push_two-in-With c = IfOk-from_err c.from_residual-in_err-push_two-in-With.result _ c.from_residual-in_err-push_two-in-With.ensures.0
+
+pub form_at-requires : goal.form_at-requires
+form_at-requires c = c.requires.form
+
+pub take_atom-requires-clause-used : goal.take_atom-requires-clause-used
+take_atom-requires-clause-used c = c.requires.used
+
+pub take_atom-requires-clause-clauses : goal.take_atom-requires-clause-clauses
+take_atom-requires-clause-clauses c = c.requires.inside.clauses
+
+pub returns-in-One : goal.returns-in-One
+returns-in-One c =
+    takes_tree c.args.forms.now c.args.modules.now c.args.terms.now c.args.self.now c.args.step c.requires.inside c.requires.used c.args.form.0
+    One OneRule c.args.self.now c.in-One.ensures.shown.tree
+    (takes_goals c.args.forms.now c.args.modules.now c.args.terms.now c.args.self.now c.args.step c.requires.inside c.requires.used One OneRule OneLine []
+    c.args.self.now (sym (append-nil _)) refl refl refl (All-nil (HasGoal c.args.forms.now (length c.args.modules.now))) (λ bank. refl) (λ all. refl)
+    (λ bank k. tt))
+
+pub returns-in-Top : goal.returns-in-Top
+returns-in-Top c =
+    takes_tree c.args.forms.now c.args.modules.now c.args.terms.now c.args.self.now c.args.step c.requires.inside c.requires.used c.args.form.0
+    Top EraseRule c.args.self.now c.in-Top.ensures.shown.tree
+    (takes_goals c.args.forms.now c.args.modules.now c.args.terms.now c.args.self.now c.args.step c.requires.inside c.requires.used Top EraseRule EraseLine []
+    c.args.self.now (sym (append-nil _)) refl refl refl (All-nil (HasGoal c.args.forms.now (length c.args.modules.now))) (λ bank. refl) (λ all. refl)
+    (λ bank k. tt))

@@ -75,3 +75,12 @@ returns-in_err-eigen c = IfOk-from_err c.from_residual.result _ c.from_residual.
 
 pub returns-in_err-label : goal.returns-in_err-label
 returns-in_err-label c = IfOk-from_err c.from_residual-in_err-label.result _ c.from_residual-in_err-label.ensures.0
+
+pub take_form-requires-clause-modules : goal.take_form-requires-clause-modules
+take_form-requires-clause-modules c = c.requires.modules
+
+pub take_form-requires-clause-inside : goal.take_form-requires-clause-inside
+take_form-requires-clause-inside c = c.requires.inside
+
+pub take_form-requires-clause-used : goal.take_form-requires-clause-used
+take_form-requires-clause-used c = c.requires.used

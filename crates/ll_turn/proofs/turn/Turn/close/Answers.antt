@@ -1,5 +1,6 @@
-use Rattle.std.proofs.Common.{sym, subst, refl}
+use Rattle.std.proofs.Common.{sym, subst, refl, ap, ◌∙◌}
 use Rattle.std.specs.Option.{IsSome}
+use Rattle.ll_turn.specs.Sight.{Sight}
 use Rattle.ll_turn.proofs.Passes.{is_seen}
 use Rattle.ll_turn.proofs.Closing.{left_over, left_over_fits}
 use Rattle.ll_turn.proofs.turn.Turn.close.Goals as goal
@@ -17,3 +18,7 @@ returns g c = let r = c.requires in
     left_over_fits pass r.first r.rests r.alone g.S.Kept.fit (g.S.Kept.begin c.self.inside.table.shared.key.value).0 c.pass.inside.seat.id _ _
     c.close_with-closed.ensures.values.2 c.take.result c.take.ensures.value
     c.unwrap-value.result c.unwrap-value.ensures
+
+pub close_with-closed-requires : goal.close_with-closed-requires
+close_with-closed-requires g c =
+    ap (λ (s : Sight g.row.S.Denot g.row.S-Problem.Denot g.row.S-Mine.Denot). s.table) c.pass.view_is ∙ (c.requires.own ∙ sym c.self.view_is)

@@ -1,0 +1,18 @@
+use Rattle.std.proofs.Common.{sym, refl, ◌∙◌}
+use Rattle.std.proofs.lemmas.Bool.{false≢true}
+use Rattle.ll_job.proofs.lead.tell.Goals as goal
+
+pub returns-then-told-clause-leads : goal.returns-then-told-clause-leads
+returns-then-told-clause-leads g c = c.tell_all.ensures.leads ∙ sym c.if-told.true
+
+pub returns-then-told-clause-on : goal.returns-then-told-clause-on
+returns-then-told-clause-on g c = c.tell_all.ensures.on
+
+pub returns-then-told-clause-left : goal.returns-then-told-clause-left
+returns-then-told-clause-left g c = rw c.if-told.true c.tell_all.ensures.left
+
+pub returns-clause-leads : goal.returns-clause-leads
+returns-clause-leads g c = refl
+
+pub returns-clause-left : goal.returns-clause-left
+returns-clause-left g c = λ e. absurd (false≢true (sym e))

@@ -14,14 +14,21 @@ mod state;
 
 pub use context::{Context, ContextMark, Saved};
 pub use ends::settling_ends;
+use ll_bank::OutOfMemory;
 use ll_laws::Kind;
 
 /// A clause in a context, with its label. Only a linear one can be live.
-#[derive(Clone, Copy, PartialEq, Eq)]
+#[derive(Copy, PartialEq, Eq)]
 pub struct Entry<C> {
     pub label: u32,
     pub kind: Kind,
     /// It is still to be used.
     pub live: bool,
     pub clause: C,
+}
+
+impl<C: Copy> Clone for Entry<C> {
+    fn clone(&self) -> Result<Self, OutOfMemory> {
+        Ok(*self)
+    }
 }

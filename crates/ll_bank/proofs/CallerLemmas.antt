@@ -122,6 +122,10 @@ pub use Rattle.ll_bank.proofs.PartLemmas.{sum_same}
 pub use Rattle.ll_bank.proofs.PartLemmas.{term_parts_same}
 -- as a bank grows, the parts of a formula at an old place stay
 pub use Rattle.ll_bank.proofs.PartLemmas.{form_parts_same}
+-- a node that does not look like a load is none
+pub use Rattle.ll_bank.proofs.PartLemmas.{no_load_node}
+-- a node without terms has one of the signs without terms
+pub use Rattle.ll_bank.proofs.PartLemmas.{no_other_node}
 -- ---- lists of trees that grow node by node
 
 -- nodes behind others grow over the trees of those

@@ -1,6 +1,6 @@
 -- Applications, the parts of terms and formulas, and nodes that are equal by their test.
 use Rattle.std.proofs.Common.{◌≡◌, ℕ, ◌+◌, ◌<◌, true, false, List, [], ◌∷◌, ◌++◌, length, map, All, get_or, refl, ap, sym, ◌∙◌}
-use Rattle.std.proofs.Common.{arith, eqb, true≢false, Some}
+use Rattle.std.proofs.Common.{arith, eqb, true≢false, Some, Bor}
 use Rattle.std.specs.Prelude.{◌&&◌, sum_by, slice_get}
 use Rattle.std.specs.List.{list_all}
 use Rattle.std.proofs.Math.ListN.{get_or-append}
@@ -13,6 +13,7 @@ use Rattle.std.proofs.lemmas.List.Elements.{All-cons, All-head, All-tail}
 use Rattle.std.proofs.lemmas.List.Sums.{sum_by-cons}
 use Rattle.std.proofs.lemmas.Option.{get_or_from_slice_get}
 use Rattle.ll_bank.specs.declared.At.{At}
+use Rattle.ll_bank.specs.declared.FormAt.{FormAt}
 use Rattle.ll_bank.specs.declared.Head.{Head}
 use Rattle.ll_bank.specs.declared.Head.TheVariants.{Name, Eigen, Bound}
 use Rattle.ll_bank.specs.declared.TermView.{TermView}
@@ -25,7 +26,7 @@ use Rattle.ll_bank.specs.Term.{Term, Var, Int, Con, Ap, Env, apply, app, close, 
 use Rattle.ll_bank.specs.Form.{Form, Top, One, Atom, With, Tensor, Plus, Bang, Lolli, Imp, Forall, Exists, Use, Num, Is, Less, Most}
 use Rattle.ll_bank.specs.Nodes.{Nodes, VarNode, IntNode, AppNode, FormulaNode, TopNode, AtomNode, WithNode, TensorNode, PlusNode, BangNode, LolliNode, ImpNode}
 use Rattle.ll_bank.specs.Nodes.{ForallNode, ExistsNode, UseNode, NumNode, grow, build_term, build_form, term_tree, term_trees, HasTerm, HasForm}
-use Rattle.ll_bank.specs.Nodes.{TermNode, Extends, IsTermView, places, node_of_term, node_of, form_of}
+use Rattle.ll_bank.specs.Nodes.{TermNode, HasPartsBelow, Extends, IsTermView, places, node_of_term, node_of, form_of}
 use Rattle.ll_bank.specs.Kept.{all_terms}
 use Rattle.ll_bank.specs.Opened.{Spot, term_node_at, term_parts, form_parts, form_node_at, term_size, form_size, term_size_at, term_parts_at, form_parts_at}
 use Rattle.ll_bank.proofs.BankLemmas.{build_parts, build_app}
@@ -227,3 +228,37 @@ module _ (first now : Nodes) (e : Extends first now) where
 
   pub form_parts_same : (k : Spot) → HasForm first k.0 → form_parts_at now k ≡ form_parts_at first k
   form_parts_same k h = ap (λ node. form_parts node k.1) (ap (λ ns. get_or ns k.0 TopNode) e.forms ∙ get_or-append first.forms e.more_forms TopNode k.0 h)
+
+-- a node that does not look like a load is none
+pub no_load_node : (view : FormNode) → ((m : ℕ) (args : Bor (List At)) (f : FormAt) → view ≡ UseView m args f → ⊥) → (m : ℕ) (args : List ℕ) (f : ℕ)
+    → node_of view ≡ UseNode m args f → ⊥
+no_load_node (UseView k ats f) n m args g e = n k ats f refl
+no_load_node x n m args g e = cc
+
+-- a node without terms has one of the signs without terms
+pub no_other_node : (view : FormNode) (at : ℕ) → HasPartsBelow 0 at view → ((m : ℕ) (args : List ℕ) (f : ℕ) → node_of view ≡ UseNode m args f → ⊥)
+    → (view ≡ TopView → ⊥) → (view ≡ OneView → ⊥)
+    → ((f g : FormAt) → view ≡ WithView f g → ⊥)
+    → ((f g : FormAt) → view ≡ TensorView f g → ⊥)
+    → ((f g : FormAt) → view ≡ PlusView f g → ⊥)
+    → ((f : FormAt) → view ≡ BangView f → ⊥)
+    → ((f g : FormAt) → view ≡ LolliView f g → ⊥)
+    → ((f g : FormAt) → view ≡ ImpView f g → ⊥)
+    → ((f : FormAt) → view ≡ ForallView f → ⊥)
+    → ((f : FormAt) → view ≡ ExistsView f → ⊥)
+    → ⊥
+no_other_node TopView at h _ n _ _ _ _ _ _ _ _ _ = n refl
+no_other_node OneView at h _ _ n _ _ _ _ _ _ _ _ = n refl
+no_other_node (WithView f g) at h _ _ _ n _ _ _ _ _ _ _ = n f g refl
+no_other_node (TensorView f g) at h _ _ _ _ n _ _ _ _ _ _ = n f g refl
+no_other_node (PlusView f g) at h _ _ _ _ _ n _ _ _ _ _ = n f g refl
+no_other_node (BangView f) at h _ _ _ _ _ _ n _ _ _ _ = n f refl
+no_other_node (LolliView f g) at h _ _ _ _ _ _ _ n _ _ _ = n f g refl
+no_other_node (ImpView f g) at h _ _ _ _ _ _ _ _ n _ _ = n f g refl
+no_other_node (ForallView f) at h _ _ _ _ _ _ _ _ _ n _ = n f refl
+no_other_node (ExistsView f) at h _ _ _ _ _ _ _ _ _ _ n = n f refl
+no_other_node (AtomView a) at h _ _ _ _ _ _ _ _ _ _ _ = absurd (omega arith)
+no_other_node (UseView m args f) at h n _ _ _ _ _ _ _ _ _ _ = n m (places args.now) f.0 refl
+no_other_node (IsView t u) at h _ _ _ _ _ _ _ _ _ _ _ = absurd (let l = h.0 in omega arith)
+no_other_node (LessView t u) at h _ _ _ _ _ _ _ _ _ _ _ = absurd (let l = h.0 in omega arith)
+no_other_node (MostView t u) at h _ _ _ _ _ _ _ _ _ _ _ = absurd (let l = h.0 in omega arith)

@@ -1,14 +1,11 @@
 -- Images of terms that are put in front of a list, one by one.
-use Rattle.std.proofs.Common.{◌≡◌, ℕ, ◌+◌, ◌-◌, ◌<◌, List, [], ◌∷◌, ◌++◌, length, map, take, get_or, ap, sym, subst, ◌∙◌, arith}
+use Rattle.std.proofs.Common.{◌≡◌, ℕ, ◌+◌, ◌<◌, List, [], ◌∷◌, ◌++◌, length, map, take, get_or, ap, sym, subst, ◌∙◌}
 use Rattle.std.specs.Prelude.{slice_set}
 use Rattle.std.proofs.lemmas.List.{map_push, take_more, take_more_set}
 use Rattle.std.proofs.lemmas.List.Elements.{All-push}
 use Rattle.ll_bank.specs.declared.At.{At}
 use Rattle.ll_bank.specs.Term.{Env, close}
 use Rattle.ll_bank.specs.Nodes.{Nodes, term_tree, term_trees, HasTerm, AllInTerms, ShowsTerm}
-
-pub one-less : (n i : ℕ) → i < n → n - (i + 1) < n - i
-one-less n i l = omega arith
 
 pub filled : (bank : Nodes) (e : Env) (own args : List At) (i : ℕ) (d image : At) → i < length own → i < length args → AllInTerms bank (take i own)
     → term_trees bank (take i own) ≡ map (close e) (term_trees bank (take i args)) → ShowsTerm bank image.0 (close e (term_tree bank (get_or args i d).0))

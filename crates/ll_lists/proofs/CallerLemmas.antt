@@ -254,3 +254,9 @@ pub same_front : {A : Type 0} (xs ys zs : List A) → xs ≡ ys ++ zs → length
 same_front xs ys [] e l = sym (e ∙ append-nil ys)
 same_front xs ys (z ∷ zs) e l =
     let a : length xs ≡ length ys + suc (length zs) = ap (λ us. length us) e ∙ length-append ys (z ∷ zs) in absurd (omega (arith, a, l))
+
+-- ---- places
+
+-- from a place of a list to its end there is less after a step
+pub fewer_left : (n i : ℕ) → i < n → n - (i + 1) < n - i
+fewer_left n i l = omega arith

@@ -12,3 +12,5 @@ pub use Rattle.ll_printer.proofs.Printing.{is_cons-app}
 pub use Rattle.ll_printer.proofs.Printing.{has_arguments-app}
 -- a text begins as its own beginning does
 pub use Rattle.ll_printer.proofs.AnswerLines.{begins_before}
+-- a text of which nothing was written has begun
+pub use Rattle.ll_printer.proofs.Printing.{begins_same}

@@ -1,6 +1,7 @@
 -- Changes taken back one after another, and what a context has kept before them.
 use Rattle.std.proofs.Common.{◌≡◌, ℕ, zero, suc, ◌+◌, ◌-◌, ◌<◌, ◌≤◌, Bool, false, List, [], ◌∷◌, ◌++◌, length, get_or, take, drop, set, refl, ap, sym, subst}
 use Rattle.std.proofs.Common.{◌∙◌, inl, inr, arith, length-append}
+use Rattle.std.proofs.Math.Nat.{le_trans}
 use Rattle.std.proofs.lemmas.Bool.{cases_lt}
 use Rattle.std.proofs.lemmas.List.{length-map, drop_all, drop_more, drop-append-le, take-append-drop, length-take-le, get_or-take, get_or_push}
 use Rattle.std.proofs.Math.Seq.{take-append_seam, drop-append_seam, take-length}
@@ -24,9 +25,6 @@ use Rattle.ll_resources.specs.Changes.{with_last, without_last, taken_back, befo
 use Rattle.ll_resources.proofs.SeenLemmas.{front-push, front-last}
 use Rattle.ll_resources.proofs.KeptLemmas.{saved-cut}
 use Rattle.ll_resources.proofs.RawLemmas.{HasWithin, entries-count, shown-kept, shown-mid}
-
-le-trans : {a b c : ℕ} → a ≤ b → b ≤ c → a ≤ c
-le-trans h k = omega arith
 
 -- a range of no marks
 pub none_kept : KeptRange
@@ -87,7 +85,7 @@ module _ {C : Type 0} where
 
   -- room that is no less than room that is no less
   pub less-trans : (r s t : State C) → HasNoLess r s → HasNoLess s t → HasNoLess r t
-  less-trans r s t a b = record { entries = le-trans a.entries b.entries; live = le-trans a.live b.live }
+  less-trans r s t a b = record { entries = le_trans a.entries b.entries; live = le_trans a.live b.live }
 
   -- ---- sound states
 
@@ -178,7 +176,7 @@ module _ {C : Type 0} where
       (sound-none (raw new) (vec_capacity new.entries) (vec_capacity new.live)
       (subst (λ (t : Raw C). IsSound (vec_capacity new.entries) (vec_capacity new.live) t) (sym f)
       (sound-wider (before (drop j cs) (raw old)) (vec_capacity old.entries) (vec_capacity old.live) (vec_capacity new.entries) (vec_capacity new.live)
-      (le-trans a.entries b.entries) (le-trans a.live b.live) (h j))))
+      (le_trans a.entries b.entries) (le_trans a.live b.live) (h j))))
 
   -- what a copy is taken back to
   pub back-copied : (j : ℕ) (cs ds : List (Change C)) (r s t : Raw C) → ds ≡ cs → s ≡ r → t ≡ before (drop j ds) s → t ≡ before (drop j cs) r

@@ -1,12 +1,6 @@
 -- Room that a change leaves.
 use Rattle.std.proofs.Common.{◌≡◌, ℕ, ◌+◌, ◌^◌, ◌<◌, ◌≤◌, List, [], ◌∷◌, ◌++◌, length, Fits, w32, w64, arith, length-append}
 
-pub le-refl : (n : ℕ) → n ≤ n
-le-refl n = omega arith
-
-pub le-trans : {a b c : ℕ} → a ≤ b → b ≤ c → a ≤ c
-le-trans h k = omega arith
-
 -- the same room is no less
 pub le-same : {a b : ℕ} → b ≡ a → a ≤ b
 le-same e = omega arith

@@ -6,11 +6,8 @@ use Rattle.std.proofs.lemmas.Bool.Decides.{Decides-int_eq}
 use Rattle.std.proofs.lemmas.List.{get_or_default}
 use Rattle.std.proofs.lemmas.List.Elements.{All-push, All-pop}
 use Rattle.ll_bank.specs.declared.At.{At}
-use Rattle.ll_bank.specs.declared.Head.{Head}
-use Rattle.ll_bank.specs.declared.Head.TheVariants.{Name, Eigen, Bound}
 use Rattle.ll_bank.specs.declared.TermView.{TermView}
 use Rattle.ll_bank.specs.declared.TermView.TheVariants.{Var as VarView, Int as IntView, App as AppView}
-use Rattle.ll_bank.specs.contracts.HeadPartialEq.TheImpl.{eq-value as head_eq_value}
 use Rattle.ll_bank.specs.contracts.TermViewPartialEq.TheImpl.{eq-value as view_eq_value}
 use Rattle.ll_bank.specs.Term.{Var, Int}
 use Rattle.ll_bank.specs.Nodes.{Nodes, term_tree, term_trees, HasTerm, IsTermView}

@@ -1,5 +1,5 @@
 -- Images of places: what stands in a map from places to places, as it grows.
-use Rattle.std.proofs.Common.{◌≡◌, ℕ, ◌+◌, ◌-◌, ◌<◌, ◌≤◌, cond, List, [], ◌∷◌, ◌++◌, length, map, All, get_or, take, refl, ap, sym, subst, ◌∙◌, inl, inr, arith}
+use Rattle.std.proofs.Common.{◌≡◌, ℕ, ◌+◌, ◌<◌, ◌≤◌, cond, List, [], ◌∷◌, ◌++◌, length, map, All, get_or, take, refl, ap, sym, subst, ◌∙◌, inl, inr, arith}
 use Rattle.std.proofs.Common.{Option, Some, None, Bor, option_copied, true≢false}
 use Rattle.std.specs.Prelude.{IsSome, slice_get}
 use Rattle.std.specs.Ordering.{nat_cmp}
@@ -140,7 +140,3 @@ image_shows {X} shows lookup at tree image h e =
 pub some_copied : {X : Type 0} (o : Option (Bor X)) (p : Option X) → option_copied o ≡ p → IsSome p → IsSome o
 some_copied None p e h = absurd (true≢false (sym (subst IsSome (sym e) h)))
 some_copied (Some x) p e h = refl
-
--- a turn of a loop over a list leaves less of it
-pub one-less : (n i : ℕ) → i < n → n - (i + 1) < n - i
-one-less n i l = omega arith

@@ -29,10 +29,6 @@ module _ (a b text o p q : List ℕ) (is : text ≡ a ++ b) (first : p ≡ o ++ 
     begun = is ∙ (ap (λ t. a ++ t) w.begun ∙ sym (append_assoc a w.written w.rest));
   }
 
--- nothing of a text was appended
-pub none_begun : (text o q : List ℕ) → q ≡ o → BeginsText text o q
-none_begun text o q e = record { written = []; rest = text; is = e ∙ sym (append-nil o); begun = refl }
-
 -- the texts of items, one after the other
 module _ {X : Type 0} (f : X → List ℕ) where
   -- up to some item, that item, and the others

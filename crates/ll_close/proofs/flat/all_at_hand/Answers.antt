@@ -4,7 +4,8 @@ use Rattle.std.proofs.lemmas.List.{length-set}
 use Rattle.ll_bank.specs.Term.{close}
 use Rattle.ll_bank.specs.Nodes.{term_trees, AllInTerms}
 use Rattle.ll_close.specs.Closing.{env_of, under}
-use Rattle.ll_close.proofs.Filling.{filled, one-less}
+use Rattle.ll_lists.proofs.CallerLemmas.{fewer_left}
+use Rattle.ll_close.proofs.Filling.{filled}
 use Rattle.ll_close.proofs.flat.all_at_hand.Goals as goal
 
 pub returns-then-args-gt-FEW-clause-few : goal.returns-then-args-gt-FEW-clause-few
@@ -42,7 +43,7 @@ pub bounds-own-index : goal.bounds-own-index
 bounds-own-index c = omega (arith, c.loop-index-test.true, c.if-args-gt-FEW.false)
 
 pub loop-index-smaller : goal.loop-index-smaller
-loop-index-smaller c = one-less _ _ c.loop-index-test.true
+loop-index-smaller c = fewer_left _ _ c.loop-index-test.true
 
 pub loop-index-preserved : goal.loop-index-preserved
 loop-index-preserved c =

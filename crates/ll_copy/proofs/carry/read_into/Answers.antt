@@ -1,5 +1,6 @@
 use Rattle.std.proofs.lemmas.Result.{IfOk-from_err}
 use Rattle.std.proofs.Common.{ℕ, ◌<◌, ◌-◌, get_or, map, refl, ap, ◌∙◌, ◌+◌, arith}
+use Rattle.ll_lists.proofs.CallerLemmas.{fewer_left}
 use Rattle.ll_bank.specs.declared.At.{At}
 use Rattle.ll_bank.proofs.CallerLemmas.{Extends-refl, Extends-trans}
 use Rattle.ll_copy.proofs.Copies.{read-none, carried-more}
@@ -58,10 +59,6 @@ returns-in_err-push-clause-inside g c = IfOk-from_err c.from_residual-in_err-pus
 pub returns-in_err-push-clause-shows : goal.returns-in_err-push-clause-shows
 returns-in_err-push-clause-shows g c = IfOk-from_err c.from_residual-in_err-push.result _ c.from_residual-in_err-push.ensures.0
 
--- a turn of the loop leaves fewer places
-one-less : (n i : ℕ) → i < n → n - (i + 1) < n - i
-one-less n i l = omega arith
-
 pub carry_one-requires-clause-table : goal.carry_one-requires-clause-table
 carry_one-requires-clause-table g c = c.requires.table
 
@@ -72,7 +69,7 @@ pub carry_one-requires-clause-at : goal.carry_one-requires-clause-at
 carry_one-requires-clause-at g c = c.requires.places c.loop-place.place-index (record { 0 = 0 }) c.loop-place-test.true
 
 pub loop-place-smaller : goal.loop-place-smaller
-loop-place-smaller g c = one-less _ _ c.loop-place-test.true
+loop-place-smaller g c = fewer_left _ _ c.loop-place-test.true
 
 pub returns-clause-inside : goal.returns-clause-inside
 returns-clause-inside g c = c.loop-place.invariant.read.inside

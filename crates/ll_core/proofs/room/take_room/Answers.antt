@@ -6,6 +6,7 @@ use Rattle.std.specs.Prelude.{OnOk, OnErr, is_ok}
 use Rattle.std.specs.declared.result.Result.{Result}
 use Rattle.std.specs.declared.result.Result.TheVariants.{Ok, Err}
 use Rattle.std.specs.Vec.{vec_len, vec_capacity}
+use Rattle.ll_lists.proofs.CallerLemmas.{OnErr-always}
 use Rattle.ll_core.specs.declared.room.Slot.{Slot}
 use Rattle.ll_core.specs.Slots.{piece_in, status_in}
 use Rattle.ll_core.proofs.sound.Forming.{slot_kept}
@@ -31,10 +32,6 @@ waits (Err b) waiting copies now P Q n capacity e p fits q = _
 stays : {A B W : Type 0} (r : Result A B) (waiting copies now : List W) → now ≡ (if is_ok r then waiting ++ copies else waiting) → OnErr r (now ≡ waiting)
 stays (Ok a) waiting copies now e = _
 stays (Err b) waiting copies now e = e
-
-on_each : {A B : Type 0} (r : Result A B) (P : Type 0) → P → OnErr r P
-on_each (Ok a) P p = _
-on_each (Err b) P p = p
 
 pub returns-in_err-reserve-3-clause-pieces : goal.returns-in_err-reserve-3-clause-pieces
 returns-in_err-reserve-3-clause-pieces g c =
@@ -104,13 +101,13 @@ pub returns-clause-capacity : goal.returns-clause-capacity
 returns-clause-capacity g c = c.reserve-2.ensures.capacity
 
 pub returns-in_err-reserve-clause-err : goal.returns-in_err-reserve-clause-err
-returns-in_err-reserve-clause-err g c = on_each c.from_residual.result _ refl
+returns-in_err-reserve-clause-err g c = OnErr-always c.from_residual.result refl
 
 pub returns-in_err-reserve-2-clause-err : goal.returns-in_err-reserve-2-clause-err
-returns-in_err-reserve-2-clause-err g c = on_each c.from_residual-in_err-reserve-2.result _ refl
+returns-in_err-reserve-2-clause-err g c = OnErr-always c.from_residual-in_err-reserve-2.result refl
 
 pub returns-in_err-reserve-3-clause-err : goal.returns-in_err-reserve-3-clause-err
-returns-in_err-reserve-3-clause-err g c = on_each c.from_residual-in_err-reserve-3.result _ refl
+returns-in_err-reserve-3-clause-err g c = OnErr-always c.from_residual-in_err-reserve-3.result refl
 
 pub index_mut-requires : goal.index_mut-requires
 index_mut-requires g c =

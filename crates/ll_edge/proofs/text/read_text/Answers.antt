@@ -1,16 +1,11 @@
 use Rattle.std.proofs.Common.{◌≡◌, ◌<◌, ◌≤◌, ℕ, ◌+◌, Ok, Err, refl, sym, subst, ◌∙◌, arith, length-take}
+use Rattle.std.proofs.Math.Nat.{le_refl, le_trans}
 use Rattle.std.specs.Prelude.{IsErrOf}
 use Rattle.std.proofs.lemmas.Result.{IfOk-from_err}
 use Rattle.ll_edge.specs.declared.text.ReadFault.{ReadFault}
 use Rattle.ll_edge.specs.declared.text.ReadFault.TheVariants.{Absent, Failed, TooLong}
 use Rattle.ll_edge.proofs.Reading.{IsFrontOfTold, told_none, told_more, told_end, told_longer}
 use Rattle.ll_edge.proofs.text.read_text.Goals as goal
-
-le-refl : (n : ℕ) → n ≤ n
-le-refl n = omega arith
-
-le-trans : {a b c : ℕ} → a ≤ b → b ≤ c → a ≤ c
-le-trans h k = omega arith
 
 none-within : {n : ℕ} (limit : ℕ) → n ≡ 0 → n ≤ limit
 none-within limit e = omega arith
@@ -47,8 +42,8 @@ loop-chunk-init g c = record {
   chunk = let e = c.in_ok-chunk.ensures in omega (arith, e);
   within = none-within (c.args.limit + 1) c.new-text.ensures.len;
   same_texts = refl;
-  faults_kept = le-refl _;
-  absences_kept = le-refl _;
+  faults_kept = le_refl _;
+  absences_kept = le_refl _;
   no_fault = refl;
   no_absence = refl;
   front = subst (λ bytes. IsFrontOfTold (g.F.Shelf.texts c.args.shelf.now) c.args.name.now bytes) (sym c.new-text.ensures.items)
@@ -59,10 +54,10 @@ pub returns-in_err-chunk-clause-same_texts : goal.returns-in_err-chunk-clause-sa
 returns-in_err-chunk-clause-same_texts g c = refl
 
 pub returns-in_err-chunk-clause-faults_kept : goal.returns-in_err-chunk-clause-faults_kept
-returns-in_err-chunk-clause-faults_kept g c = le-refl _
+returns-in_err-chunk-clause-faults_kept g c = le_refl _
 
 pub returns-in_err-chunk-clause-absences_kept : goal.returns-in_err-chunk-clause-absences_kept
-returns-in_err-chunk-clause-absences_kept g c = le-refl _
+returns-in_err-chunk-clause-absences_kept g c = le_refl _
 
 pub returns-in_err-chunk-clause-no_fault : goal.returns-in_err-chunk-clause-no_fault
 returns-in_err-chunk-clause-no_fault g c = IfOk-from_err c.from_residual.result _ c.from_residual.ensures.0
@@ -80,10 +75,10 @@ pub returns-in-Bytes-eq0-clause-same_texts : goal.returns-in-Bytes-eq0-clause-sa
 returns-in-Bytes-eq0-clause-same_texts g c = c.in-Bytes-eq0.ensures.same_texts ∙ c.loop-chunk.invariant.same_texts
 
 pub returns-in-Bytes-eq0-clause-faults_kept : goal.returns-in-Bytes-eq0-clause-faults_kept
-returns-in-Bytes-eq0-clause-faults_kept g c = le-trans c.loop-chunk.invariant.faults_kept c.in-Bytes-eq0.ensures.faults_kept
+returns-in-Bytes-eq0-clause-faults_kept g c = le_trans c.loop-chunk.invariant.faults_kept c.in-Bytes-eq0.ensures.faults_kept
 
 pub returns-in-Bytes-eq0-clause-absences_kept : goal.returns-in-Bytes-eq0-clause-absences_kept
-returns-in-Bytes-eq0-clause-absences_kept g c = le-trans c.loop-chunk.invariant.absences_kept c.in-Bytes-eq0.ensures.absences_kept
+returns-in-Bytes-eq0-clause-absences_kept g c = le_trans c.loop-chunk.invariant.absences_kept c.in-Bytes-eq0.ensures.absences_kept
 
 pub returns-in-Bytes-eq0-clause-no_fault : goal.returns-in-Bytes-eq0-clause-no_fault
 returns-in-Bytes-eq0-clause-no_fault g c = c.in-Bytes-eq0.ensures.no_fault ∙ c.loop-chunk.invariant.no_fault
@@ -116,10 +111,10 @@ pub returns-in_err-extend_from_slice-in-Bytes-clause-same_texts : goal.returns-i
 returns-in_err-extend_from_slice-in-Bytes-clause-same_texts g c = c.in-Bytes.ensures.same_texts ∙ c.loop-chunk.invariant.same_texts
 
 pub returns-in_err-extend_from_slice-in-Bytes-clause-faults_kept : goal.returns-in_err-extend_from_slice-in-Bytes-clause-faults_kept
-returns-in_err-extend_from_slice-in-Bytes-clause-faults_kept g c = le-trans c.loop-chunk.invariant.faults_kept c.in-Bytes.ensures.faults_kept
+returns-in_err-extend_from_slice-in-Bytes-clause-faults_kept g c = le_trans c.loop-chunk.invariant.faults_kept c.in-Bytes.ensures.faults_kept
 
 pub returns-in_err-extend_from_slice-in-Bytes-clause-absences_kept : goal.returns-in_err-extend_from_slice-in-Bytes-clause-absences_kept
-returns-in_err-extend_from_slice-in-Bytes-clause-absences_kept g c = le-trans c.loop-chunk.invariant.absences_kept c.in-Bytes.ensures.absences_kept
+returns-in_err-extend_from_slice-in-Bytes-clause-absences_kept g c = le_trans c.loop-chunk.invariant.absences_kept c.in-Bytes.ensures.absences_kept
 
 pub returns-in_err-extend_from_slice-in-Bytes-clause-no_fault : goal.returns-in_err-extend_from_slice-in-Bytes-clause-no_fault
 returns-in_err-extend_from_slice-in-Bytes-clause-no_fault g c =

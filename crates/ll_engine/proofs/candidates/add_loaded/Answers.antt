@@ -1,4 +1,5 @@
-use Rattle.std.proofs.Common.{◌≡◌, refl, ℕ, ◌<◌, ◌≤◌, length, ap, sym, ◌∙◌, arith, map, flat_map, take, append_assoc, ◌++◌, ◌+◌}
+use Rattle.std.proofs.Common.{◌≡◌, refl, ℕ, ◌≤◌, ap, sym, ◌∙◌, arith, map, flat_map, take, append_assoc, ◌++◌, ◌+◌}
+use Rattle.std.proofs.Math.Nat.{lt_of_lt_of_le}
 use Rattle.std.proofs.lemmas.List.{append-nil}
 use Rattle.ll_bank.specs.declared.FormAt.{FormAt}
 use Rattle.ll_bank.specs.Nodes.{HasForm}
@@ -10,9 +11,6 @@ use Rattle.ll_engine.specs.Matches.{head_fits, HeadsHaveCells, all_found}
 use Rattle.ll_engine.proofs.matching.LeafLemmas.{flat_more}
 use Rattle.ll_engine.proofs.candidates.add_loaded.Goals as goal
 
-inside : (i n m : ℕ) → i < n → n ≤ m → i < m
-inside i n m h k = omega arith
-
 at_end : (i n : ℕ) → i ≤ n → n ≤ i → i ≡ n
 at_end i n h k = omega arith
 
@@ -20,8 +18,7 @@ pub loop-from_front-init : goal.loop-from_front-init
 loop-from_front-init c = record { none = c.new-waiting.ensures.items; so_far = sym (append-nil (all_found c.args.found.now)) }
 
 pub entry-entry-requires : goal.entry-entry-requires
-entry-entry-requires c = inside c.loop-from_front.from_front c.args.count (length c.args.context.now.present.entries) c.loop-from_front-test.true
-    c.requires.count
+entry-entry-requires c = lt_of_lt_of_le c.loop-from_front-test.true c.requires.count
 
 pub add_entry-requires-clause-inside : goal.add_entry-requires-clause-inside
 add_entry-requires-clause-inside c =

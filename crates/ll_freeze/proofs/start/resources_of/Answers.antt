@@ -1,15 +1,12 @@
 use Rattle.std.proofs.Common.{ℕ, ◌+◌, ◌-◌, ◌<◌, sym, ap, ◌∙◌, [], ◌∷◌, ◌++◌, List, map, arith}
 use Rattle.std.proofs.Math.ListN.{get_or}
 use Rattle.std.proofs.lemmas.List.{map_more, take_all}
+use Rattle.ll_lists.proofs.CallerLemmas.{fewer_left}
 use Rattle.ll_bank.specs.declared.FormAt.{FormAt}
 use Rattle.ll_laws.specs.declared.Clause.{Clause}
 use Rattle.ll_laws.specs.declared.Kind.{Kind}
 use Rattle.ll_laws.specs.declared.Kind.TheVariants.{Linear}
 use Rattle.ll_freeze.proofs.start.resources_of.Goals as goal
-
--- a turn of the loop leaves fewer clauses
-one-less : (n i : ℕ) → i < n → n - (i + 1) < n - i
-one-less n i l = omega arith
 
 pub loop-clause-preserved : goal.loop-clause-preserved
 loop-clause-preserved c =
@@ -28,4 +25,4 @@ returns c =
     ∙ ap (map (λ (e : Clause). (e.kind, e.form))) (take_all c.loop-clause.clause-index c.args.clauses.now c.loop-clause-test.false)
 
 pub loop-clause-smaller : goal.loop-clause-smaller
-loop-clause-smaller c = one-less _ _ c.loop-clause-test.true
+loop-clause-smaller c = fewer_left _ _ c.loop-clause-test.true

@@ -1,8 +1,8 @@
 use Rattle.std.proofs.lemmas.Result.{IfOk-from_err}
 use Rattle.std.proofs.Common.{◌++◌, refl, codes}
 use Rattle.ll_laws.specs.ProofText.{field, labels_text, set_text}
-use Rattle.ll_printer.proofs.CallerLemmas.{begins_before}
-use Rattle.ll_prooftext.proofs.writing.Writing.{none_begun, both_text, both_whole, both_stopped}
+use Rattle.ll_printer.proofs.CallerLemmas.{begins_before, begins_same}
+use Rattle.ll_prooftext.proofs.writing.Writing.{both_text, both_whole, both_stopped}
 use Rattle.ll_prooftext.proofs.fields.write_set_field.Goals as goal
 
 pub returns-in_err-extend_from_slice-clause-text : goal.returns-in_err-extend_from_slice-clause-text
@@ -16,7 +16,7 @@ returns-in_err-push-clause-text c = IfOk-from_err c.from_residual-in_err-push.re
 
 pub returns-in_err-extend_from_slice-clause-begun : goal.returns-in_err-extend_from_slice-clause-begun
 returns-in_err-extend_from_slice-clause-begun c =
-    none_begun (field (set_text c.args.labels.now)) c.args.out.now.items c.extend_from_slice.new.self.items c.in_err-extend_from_slice.ensures.items
+    begins_same (field (set_text c.args.labels.now)) c.args.out.now.items c.extend_from_slice.new.self.items c.in_err-extend_from_slice.ensures.items
 
 pub returns-in_err-write_labels-clause-begun : goal.returns-in_err-write_labels-clause-begun
 returns-in_err-write_labels-clause-begun c = let text = labels_text c.args.labels.now in
@@ -32,7 +32,7 @@ returns-in_err-push-clause-begun c = let text = labels_text c.args.labels.now in
     c.in_ok-extend_from_slice.ensures.items
     (both_stopped text (codes "}") _ c.extend_from_slice.new.self.items c.write_labels.new.out.items c.push.new.self.items refl
     c.in_ok-write_labels.ensures.text
-    (none_begun (codes "}") c.write_labels.new.out.items c.push.new.self.items c.in_err-push.ensures.items))
+    (begins_same (codes "}") c.write_labels.new.out.items c.push.new.self.items c.in_err-push.ensures.items))
 
 pub returns-clause-text : goal.returns-clause-text
 returns-clause-text c = let text = labels_text c.args.labels.now in

@@ -4,8 +4,8 @@ use Rattle.ll_bank.specs.Term.{Term}
 use Rattle.ll_bank.specs.Nodes.{term_tree}
 use Rattle.ll_laws.specs.Output.{bracket_if, has_arguments, term_text}
 use Rattle.ll_laws.specs.ProofText.{field, term_field}
-use Rattle.ll_printer.proofs.CallerLemmas.{begins_before}
-use Rattle.ll_prooftext.proofs.writing.Writing.{both_text, both_whole, both_stopped, none_begun}
+use Rattle.ll_printer.proofs.CallerLemmas.{begins_before, begins_same}
+use Rattle.ll_prooftext.proofs.writing.Writing.{both_text, both_whole, both_stopped}
 use Rattle.ll_prooftext.proofs.fields.write_term_field.Goals as goal
 
 -- the field of a term with arguments
@@ -19,7 +19,7 @@ bare names t e h = ap (Î» b. field (bracket_if b (term_text names t))) (sym e âˆ
 
 pub returns-in_err-extend_from_slice-clause-begun : goal.returns-in_err-extend_from_slice-clause-begun
 returns-in_err-extend_from_slice-clause-begun c =
-    none_begun (term_field c.args.names.now (term_tree c.args.bank.now c.args.at.0)) c.args.out.now.items c.extend_from_slice.new.self.items
+    begins_same (term_field c.args.names.now (term_tree c.args.bank.now c.args.at.0)) c.args.out.now.items c.extend_from_slice.new.self.items
     c.in_err-extend_from_slice.ensures.items
 
 pub returns-in_err-term-clause-begun : goal.returns-in_err-term-clause-begun
@@ -35,7 +35,7 @@ returns-in_err-push-clause-begun c =
     both_stopped (codes " (") (text ++ codes ")") _ c.args.out.now.items c.extend_from_slice.new.self.items c.push.new.self.items
     (in_brackets c.args.names.now t c.has_any_arguments.ensures c.if-has_any_arguments.true) c.in_ok-extend_from_slice.ensures.items
     (both_stopped text (codes ")") _ c.extend_from_slice.new.self.items c.term.new.out.items c.push.new.self.items refl c.in_ok-term.ensures.text
-    (none_begun (codes ")") c.term.new.out.items c.push.new.self.items c.in_err-push.ensures.items))
+    (begins_same (codes ")") c.term.new.out.items c.push.new.self.items c.in_err-push.ensures.items))
 
 pub returns-in_ok-push-clause-text : goal.returns-in_ok-push-clause-text
 returns-in_ok-push-clause-text c =
@@ -55,7 +55,7 @@ returns-in_ok-push-clause-begun c =
 
 pub returns-in_err-push-2-clause-begun : goal.returns-in_err-push-2-clause-begun
 returns-in_err-push-2-clause-begun c =
-    none_begun (term_field c.args.names.now (term_tree c.args.bank.now c.args.at.0)) c.args.out.now.items c.push-else-has_any_arguments.new.self.items
+    begins_same (term_field c.args.names.now (term_tree c.args.bank.now c.args.at.0)) c.args.out.now.items c.push-else-has_any_arguments.new.self.items
     c.in_err-push-2.ensures.items
 
 pub returns-in_err-term-2-clause-begun : goal.returns-in_err-term-2-clause-begun

@@ -10,8 +10,8 @@ use Rattle.ll_laws.specs.declared.Rule.TheVariants.{Clause}
 use Rattle.ll_laws.specs.ProofText.{field, set_text, term_field, part_field}
 use Rattle.ll_laws.specs.ShownLines.{line_of, part_line}
 use Rattle.ll_prooftext.specs.Rows.{fields_text}
-use Rattle.ll_printer.proofs.CallerLemmas.{begins_before}
-use Rattle.ll_prooftext.proofs.writing.Writing.{none_begun, both_text, both_stopped, both_whole}
+use Rattle.ll_printer.proofs.CallerLemmas.{begins_before, begins_same}
+use Rattle.ll_prooftext.proofs.writing.Writing.{both_text, both_stopped, both_whole}
 use Rattle.ll_prooftext.proofs.lines.write_fields.Goals as goal
 
 -- the texts of a clause's four fields
@@ -160,4 +160,4 @@ returns-in_default-clause-text c =
     ∙ append-nil c.args.out.now.items)
 
 pub returns-in_default-clause-begun : goal.returns-in_default-clause-begun
-returns-in_default-clause-begun c = none_begun _ c.args.out.now.items c.args.out.now.items refl
+returns-in_default-clause-begun c = begins_same _ c.args.out.now.items c.args.out.now.items refl

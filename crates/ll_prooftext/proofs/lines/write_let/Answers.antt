@@ -3,8 +3,8 @@ use Rattle.std.proofs.Common.{[], ◌∷◌, ◌++◌, refl, codes}
 use Rattle.ll_bank.specs.Nodes.{term_tree}
 use Rattle.ll_laws.specs.ProofText.{term_field}
 use Rattle.ll_prooftext.specs.Rows.{let_text}
-use Rattle.ll_printer.proofs.CallerLemmas.{begins_before}
-use Rattle.ll_prooftext.proofs.writing.Writing.{none_begun, both_text, both_whole, both_stopped}
+use Rattle.ll_printer.proofs.CallerLemmas.{begins_before, begins_same}
+use Rattle.ll_prooftext.proofs.writing.Writing.{both_text, both_whole, both_stopped}
 use Rattle.ll_prooftext.proofs.lines.write_let.Goals as goal
 
 pub returns-in_err-write_term_field-clause-begun : goal.returns-in_err-write_term_field-clause-begun
@@ -26,7 +26,7 @@ returns-in_err-push-clause-text c = IfOk-from_err c.from_residual-in_err-push.re
 
 pub returns-in_err-extend_from_slice-clause-begun : goal.returns-in_err-extend_from_slice-clause-begun
 returns-in_err-extend_from_slice-clause-begun c =
-    none_begun (let_text c.args.names.now (term_tree c.args.bank.now c.args.at.0)) c.args.out.now.items c.extend_from_slice.new.self.items
+    begins_same (let_text c.args.names.now (term_tree c.args.bank.now c.args.at.0)) c.args.out.now.items c.extend_from_slice.new.self.items
     c.in_err-extend_from_slice.ensures.items
 
 pub returns-in_err-push-clause-begun : goal.returns-in_err-push-clause-begun
@@ -36,7 +36,7 @@ returns-in_err-push-clause-begun c =
     refl c.in_ok-extend_from_slice.ensures.items
     (both_stopped field (10 ∷ []) (field ++ 10 ∷ []) c.extend_from_slice.new.self.items c.write_term_field.new.out.items c.push.new.self.items refl
     c.in_ok-write_term_field.ensures.text
-    (none_begun (10 ∷ []) c.write_term_field.new.out.items c.push.new.self.items c.in_err-push.ensures.items))
+    (begins_same (10 ∷ []) c.write_term_field.new.out.items c.push.new.self.items c.in_err-push.ensures.items))
 
 pub returns-clause-text : goal.returns-clause-text
 returns-clause-text c =

@@ -3,8 +3,8 @@ use Rattle.std.proofs.Common.{◌≡◌, ℕ, List, [], ◌∷◌, ◌++◌, ref
 use Rattle.ll_laws.specs.Output.{line}
 use Rattle.ll_laws.specs.ShownLines.{line_of}
 use Rattle.ll_prooftext.specs.Rows.{fields_text, row_text}
-use Rattle.ll_printer.proofs.CallerLemmas.{begins_before}
-use Rattle.ll_prooftext.proofs.writing.Writing.{both_text, both_whole, both_stopped, none_begun}
+use Rattle.ll_printer.proofs.CallerLemmas.{begins_before, begins_same}
+use Rattle.ll_prooftext.proofs.writing.Writing.{both_text, both_whole, both_stopped}
 use Rattle.ll_prooftext.proofs.lines.write_node.Goals as goal
 
 -- a line of a word, fields, and its end
@@ -13,7 +13,7 @@ row_is {bytes} fields e = ap (λ (w : List ℕ). line (w ++ fields)) (sym e) ∙
 
 pub returns-in_err-extend_from_slice-clause-begun : goal.returns-in_err-extend_from_slice-clause-begun
 returns-in_err-extend_from_slice-clause-begun c =
-    none_begun (row_text c.args.names.now c.args.bank.now c.args.node.now) c.args.out.now.items c.extend_from_slice.new.self.items
+    begins_same (row_text c.args.names.now c.args.bank.now c.args.node.now) c.args.out.now.items c.extend_from_slice.new.self.items
     c.in_err-extend_from_slice.ensures.items
 
 pub returns-in_err-write_fields-clause-begun : goal.returns-in_err-write_fields-clause-begun
@@ -29,7 +29,7 @@ returns-in_err-push-clause-begun c =
     both_stopped c.as_bytes.result.now (fields ++ 10 ∷ []) _ c.args.out.now.items c.extend_from_slice.new.self.items c.push.new.self.items
     (row_is fields (c.as_bytes.ensures.value ∙ c.word.ensures)) c.in_ok-extend_from_slice.ensures.items
     (both_stopped fields (10 ∷ []) _ c.extend_from_slice.new.self.items c.write_fields.new.out.items c.push.new.self.items refl
-    c.in_ok-write_fields.ensures.text (none_begun (10 ∷ []) c.write_fields.new.out.items c.push.new.self.items c.in_err-push.ensures.items))
+    c.in_ok-write_fields.ensures.text (begins_same (10 ∷ []) c.write_fields.new.out.items c.push.new.self.items c.in_err-push.ensures.items))
 
 pub returns-clause-text : goal.returns-clause-text
 returns-clause-text c =

@@ -1,4 +1,5 @@
-use Rattle.std.proofs.Common.{◌≡◌, ℕ, ◌<◌, ◌≤◌, List, Bor, ap, sym, refl, ◌∙◌, length, arith}
+use Rattle.std.proofs.Common.{◌≡◌, ℕ, ◌≤◌, List, Bor, ap, sym, refl, ◌∙◌, length}
+use Rattle.std.proofs.Math.Nat.{lt_of_lt_of_le}
 use Rattle.std.proofs.lemmas.Result.{IfOk-from_err}
 use Rattle.ll_bank.specs.declared.At.{At}
 use Rattle.ll_bank.specs.declared.FormAt.{FormAt}
@@ -7,14 +8,11 @@ use Rattle.ll_bank.specs.declared.FormNode.TheVariants.{Top as TopView, One as O
 use Rattle.ll_bank.specs.declared.FormNode.TheVariants.{Plus as PlusView, Bang as BangView, Lolli as LolliView, Imp as ImpView, Forall as ForallView}
 use Rattle.ll_bank.specs.declared.FormNode.TheVariants.{Exists as ExistsView, Use as UseView, Is as IsView, Less as LessView, Most as MostView}
 use Rattle.ll_bank.specs.Form.{Atom, Num, Is, Less, Most, sub_form}
-use Rattle.ll_bank.specs.Nodes.{term_trees, HasPartsBelow, UseNode, node_of}
-use Rattle.ll_bank.proofs.CallerLemmas.{Extends-refl, Extends-trans}
+use Rattle.ll_bank.specs.Nodes.{term_trees, HasPartsBelow}
+use Rattle.ll_bank.proofs.CallerLemmas.{Extends-refl, Extends-trans, no_load_node}
 use Rattle.ll_sequent.specs.Starting.{values}
 use Rattle.ll_sequent.proofs.Substitutions.{on_ok, shown_as, terms_extend, part}
 use Rattle.ll_sequent.proofs.substitution.form_image.Goals as goal
-
-below : (a b n : ℕ) → a < b → b ≤ n → a < n
-below a b n h k = omega arith
 
 -- a node that is none of those with terms has its parts where there are no terms, and below any number past its place
 plain : (view : FormNode) (terms at n : ℕ) → at ≤ n → HasPartsBelow terms at view → ((a : At) → view ≡ AtomView a → ⊥)
@@ -22,30 +20,25 @@ plain : (view : FormNode) (terms at n : ℕ) → at ≤ n → HasPartsBelow term
     → ((a b : At) → view ≡ LessView a b → ⊥) → ((a b : At) → view ≡ MostView a b → ⊥) → HasPartsBelow 0 n view
 plain TopView terms at n l h _ _ _ _ _ = h
 plain OneView terms at n l h _ _ _ _ _ = h
-plain (WithView f g) terms at n l h _ _ _ _ _ = (below f.0 at n h.0 l, below g.0 at n h.1 l)
-plain (TensorView f g) terms at n l h _ _ _ _ _ = (below f.0 at n h.0 l, below g.0 at n h.1 l)
-plain (PlusView f g) terms at n l h _ _ _ _ _ = (below f.0 at n h.0 l, below g.0 at n h.1 l)
-plain (BangView f) terms at n l h _ _ _ _ _ = below f.0 at n h l
-plain (LolliView f g) terms at n l h _ _ _ _ _ = (below f.0 at n h.0 l, below g.0 at n h.1 l)
-plain (ImpView f g) terms at n l h _ _ _ _ _ = (below f.0 at n h.0 l, below g.0 at n h.1 l)
-plain (ForallView f) terms at n l h _ _ _ _ _ = below f.0 at n h l
-plain (ExistsView f) terms at n l h _ _ _ _ _ = below f.0 at n h l
+plain (WithView f g) terms at n l h _ _ _ _ _ = (lt_of_lt_of_le h.0 l, lt_of_lt_of_le h.1 l)
+plain (TensorView f g) terms at n l h _ _ _ _ _ = (lt_of_lt_of_le h.0 l, lt_of_lt_of_le h.1 l)
+plain (PlusView f g) terms at n l h _ _ _ _ _ = (lt_of_lt_of_le h.0 l, lt_of_lt_of_le h.1 l)
+plain (BangView f) terms at n l h _ _ _ _ _ = lt_of_lt_of_le h l
+plain (LolliView f g) terms at n l h _ _ _ _ _ = (lt_of_lt_of_le h.0 l, lt_of_lt_of_le h.1 l)
+plain (ImpView f g) terms at n l h _ _ _ _ _ = (lt_of_lt_of_le h.0 l, lt_of_lt_of_le h.1 l)
+plain (ForallView f) terms at n l h _ _ _ _ _ = lt_of_lt_of_le h l
+plain (ExistsView f) terms at n l h _ _ _ _ _ = lt_of_lt_of_le h l
 plain (AtomView a) terms at n l h none _ _ _ _ = absurd (none a refl)
 plain (UseView m args f) terms at n l h _ none _ _ _ = absurd (none m args f refl)
 plain (IsView a b) terms at n l h _ _ none _ _ = absurd (none a b refl)
 plain (LessView a b) terms at n l h _ _ _ none _ = absurd (none a b refl)
 plain (MostView a b) terms at n l h _ _ _ _ none = absurd (none a b refl)
 
-no_load : (view : FormNode) → ((m : ℕ) (args : Bor (List At)) (f : FormAt) → view ≡ UseView m args f → ⊥) → (m : ℕ) (args : List ℕ) (f : ℕ)
-    → node_of view ≡ UseNode m args f → ⊥
-no_load (UseView k ats f) n m args g e = n k ats f refl
-no_load x n m args g e = cc
-
 pub over_images-image-requires : goal.over_images-image-requires
 over_images-image-requires c = record {
   plain = plain c.form_at.result (length c.args.bank.now.terms) c.args.form.0 (length c.args.forms.now) c.requires.below c.form_at.ensures.shown.parts
       c.in_default.not-Atom c.in_default.not-Use c.in_default.not-Is c.in_default.not-Less c.in_default.not-Most;
-  no_load = no_load c.form_at.result c.in_default.not-Use;
+  no_load = no_load_node c.form_at.result c.in_default.not-Use;
 }
 
 pub form-requires-in_default : goal.form-requires-in_default
@@ -151,7 +144,7 @@ pub term_image-requires-clause-terms : goal.term_image-requires-clause-terms
 term_image-requires-clause-terms c = c.requires.terms
 
 pub bounds-forms-f : goal.bounds-forms-f
-bounds-forms-f c = below c.in-Use.f.0 c.args.form.0 (length c.args.forms.now) c.in-Use.ensures.shown.parts.1 c.requires.below
+bounds-forms-f c = lt_of_lt_of_le c.in-Use.ensures.shown.parts.1 c.requires.below
 
 pub two_images-requires-clause-left : goal.two_images-requires-clause-left
 two_images-requires-clause-left c = c.in-Is.ensures.shown.parts.0

@@ -1,47 +1,19 @@
-use Rattle.std.proofs.Common.{◌≡◌, ℕ, ◌<◌, List, length, ap, sym, subst, ◌∙◌, arith, refl}
-use Rattle.ll_bank.specs.declared.FormAt.{FormAt}
+use Rattle.std.proofs.Common.{◌≡◌, ℕ, length, ap, sym, subst, ◌∙◌}
 use Rattle.ll_bank.specs.declared.FormNode.{FormNode}
-use Rattle.ll_bank.specs.declared.FormNode.TheVariants.{Top as TopView, One as OneView, Atom as AtomView, With as WithView, Tensor as TensorView}
+use Rattle.ll_bank.specs.declared.FormNode.TheVariants.{With as WithView, Tensor as TensorView}
 use Rattle.ll_bank.specs.declared.FormNode.TheVariants.{Plus as PlusView, Bang as BangView, Lolli as LolliView, Imp as ImpView, Forall as ForallView}
-use Rattle.ll_bank.specs.declared.FormNode.TheVariants.{Exists as ExistsView, Use as UseView, Is as IsView, Less as LessView, Most as MostView}
+use Rattle.ll_bank.specs.declared.FormNode.TheVariants.{Exists as ExistsView}
 use Rattle.ll_bank.specs.Form.{With, Tensor, Plus, Bang, Lolli, Imp, Forall, Exists, sub_form}
-use Rattle.ll_bank.specs.Nodes.{UseNode, places, node_of, form_of, HasPartsBelow}
+use Rattle.ll_bank.specs.Nodes.{form_of, HasPartsBelow}
+use Rattle.ll_bank.proofs.CallerLemmas.{no_other_node}
 use Rattle.ll_sequent.specs.Starting.{values}
 use Rattle.ll_sequent.proofs.substitution.over_images.Goals as goal
-
--- a node without terms has one of the signs that are looked at
-no_other : (view : FormNode) (n : ℕ) → HasPartsBelow 0 n view → ((m : ℕ) (args : List ℕ) (f : ℕ) → node_of view ≡ UseNode m args f → ⊥)
-    → (view ≡ TopView → ⊥) → (view ≡ OneView → ⊥)
-    → ((f g : FormAt) → view ≡ WithView f g → ⊥)
-    → ((f g : FormAt) → view ≡ TensorView f g → ⊥)
-    → ((f g : FormAt) → view ≡ PlusView f g → ⊥)
-    → ((f : FormAt) → view ≡ BangView f → ⊥)
-    → ((f g : FormAt) → view ≡ LolliView f g → ⊥)
-    → ((f g : FormAt) → view ≡ ImpView f g → ⊥)
-    → ((f : FormAt) → view ≡ ForallView f → ⊥)
-    → ((f : FormAt) → view ≡ ExistsView f → ⊥)
-    → ⊥
-no_other TopView at h _ n _ _ _ _ _ _ _ _ _ = n refl
-no_other OneView at h _ _ n _ _ _ _ _ _ _ _ = n refl
-no_other (WithView f g) at h _ _ _ n _ _ _ _ _ _ _ = n f g refl
-no_other (TensorView f g) at h _ _ _ _ n _ _ _ _ _ _ = n f g refl
-no_other (PlusView f g) at h _ _ _ _ _ n _ _ _ _ _ = n f g refl
-no_other (BangView f) at h _ _ _ _ _ _ n _ _ _ _ = n f refl
-no_other (LolliView f g) at h _ _ _ _ _ _ _ n _ _ _ = n f g refl
-no_other (ImpView f g) at h _ _ _ _ _ _ _ _ n _ _ = n f g refl
-no_other (ForallView f) at h _ _ _ _ _ _ _ _ _ n _ = n f refl
-no_other (ExistsView f) at h _ _ _ _ _ _ _ _ _ _ n = n f refl
-no_other (AtomView a) at h _ _ _ _ _ _ _ _ _ _ _ = absurd (omega arith)
-no_other (UseView m args f) at h n _ _ _ _ _ _ _ _ _ _ = n m (places args.now) f.0 refl
-no_other (IsView t u) at h _ _ _ _ _ _ _ _ _ _ _ = absurd (let l = h.0 in omega arith)
-no_other (LessView t u) at h _ _ _ _ _ _ _ _ _ _ _ = absurd (let l = h.0 in omega arith)
-no_other (MostView t u) at h _ _ _ _ _ _ _ _ _ _ _ = absurd (let l = h.0 in omega arith)
 
 below : (view v : FormNode) (n : ℕ) → HasPartsBelow 0 n view → view ≡ v → HasPartsBelow 0 n v
 below view v n h e = subst (HasPartsBelow 0 n) e h
 
 pub unreachable-requires : goal.unreachable-requires
-unreachable-requires c = no_other c.args.node (length c.args.forms.now) c.requires.plain c.requires.no_load c.in_default.not-Top c.in_default.not-One
+unreachable-requires c = no_other_node c.args.node (length c.args.forms.now) c.requires.plain c.requires.no_load c.in_default.not-Top c.in_default.not-One
     c.in_default.not-With c.in_default.not-Tensor c.in_default.not-Plus c.in_default.not-Bang c.in_default.not-Lolli c.in_default.not-Imp
     c.in_default.not-Forall c.in_default.not-Exists
 

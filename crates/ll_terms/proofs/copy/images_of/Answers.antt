@@ -2,7 +2,8 @@ use Rattle.std.proofs.lemmas.Result.{IfOk-from_err}
 use Rattle.std.proofs.Common.{arith}
 use Rattle.std.specs.Ordering.{nat_cmp}
 use Rattle.std.specs.BTreeMap.{get}
-use Rattle.ll_terms.proofs.ImageLemmas.{found_more, one-less}
+use Rattle.ll_lists.proofs.CallerLemmas.{fewer_left}
+use Rattle.ll_terms.proofs.ImageLemmas.{found_more}
 use Rattle.std.proofs.Common.{refl, ap, map, ◌∙◌}
 use Rattle.std.proofs.lemmas.List.{take_all}
 use Rattle.ll_bank.specs.declared.At.{At}
@@ -24,7 +25,7 @@ pub image_of-requires : goal.image_of-requires
 image_of-requires c = c.requires c.loop-place.place-index (record { 0 = 0 }) c.loop-place-test.true
 
 pub loop-place-smaller : goal.loop-place-smaller
-loop-place-smaller c = one-less _ _ c.loop-place-test.true
+loop-place-smaller c = fewer_left _ _ c.loop-place-test.true
 
 pub returns : goal.returns
 returns c =

@@ -13,10 +13,10 @@ use Rattle.ll_bank.specs.declared.FormNode.TheVariants.{Plus as PlusView, Bang a
 use Rattle.ll_bank.specs.declared.FormNode.TheVariants.{Exists as ExistsView, Use as UseView, Is as IsView, Less as LessView, Most as MostView}
 use Rattle.ll_bank.specs.Term.{close, applies_heads}
 use Rattle.ll_bank.specs.Form.{Atom, Use, Num, Is, Less, Most, close_form, form_applies_heads}
-use Rattle.ll_bank.specs.Nodes.{term_tree, term_trees, form_tree, ShowsForm, AllInTerms, HasPartsBelow, UseNode, node_of}
+use Rattle.ll_bank.specs.Nodes.{term_tree, term_trees, form_tree, ShowsForm, AllInTerms, HasPartsBelow}
 use Rattle.ll_terms.specs.Opened.{by_spot, opened, IsTermImage}
 use Rattle.ll_bank.specs.Opened.{AreImages}
-use Rattle.ll_bank.proofs.CallerLemmas.{Extends-refl, Extends-trans, HasForm-extends, form_tree-extends, load_heads}
+use Rattle.ll_bank.proofs.CallerLemmas.{Extends-refl, Extends-trans, HasForm-extends, form_tree-extends, load_heads, no_load_node}
 use Rattle.ll_terms.proofs.OpenLemmas.{term_images_now, form_part_known}
 use Rattle.ll_terms.proofs.open.opened_form.Goals as goal
 
@@ -39,11 +39,6 @@ plain (UseView m args f) terms at h _ n _ _ _ = absurd (n m args f refl)
 plain (IsView a b) terms at h _ _ n _ _ = absurd (n a b refl)
 plain (LessView a b) terms at h _ _ _ n _ = absurd (n a b refl)
 plain (MostView a b) terms at h _ _ _ _ n = absurd (n a b refl)
-
-no_load : (view : FormNode) → ((m : ℕ) (args : Bor (List At)) (f : FormAt) → view ≡ UseView m args f → ⊥) → (m : ℕ) (args : List ℕ) (f : ℕ)
-    → node_of view ≡ UseNode m args f → ⊥
-no_load (UseView k ats f) n m args g e = n k ats f refl
-no_load x n m args g e = cc
 
 pub open_term-requires-clause-heads : goal.open_term-requires-clause-heads
 open_term-requires-clause-heads c =
@@ -245,7 +240,7 @@ pub over_images-image-requires : goal.over_images-image-requires
 over_images-image-requires c = record {
   plain = plain c.form_at.result (length c.args.bank.now.terms) c.args.task.place c.form_at.ensures.shown.parts c.in_default.not-Atom c.in_default.not-Use
       c.in_default.not-Is c.in_default.not-Less c.in_default.not-Most;
-  no_load = no_load c.form_at.result c.in_default.not-Use;
+  no_load = no_load_node c.form_at.result c.in_default.not-Use;
   level = c.requires.level;
   parts = form_part_known c.args.bank.now c.args.task.place c.args.task.level c.form_at.result (get by_spot c.args.forms.now) c.form_at.ensures.node
       c.requires.parts;

@@ -6,7 +6,7 @@ use Rattle.std.proofs.lemmas.List.{map-append, map_more, take_all}
 use Rattle.ll_bank.specs.declared.At.{At}
 use Rattle.ll_terms.specs.Opened.{by_spot}
 use Rattle.std.proofs.Common.{refl}
-use Rattle.ll_terms.proofs.ImageLemmas.{one-less}
+use Rattle.ll_lists.proofs.CallerLemmas.{fewer_left}
 use Rattle.ll_terms.proofs.open.term_images.Goals as goal
 
 pub loop-term-preserved : goal.loop-term-preserved
@@ -27,7 +27,7 @@ pub term_image-requires : goal.term_image-requires
 term_image-requires c = c.requires c.loop-term.term-index (record { 0 = 0 }) c.loop-term-test.true
 
 pub loop-term-smaller : goal.loop-term-smaller
-loop-term-smaller c = one-less _ _ c.loop-term-test.true
+loop-term-smaller c = fewer_left _ _ c.loop-term-test.true
 
 pub returns : goal.returns
 returns c =

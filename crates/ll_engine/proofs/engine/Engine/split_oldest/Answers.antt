@@ -1,7 +1,7 @@
 use Rattle.std.proofs.lemmas.Result.{IfOk-from_err}
-use Rattle.std.proofs.Common.{arith, subst, false, ◌+◌, refl, sym, ap, ◌∙◌, Result, Ok, Err}
-use Rattle.std.specs.Prelude.{OnErr}
+use Rattle.std.proofs.Common.{arith, subst, false, ◌+◌, refl, sym, ap, ◌∙◌}
 use Rattle.std.proofs.lemmas.Bool.{false≢true}
+use Rattle.ll_lists.proofs.CallerLemmas.{OnErr-always}
 use Rattle.ll_engine.specs.Seen.{Owing}
 use Rattle.ll_engine.specs.Owed.{owing}
 use Rattle.ll_engine.specs.Pointed.{spine_of}
@@ -40,10 +40,6 @@ returns-in_err-batch-clause-split c = IfOk-from_err c.from_residual.result _ c.f
 
 pub returns-clause-refused : goal.returns-clause-refused
 returns-clause-refused c = _
-
-on_each : {A B : Type 0} (r : Result A B) (P : Type 0) → P → OnErr r P
-on_each (Ok a) P p = _
-on_each (Err b) P p = p
 
 pub same-self : goal.same-self
 same-self c = refl
@@ -91,7 +87,7 @@ pub returns-in_err-batch-clause-spent : goal.returns-in_err-batch-clause-spent
 returns-in_err-batch-clause-spent c = λ e. absurd (false≢true (sym c.if-self.false ∙ (ap (λ v. v.spent) c.self.view_is ∙ e)))
 
 pub returns-in_err-batch-clause-refused : goal.returns-in_err-batch-clause-refused
-returns-in_err-batch-clause-refused c = on_each c.from_residual.result _ refl
+returns-in_err-batch-clause-refused c = OnErr-always c.from_residual.result refl
 
 pub returns-clause-spent : goal.returns-clause-spent
 returns-clause-spent c = λ e. sym c.if-self.false ∙ (ap (λ v. v.spent) c.self.view_is ∙ e)

@@ -1,7 +1,7 @@
-use Rattle.std.proofs.Common.{false, sym, refl, ap, subst, ◌∙◌, arith, Result, Ok, Err}
+use Rattle.std.proofs.Common.{false, sym, refl, ap, subst, ◌∙◌, arith}
 use Rattle.std.proofs.lemmas.Bool.{false≢true}
 use Rattle.std.proofs.lemmas.Result.{IfOk-from_err}
-use Rattle.std.specs.Prelude.{OnErr}
+use Rattle.ll_lists.proofs.CallerLemmas.{OnErr-always}
 use Rattle.ll_engine.specs.declared.engine.Step2.TheVariants.{Moved, Event, Done}
 use Rattle.ll_engine.specs.Moves.{running_of}
 use Rattle.ll_engine.specs.Owed.{owing}
@@ -12,10 +12,6 @@ use Rattle.ll_engine.specs.declared.engine.Move.{Move}
 use Rattle.ll_engine.proofs.turns.Stepping.{seen, quiet, gives, done, healthy_turn}
 use Rattle.ll_engine.proofs.engine.Engine.step.Goals as goal
 use Rattle.ll_engine.proofs.engine.Engine.step.Goals.{else-not-self-via-then-not-self+else-is_over, else-not-self-via-else-not-self}
-
-on_each : {A B : Type 0} (r : Result A B) (P : Type 0) → P → OnErr r P
-on_each (Ok a) P p = _
-on_each (Err b) P p = p
 
 pub same-self : goal.same-self
 same-self c = refl
@@ -45,7 +41,7 @@ pub returns-in_err-went-clause-spent : goal.returns-in_err-went-clause-spent
 returns-in_err-went-clause-spent c = λ e. absurd (false≢true (sym c.if-self.false ∙ (ap (λ v. v.spent) c.self.view_is ∙ e)))
 
 pub returns-in_err-went-clause-refused : goal.returns-in_err-went-clause-refused
-returns-in_err-went-clause-refused c = on_each c.from_residual.result _ refl
+returns-in_err-went-clause-refused c = OnErr-always c.from_residual.result refl
 
 pub returns-in_err-went-clause-step : goal.returns-in_err-went-clause-step
 returns-in_err-went-clause-step c = IfOk-from_err c.from_residual.result _ c.from_residual.ensures.0

@@ -6,7 +6,8 @@ use Rattle.ll_resources.specs.Raw.{raw}
 use Rattle.ll_resources.specs.declared.state.Change.TheVariants.{Remarked}
 use Rattle.ll_resources.specs.Changes.{taken_back}
 use Rattle.ll_resources.proofs.ChangeLemmas.{back-remarked}
-use Rattle.ll_resources.proofs.RoomLemmas.{le-refl, le-same}
+use Rattle.std.proofs.Math.Nat.{le_refl}
+use Rattle.ll_resources.proofs.RoomLemmas.{le-same}
 use Rattle.ll_resources.proofs.state.State.bang.Goals as goal
 
 pub returns-in_err-from-clause-banged : goal.returns-in_err-from-clause-banged
@@ -33,7 +34,7 @@ pub returns-clause-refused : goal.returns-clause-refused
 returns-clause-refused g c = _
 
 pub returns-in_err-from-clause-room : goal.returns-in_err-from-clause-room
-returns-in_err-from-clause-room g c = record { entries = le-refl _; live = le-refl _ }
+returns-in_err-from-clause-room g c = record { entries = le_refl _; live = le_refl _ }
 
 pub returns-clause-leads : goal.returns-clause-leads
 returns-clause-leads g c =
@@ -44,8 +45,8 @@ returns-clause-leads g c =
       back = (λ i. taken_back (Remarked (c.in_ok-from.ensures.from i) old.flag)
           (record (raw old) { live = c.clear.new.self.items; marks = marks i; kept = c.in_ok-from.ensures.kept i }))
           ∙ back-remarked c.clear.new.self.items old.flag (raw old);
-      room = record { entries = le-refl _; live = le-same c.clear.ensures.capacity };
+      room = record { entries = le_refl _; live = le-same c.clear.ensures.capacity };
     }
 
 pub returns-clause-room : goal.returns-clause-room
-returns-clause-room g c = record { entries = le-refl _; live = le-same c.clear.ensures.capacity }
+returns-clause-room g c = record { entries = le_refl _; live = le-same c.clear.ensures.capacity }

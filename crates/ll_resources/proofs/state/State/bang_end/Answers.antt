@@ -8,7 +8,8 @@ use Rattle.ll_resources.specs.declared.state.State.{State}
 use Rattle.ll_resources.specs.declared.state.Change.TheVariants.{Remarked}
 use Rattle.ll_resources.specs.Raw.{raw, block_later, kept_under}
 use Rattle.ll_resources.specs.Changes.{taken_back}
-use Rattle.ll_resources.proofs.RoomLemmas.{le-refl, le-trans, le-reserved}
+use Rattle.std.proofs.Math.Nat.{le_refl, le_trans}
+use Rattle.ll_resources.proofs.RoomLemmas.{le-reserved}
 use Rattle.ll_resources.proofs.state.State.bang_end.Goals as goal
 
 pub put_marks-requires : goal.put_marks-requires
@@ -16,7 +17,7 @@ put_marks-requires g c =
     let ms = c.note.new.self.marks.items in
     let e : length c.live.result.now ≡ length (block_of ms (get_or c.args.self.now.saves.kept.items c.args.number none_kept)) =
     ap length (c.live.ensures none_kept ∙ ap (λ ks. block_of ms (get_or ks c.args.number none_kept)) c.in_ok-from.ensures.kept) in
-    le-reserved _ e (c.size.ensures ms none_kept) c.in_ok-reserve.ensures.ok (le-refl _)
+    le-reserved _ e (c.size.ensures ms none_kept) c.in_ok-reserve.ensures.ok (le_refl _)
 
 pub returns-in_err-reserve-clause-ended : goal.returns-in_err-reserve-clause-ended
 returns-in_err-reserve-clause-ended g c = IfOk-from_err c.from_residual.result _ c.from_residual.ensures.0
@@ -34,7 +35,7 @@ pub returns-clause-refused : goal.returns-clause-refused
 returns-clause-refused g c = _
 
 pub returns-in_err-reserve-clause-room : goal.returns-in_err-reserve-clause-room
-returns-in_err-reserve-clause-room g c = record { entries = le-refl _; live = c.reserve.ensures.capacity }
+returns-in_err-reserve-clause-room g c = record { entries = le_refl _; live = c.reserve.ensures.capacity }
 
 pub returns-in_err-reserve-clause-refused : goal.returns-in_err-reserve-clause-refused
 returns-in_err-reserve-clause-refused g c =
@@ -43,7 +44,7 @@ returns-in_err-reserve-clause-refused g c =
     OnErr-always c.from_residual.result same
 
 pub returns-in_err-from-clause-room : goal.returns-in_err-from-clause-room
-returns-in_err-from-clause-room g c = record { entries = le-refl _; live = c.reserve.ensures.capacity }
+returns-in_err-from-clause-room g c = record { entries = le_refl _; live = c.reserve.ensures.capacity }
 
 pub returns-in_err-from-clause-refused : goal.returns-in_err-from-clause-refused
 returns-in_err-from-clause-refused g c =
@@ -77,8 +78,8 @@ returns-clause-leads g c =
       back = (λ i. taken_back (Remarked (c.in_ok-from.ensures.from i) old.flag)
           (record (raw old) { live = c.put_marks.new.live.items; flag = c.flag-self.result; marks = marks i; kept = c.in_ok-from.ensures.kept i }))
           ∙ back-remarked c.put_marks.new.live.items c.flag-self.result (raw old);
-      room = record { entries = le-refl _; live = le-trans c.reserve.ensures.capacity c.put_marks.ensures.room };
+      room = record { entries = le_refl _; live = le_trans c.reserve.ensures.capacity c.put_marks.ensures.room };
     }
 
 pub returns-clause-room : goal.returns-clause-room
-returns-clause-room g c = record { entries = le-refl _; live = le-trans c.reserve.ensures.capacity c.put_marks.ensures.room }
+returns-clause-room g c = record { entries = le_refl _; live = le_trans c.reserve.ensures.capacity c.put_marks.ensures.room }

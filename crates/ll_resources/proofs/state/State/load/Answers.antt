@@ -5,7 +5,8 @@ use Rattle.ll_resources.specs.declared.state.Stored.{Stored}
 use Rattle.ll_resources.specs.declared.state.State.{State}
 use Rattle.ll_resources.specs.Raw.{raw, front, stored}
 use Rattle.ll_resources.proofs.SeenLemmas.{front-push}
-use Rattle.ll_resources.proofs.RoomLemmas.{le-refl, le-trans, le-same, lt-one_more, fits-32, fits-more}
+use Rattle.std.proofs.Math.Nat.{le_refl, le_trans}
+use Rattle.ll_resources.proofs.RoomLemmas.{le-same, lt-one_more, fits-32, fits-more}
 use Rattle.ll_resources.proofs.state.State.load.Goals as goal
 
 pub returns-in_err-reserve-clause-loaded : goal.returns-in_err-reserve-clause-loaded
@@ -27,7 +28,7 @@ returns-in_err-reserve-clause-refused g c =
     OnErr-always c.from_residual.result same
 
 pub returns-in_err-reserve-clause-room : goal.returns-in_err-reserve-clause-room
-returns-in_err-reserve-clause-room g c = record { entries = c.reserve.ensures.capacity; live = le-refl _ }
+returns-in_err-reserve-clause-room g c = record { entries = c.reserve.ensures.capacity; live = le_refl _ }
 
 pub returns-in_err-reserve-2-clause-refused : goal.returns-in_err-reserve-2-clause-refused
 returns-in_err-reserve-2-clause-refused g c =
@@ -62,15 +63,15 @@ returns-clause-leads g c =
     record {
       back = λ i. record (raw old) { entries = entries i; live = live i };
       room = record {
-        entries = le-trans c.reserve.ensures.capacity (le-same c.push_reserved.ensures.capacity);
-        live = le-trans c.reserve-2.ensures.capacity (le-same c.push_reserved-2.ensures.capacity);
+        entries = le_trans c.reserve.ensures.capacity (le-same c.push_reserved.ensures.capacity);
+        live = le_trans c.reserve-2.ensures.capacity (le-same c.push_reserved-2.ensures.capacity);
       };
     }
 
 pub returns-clause-room : goal.returns-clause-room
 returns-clause-room g c = record {
-  entries = le-trans c.reserve.ensures.capacity (le-same c.push_reserved.ensures.capacity);
-  live = le-trans c.reserve-2.ensures.capacity (le-same c.push_reserved-2.ensures.capacity);
+  entries = le_trans c.reserve.ensures.capacity (le-same c.push_reserved.ensures.capacity);
+  live = le_trans c.reserve-2.ensures.capacity (le-same c.push_reserved-2.ensures.capacity);
 }
 
 pub returns-clause-refused : goal.returns-clause-refused

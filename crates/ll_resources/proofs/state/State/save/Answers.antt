@@ -6,7 +6,7 @@ use Rattle.ll_resources.specs.declared.state.Change.TheVariants.{Kept}
 use Rattle.ll_resources.specs.Raw.{raw, kept_now}
 use Rattle.ll_resources.specs.Changes.{taken_back}
 use Rattle.ll_resources.proofs.ChangeLemmas.{back-kept}
-use Rattle.ll_resources.proofs.RoomLemmas.{le-refl}
+use Rattle.std.proofs.Math.Nat.{le_refl}
 use Rattle.ll_resources.proofs.state.State.save.Goals as goal
 
 pub returns-in_err-keep-clause-saved : goal.returns-in_err-keep-clause-saved
@@ -22,7 +22,7 @@ pub returns-clause-refused : goal.returns-clause-refused
 returns-clause-refused g c = _
 
 pub returns-in_err-keep-clause-room : goal.returns-in_err-keep-clause-room
-returns-in_err-keep-clause-room g c = record { entries = le-refl _; live = le-refl _ }
+returns-in_err-keep-clause-room g c = record { entries = le_refl _; live = le_refl _ }
 
 pub returns-in_err-keep-clause-refused : goal.returns-in_err-keep-clause-refused
 returns-in_err-keep-clause-refused g c =
@@ -66,8 +66,8 @@ returns-clause-leads g c =
     } ∷ []) in
     record {
       back = (λ i. taken_back Kept (record (raw old) { flag = false; marks = marks i; kept = kept i })) ∙ back-kept old.live.items (raw old);
-      room = record { entries = le-refl _; live = le-refl _ };
+      room = record { entries = le_refl _; live = le_refl _ };
     }
 
 pub returns-clause-room : goal.returns-clause-room
-returns-clause-room g c = record { entries = le-refl _; live = le-refl _ }
+returns-clause-room g c = record { entries = le_refl _; live = le_refl _ }

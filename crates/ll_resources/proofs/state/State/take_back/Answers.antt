@@ -3,7 +3,7 @@ use Rattle.ll_resources.specs.Raw.{raw}
 use Rattle.ll_resources.specs.Changes.{before}
 use Rattle.ll_resources.proofs.ChangeLemmas.{back-next, sound-next, less-trans}
 use Rattle.std.proofs.lemmas.List.{drop_all}
-use Rattle.ll_resources.proofs.RoomLemmas.{le-refl}
+use Rattle.std.proofs.Math.Nat.{le_refl}
 use Rattle.ll_resources.proofs.state.State.take_back.Goals as goal
 
 pub take_one_back-requires : goal.take_one_back-requires
@@ -37,7 +37,7 @@ returns-clause-room g c = c.loop-at.invariant.room
 pub loop-at-init : goal.loop-at-init
 loop-at-init g c = record {
   from = c.requires.from;
-  within = le-refl _;
-  state = ap (λ cs. before cs (raw c.args.self.now)) (sym (drop_all _ c.args.changes.now (le-refl _)));
-  room = record { entries = le-refl _; live = le-refl _ };
+  within = le_refl _;
+  state = ap (λ cs. before cs (raw c.args.self.now)) (sym (drop_all _ c.args.changes.now (le_refl _)));
+  room = record { entries = le_refl _; live = le_refl _ };
 }

@@ -3,7 +3,8 @@ use Rattle.std.specs.Vec.{vec_capacity}
 use Rattle.ll_resources.specs.declared.state.Change.{Change}
 use Rattle.ll_resources.specs.Raw.{raw, front, IsSound}
 use Rattle.ll_resources.specs.Changes.{with_last, taken_back}
-use Rattle.ll_resources.proofs.RoomLemmas.{le-refl, le-same, lt-longer}
+use Rattle.std.proofs.Math.Nat.{le_refl}
+use Rattle.ll_resources.proofs.RoomLemmas.{le-same, lt-longer}
 use Rattle.ll_resources.proofs.state.State.take_one_back.Goals as goal
 
 pub put_marks-requires : goal.put_marks-requires
@@ -51,16 +52,16 @@ pub returns-in-Loaded-clause-room : goal.returns-in-Loaded-clause-room
 returns-in-Loaded-clause-room g c = record { entries = le-same c.pop.ensures.capacity; live = le-same c.pop-in-Loaded.ensures.capacity }
 
 pub returns-in-Picked-clause-room : goal.returns-in-Picked-clause-room
-returns-in-Picked-clause-room g c = record { entries = le-refl _; live = le-same c.set_mark.ensures.room }
+returns-in-Picked-clause-room g c = record { entries = le_refl _; live = le-same c.set_mark.ensures.room }
 
 pub returns-in-Erased-clause-room : goal.returns-in-Erased-clause-room
-returns-in-Erased-clause-room g c = record { entries = le-refl _; live = le-refl _ }
+returns-in-Erased-clause-room g c = record { entries = le_refl _; live = le_refl _ }
 
 pub returns-in-Kept-clause-room : goal.returns-in-Kept-clause-room
 returns-in-Kept-clause-room g c = c.forget_last.ensures.room
 
 pub returns-in-Remarked-clause-room : goal.returns-in-Remarked-clause-room
-returns-in-Remarked-clause-room g c = record { entries = le-refl _; live = c.put_marks.ensures.room }
+returns-in-Remarked-clause-room g c = record { entries = le_refl _; live = c.put_marks.ensures.room }
 
 pub returns-in-Picked-clause-state : goal.returns-in-Picked-clause-state
 returns-in-Picked-clause-state g c =

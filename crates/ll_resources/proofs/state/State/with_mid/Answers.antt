@@ -7,7 +7,8 @@ use Rattle.ll_resources.proofs.ChangeLemmas.{none_kept}
 use Rattle.ll_lists.proofs.CallerLemmas.{OnErr-always}
 use Rattle.ll_resources.specs.declared.state.State.{State}
 use Rattle.ll_resources.specs.declared.saves.Kept.{Kept}
-use Rattle.ll_resources.proofs.RoomLemmas.{le-refl, le-trans, le-reserved}
+use Rattle.std.proofs.Math.Nat.{le_refl, le_trans}
+use Rattle.ll_resources.proofs.RoomLemmas.{le-reserved}
 use Rattle.ll_resources.proofs.state.State.with_mid.Goals as goal
 
 pub put_marks-requires : goal.put_marks-requires
@@ -42,7 +43,7 @@ pub returns-clause-refused : goal.returns-clause-refused
 returns-clause-refused g c = _
 
 pub returns-in_err-reserve-clause-room : goal.returns-in_err-reserve-clause-room
-returns-in_err-reserve-clause-room g c = record { entries = le-refl _; live = c.reserve.ensures.capacity }
+returns-in_err-reserve-clause-room g c = record { entries = le_refl _; live = c.reserve.ensures.capacity }
 
 pub returns-in_err-reserve-clause-refused : goal.returns-in_err-reserve-clause-refused
 returns-in_err-reserve-clause-refused g c =
@@ -53,7 +54,7 @@ returns-in_err-reserve-clause-refused g c =
 pub returns-in_err-change-clause-room : goal.returns-in_err-change-clause-room
 returns-in_err-change-clause-room g c = record {
   entries = c.in_err-change.ensures.room.entries;
-  live = le-trans c.reserve.ensures.capacity c.in_err-change.ensures.room.live;
+  live = le_trans c.reserve.ensures.capacity c.in_err-change.ensures.room.live;
 }
 
 pub returns-clause-change : goal.returns-clause-change
@@ -76,5 +77,5 @@ returns-clause-middle g c =
 pub returns-clause-room : goal.returns-clause-room
 returns-clause-room g c = record {
   entries = c.in_ok-change.ensures.room.entries;
-  live = le-trans c.reserve.ensures.capacity (le-trans c.in_ok-change.ensures.room.live c.put_marks.ensures.room);
+  live = le_trans c.reserve.ensures.capacity (le_trans c.in_ok-change.ensures.room.live c.put_marks.ensures.room);
 }

@@ -392,6 +392,10 @@ def interrupted(*_):
 
 def build(room):
     """Builds the program in a room, and says whether it could."""
+    made_in = ROOT / "crates" / PROGRAM / "out"
+    if made_in.parent.is_dir():
+        # Before the build counts as started: the crate's own folder changes by it, and is not to be newer than the program.
+        made_in.mkdir(exist_ok=True)
     started, kit = time.time(), Kit()
     crates = copy_crates(room / "texts")
     made = take_from_gate(kit, crates, room / "gate")

@@ -21,6 +21,8 @@ from pathlib import Path
 
 ROOT = Path(__file__).resolve().parent
 PROGRAM = "lolli"
+# Where `./lolli` looks for the program.
+OUT = ROOT / "crates" / PROGRAM / "out"
 TARGET = "x86_64-unknown-linux-gnu"
 # Those of the kit, which each program is linked with.
 C_LIBRARIES = ("libos_c.a", "liblibc_c.a")
@@ -187,7 +189,7 @@ class Store:
             self.at.mkdir(mode=0o700, parents=True, exist_ok=True)
             tempfile.TemporaryFile(dir=self.at).close()
         except (OSError, RuntimeError):
-            self.at = ROOT / "crates" / PROGRAM / "out" / "kept"
+            self.at = OUT / "kept"
             self.at.mkdir(parents=True, exist_ok=True)
 
     def place(self, crate, libraries):
@@ -281,10 +283,9 @@ class Plan:
 
 def install(made, started):
     """Puts the program where `./lolli` looks for it, as old as the texts that it was made of."""
-    program = ROOT / "crates" / PROGRAM / "out" / PROGRAM
-    program.parent.mkdir(exist_ok=True)
+    OUT.mkdir(exist_ok=True)
     os.utime(made, (started, started))
-    shutil.move(str(made), str(program))
+    shutil.move(str(made), str(OUT / PROGRAM))
 
 
 class Build:
@@ -392,10 +393,9 @@ def interrupted(*_):
 
 def build(room):
     """Builds the program in a room, and says whether it could."""
-    made_in = ROOT / "crates" / PROGRAM / "out"
-    if made_in.parent.is_dir():
+    if OUT.parent.is_dir():
         # Before the build counts as started: the crate's own folder changes by it, and is not to be newer than the program.
-        made_in.mkdir(exist_ok=True)
+        OUT.mkdir(exist_ok=True)
     started, kit = time.time(), Kit()
     crates = copy_crates(room / "texts")
     made = take_from_gate(kit, crates, room / "gate")

@@ -2,3 +2,5 @@
 
 -- where no node is of a whole-number goal, none is the first one
 pub use Rattle.ll_check.proofs.CountingLemmas.{none-counts}
+-- what a check comes to with status 0 is that the query follows
+pub use Rattle.ll_check.proofs.ProvedLemmas.{comes-proved}

@@ -42,7 +42,7 @@ use Rattle.ll_check.proofs.AddedNames.{same-operators}
 
 -- ---- texts that are read
 
-module _ (told : Option Texts) (absence read_failed : Type 0) (check : CheckWords) where
+module _ (told : Option Texts) (absence read_failed : List ℕ → Type 0) (check : CheckWords) where
   -- the text whose turn it is was not read
   pub text-refused : (role : Role) (e : Refusal) → Reaches told (check_texts check) (name_in_check check role)
       → IsNotRead told absence read_failed (name_in_check check role) role e → CheckFinds told absence read_failed check (Err e)

@@ -3,4 +3,5 @@ pub mod MoreNames
 pub mod CountingLemmas
 pub mod CheckLemmas
 pub mod OutcomeLemmas
+pub mod ProvedLemmas
 pub mod CallerLemmas

@@ -12,7 +12,7 @@ use Rattle.ll_judge.specs.Endings.{Refuses}
 use Rattle.ll_check.specs.Endings.{status_of_finding, finding_text, CheckEnds}
 use Rattle.ll_judge.proofs.CallerLemmas.{refused-ends}
 
-module _ (told : Option Texts) (absence read_failed : Type 0) (check : CheckWords) where
+module _ (told : Option Texts) (absence read_failed : List ℕ → Type 0) (check : CheckWords) where
   module _ (write_failed : Type 0) (before after : Option (List ℕ)) where
     pub finding-ends : (finding : Finding) (status : ℕ) → status ≡ status_of_finding finding
         → CheckEnds told absence read_failed write_failed check before after (Ok finding)

@@ -56,18 +56,19 @@ Finds program query proof bound (Err Unwritable) = ⊥
 Finds program query proof bound (Err OutOfMemory) = Unit {0}
 
 -- what a check comes to where it found this
-abbrev pub ComesToFinding : Option Texts → Type 0 → Type 0 → CheckWords → Finding → Type 0
+abbrev pub ComesToFinding : Option Texts → (List ℕ → Type 0) → (List ℕ → Type 0) → CheckWords → Finding → Type 0
 ComesToFinding told absence read_failed check finding = CheckComesTo told absence read_failed check (status_of_finding finding) (finding_text finding)
 
 -- what was found of the texts that a check names, or a cause why nothing was
-abbrev pub CheckFinds : Option Texts → Type 0 → Type 0 → CheckWords → Result Finding Refusal → Type 0
+abbrev pub CheckFinds : Option Texts → (List ℕ → Type 0) → (List ℕ → Type 0) → CheckWords → Result Finding Refusal → Type 0
 CheckFinds told absence read_failed check (Ok finding) = ComesToFinding told absence read_failed check finding
 CheckFinds told absence read_failed check (Err (Text role refusal)) = CheckFails told absence read_failed check (cause_of (name_in_check check role) refusal)
 CheckFinds told absence read_failed check (Err Unwritable) = ⊥
 CheckFinds told absence read_failed check (Err OutOfMemory) = Unit {0}
 
 -- how a check ended, before any fault line is written
-abbrev pub CheckEnds : Option Texts → Type 0 → Type 0 → Type 0 → CheckWords → Option (List ℕ) → Option (List ℕ) → Result Finding Refusal → Type 0
+abbrev pub CheckEnds : Option Texts → (List ℕ → Type 0) → (List ℕ → Type 0) → Type 0 → CheckWords → Option (List ℕ) → Option (List ℕ)
+    → Result Finding Refusal → Type 0
 CheckEnds told absence read_failed write_failed check before after (Ok finding) =
     ComesToFinding told absence read_failed check finding × (after ≡ append_known before (finding_text finding))
 CheckEnds told absence read_failed write_failed check before after (Err (Text role refusal)) =

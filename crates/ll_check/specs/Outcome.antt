@@ -8,6 +8,7 @@ use Rattle.ll_laws.specs.Fault.{Fault as FaultAt}
 use Rattle.ll_laws.specs.Line.{DerivationLines, trees_of, counts_numbers}
 use Rattle.ll_laws.specs.Verdict.{DerivationShows, first_fault}
 use Rattle.ll_laws.specs.Completeness.{ShowsClosed}
+use Rattle.ll_textbook.specs.Follows.{IsFilling, Follows}
 use Rattle.ll_cover.specs.Covering.{NamesFirst}
 use Rattle.ll_lexer.specs.declared.Fault.{Fault}
 use Rattle.ll_judge.specs.declared.judge.Role.{Role}
@@ -29,7 +30,7 @@ name_in_check check Query = check.query
 name_in_check check Proof = check.proof
 
 -- Why a check ends with a fault line: its texts are not all read; or one of them has a fault, where they are judged in the same order.
-pub data CheckFails (told : Option Texts) (absence read_failed : Type 0) (check : CheckWords) : Cause → Type 0 where
+pub data CheckFails (told : Option Texts) (absence read_failed : List ℕ → Type 0) (check : CheckWords) : Cause → Type 0 where
   texts_not_read : (cause : Cause) → ReadFails told absence read_failed (check_texts check) cause → CheckFails told absence read_failed check cause
   faulty_text : (program query proof : List ℕ) (role : Role) (f : Fault) → IsRead told check.program program → IsRead told check.query query
       → IsRead told check.proof proof
@@ -76,7 +77,7 @@ pub record CountsAt (p : ProblemTree) (d : DerivationLines) (node : ℕ) : Type 
 -- What a check comes to: yes, with the number of nodes; no, with the first node that does not fit; or a fault line, each with its status.
 -- A cover comes to the number of an answer in place of yes; or to why it looks for none: the nodes are more than the bound, or else one of
 -- them is of a whole-number goal.
-pub data CheckComesTo (told : Option Texts) (absence read_failed : Type 0) (check : CheckWords) (status : ℕ) (text : List ℕ) : Type 0 where
+pub data CheckComesTo (told : Option Texts) (absence read_failed : List ℕ → Type 0) (check : CheckWords) (status : ℕ) (text : List ℕ) : Type 0 where
   shown : (p : ProblemTree) (d : DerivationLines) → is_some check.bound ≡ false → CheckGives told check p d → DerivationShows p d → status ≡ 0
       → text ≡ yes_text (length d.nodes) → CheckComesTo told absence read_failed check status text
   refuted : (p : ProblemTree) (d : DerivationLines) (node reason : ℕ) → CheckGives told check p d → IsRefuted p d node reason → status ≡ 9
@@ -92,6 +93,15 @@ pub data CheckComesTo (told : Option Texts) (absence read_failed : Type 0) (chec
       → CheckComesTo told absence read_failed check status text
   check_failed : (cause : Cause) → CheckFails told absence read_failed check cause → status ≡ cause_status cause → text ≡ fault_text cause
       → CheckComesTo told absence read_failed check status text
+
+-- The texts of a check give a derivation whose terms fill the query's variables; and the query with these terms follows from the program, by as
+-- many nodes (derivability after Hodas and Miller 1994).
+pub record IsProved (told : Option Texts) (check : CheckWords) : Type 0 where
+  pub problem : ProblemTree
+  pub derivation : DerivationLines
+  pub gives : CheckGives told check problem derivation
+  pub filling : IsFilling problem derivation.asked
+  pub follows : Follows problem (length derivation.nodes) derivation.asked
 
 -- the words are those of a check, or of a cover, whose derivation does not show the query
 pub record IsDenied (words : List (List ℕ)) (told : Option Texts) : Type 0 where

@@ -1,7 +1,9 @@
 //! From the words of a check, or of a cover, to what it finds.
-ghost use Rattle.std.specs.Prelude.{◌≡◌, ◌≤◌, ℕ, List, length, true, unwrap_or, IfOk, IfSome};
+ghost use Rattle.std.specs.Prelude.{◌≡◌, ◌≤◌, ℕ, List, length, true, unwrap_or, Option, Some, IfOk, IfSome};
 ghost use Rattle.std.specs.List.{position_from};
 ghost use Rattle.ll_edge.specs.Counts.{Rose};
+ghost use Rattle.ll_edge.specs.Log.{ShelfKept, Fits, Met, NoText, Unreadable};
+ghost use Rattle.ll_edge.specs.Texts.{Texts};
 ghost use Rattle.ll_laws.specs.Line.{IsWhole};
 ghost use Rattle.ll_laws.specs.Valid.{IsValid};
 ghost use Rattle.ll_laws.specs.Verdict.{DerivationShows};
@@ -9,7 +11,7 @@ ghost use Rattle.ll_judge.specs.CallEnds.{Ends};
 ghost use Rattle.ll_check.specs.Counting.{is_counting};
 ghost use Rattle.ll_judge.specs.Judging.{TextsAsk};
 ghost use Rattle.ll_words.specs.Words.{shown_check};
-ghost use Rattle.ll_check.specs.Outcome.{name_in_check, CheckComesTo};
+ghost use Rattle.ll_check.specs.Outcome.{name_in_check, CheckComesTo, IsProved};
 ghost use Rattle.ll_check.specs.Endings.{status_of_finding, IsFinding, Finds, CheckFinds, CheckEnds};
 
 use crate::finding::{Finding, write_finding};
@@ -19,10 +21,12 @@ use ll_edge::{Shelf, Sink};
 use ll_judge::{Refusal, Role, derivation_of, problem_of, read, refuse};
 use ll_laws::{Derivation, Problem, Rule};
 use ll_sequent::{Verdict, check};
+use ll_textbook::answers_are_what_follows;
 use ll_words::CheckCommand;
 use std::alloc::Global;
 
-/// Checks a derivation, or says which answer covers it, and says why not where this is not done.
+/// Checks a derivation, or says which answer covers it, and says why not where this is not done. It answers the status. Where that is 0, the
+/// query follows from the program with the derivation's terms, by as many nodes (derivability after Hodas and Miller 1994).
 pub fn serve_check<F: Shelf, O: Sink>(
     alloc: Global,
     check: &CheckCommand<'_>,
@@ -31,15 +35,17 @@ pub fn serve_check<F: Shelf, O: Sink>(
 ) -> u8
     requires bound { IfSome check.now.bound (λ bound. bound ≤ 1000000) }
 
-    ensures same_texts { F.texts shelf.new ≡ F.texts shelf.old }
-    ensures shelf_faults_kept { F.faults shelf.old ≤ F.faults shelf.new }
-    ensures absences_kept { F.absences shelf.old ≤ F.absences shelf.new }
+    ensures kept { ShelfKept F.texts F.faults F.absences F.log shelf.old shelf.new }
     ensures sink_faults_kept { O.faults sink.old ≤ O.faults sink.new }
 
-    ensures ends { Ends (CheckComesTo (F.texts shelf.old) (Rose (F.absences shelf.old) (F.absences shelf.new))
-        (Rose (F.faults shelf.old) (F.faults shelf.new)) (shown_check check.now)) (Rose (O.faults sink.old) (O.faults sink.new))
-        (O.written sink.old) (O.written sink.new) result }
+    ensures ends { (told : Option Texts) → Fits told (F.log shelf.old) (F.log shelf.new)
+        → Ends (CheckComesTo told (Met F.absences F.log shelf.old shelf.new NoText)
+        (Met F.faults F.log shelf.old shelf.new Unreadable) (shown_check check.now)) (Rose (O.faults sink.old) (O.faults sink.new))
+        (Some (O.taken sink.old)) (Some (O.taken sink.new)) result }
+    ensures proved { result ≡ 0 → (told : Option Texts) → Fits told (F.log shelf.old) (F.log shelf.new)
+        → IsProved told (shown_check check.now) }
 {
+    answers_are_what_follows();
     match check_derivation(alloc, check, shelf, sink) {
         Ok(finding) => finding_status(finding),
         Err(Refusal::Text(role, refusal)) => {
@@ -84,13 +90,12 @@ fn check_derivation<F: Shelf, O: Sink>(
 ) -> Result<Finding, Refusal>
     requires bound { IfSome command.now.bound (λ bound. bound ≤ 1000000) }
 
-    ensures same_texts { F.texts shelf.new ≡ F.texts shelf.old }
-    ensures shelf_faults_kept { F.faults shelf.old ≤ F.faults shelf.new }
-    ensures absences_kept { F.absences shelf.old ≤ F.absences shelf.new }
+    ensures kept { ShelfKept F.texts F.faults F.absences F.log shelf.old shelf.new }
     ensures sink_faults_kept { O.faults sink.old ≤ O.faults sink.new }
 
-    ensures ends { CheckEnds (F.texts shelf.old) (Rose (F.absences shelf.old) (F.absences shelf.new)) (Rose (F.faults shelf.old) (F.faults shelf.new))
-        (Rose (O.faults sink.old) (O.faults sink.new)) (shown_check command.now) (O.written sink.old) (O.written sink.new) result }
+    ensures ends { (told : Option Texts) → Fits told (F.log shelf.old) (F.log shelf.new)
+        → CheckEnds told (Met F.absences F.log shelf.old shelf.new NoText) (Met F.faults F.log shelf.old shelf.new Unreadable)
+        (Rose (O.faults sink.old) (O.faults sink.new)) (shown_check command.now) (Some (O.taken sink.old)) (Some (O.taken sink.new)) result }
 {
     let finding = found(alloc, command, shelf)?;
     write_finding(sink, finding)?;
@@ -105,12 +110,11 @@ fn found<F: Shelf>(
 ) -> Result<Finding, Refusal>
     requires bound { IfSome command.now.bound (λ bound. bound ≤ 1000000) }
 
-    ensures same_texts { F.texts shelf.new ≡ F.texts shelf.old }
-    ensures faults_kept { F.faults shelf.old ≤ F.faults shelf.new }
-    ensures absences_kept { F.absences shelf.old ≤ F.absences shelf.new }
+    ensures kept { ShelfKept F.texts F.faults F.absences F.log shelf.old shelf.new }
 
-    ensures finds { CheckFinds (F.texts shelf.old) (Rose (F.absences shelf.old) (F.absences shelf.new))
-        (Rose (F.faults shelf.old) (F.faults shelf.new)) (shown_check command.now) result }
+    ensures finds { (told : Option Texts) → Fits told (F.log shelf.old) (F.log shelf.new)
+        → CheckFinds told (Met F.absences F.log shelf.old shelf.new NoText) (Met F.faults F.log shelf.old shelf.new Unreadable)
+        (shown_check command.now) result }
 {
     let program = read(alloc, shelf, command.program, Role::Program)?;
     let query = read(alloc, shelf, command.query, Role::Query)?;

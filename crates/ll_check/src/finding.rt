@@ -1,5 +1,5 @@
 //! What a check or a cover finds, and the line that says it.
-ghost use Rattle.std.specs.Prelude.{◌≡◌, ◌≤◌, OnOk, OnErr};
+ghost use Rattle.std.specs.Prelude.{◌≡◌, ◌≤◌, Some, OnOk, OnErr};
 ghost use Rattle.std.specs.Io.KnownBytes.{append_known};
 ghost use Rattle.ll_edge.specs.Counts.{Rose};
 ghost use Rattle.ll_edge.specs.Pieces.{AppendsFront};
@@ -28,9 +28,9 @@ pub enum Finding {
 /// Writes the line of a finding. After a refusal a prefix of it was written.
 pub fn write_finding<O: Sink>(sink: &mut O, finding: Finding) -> Result<(), WriteFailed>
     ensures faults_kept { O.faults sink.old ≤ O.faults sink.new }
-    ensures line { OnOk result (O.written sink.new ≡ append_known (O.written sink.old) (finding_text finding)) }
+    ensures line { OnOk result (Some (O.taken sink.new) ≡ append_known (Some (O.taken sink.old)) (finding_text finding)) }
     ensures failed { OnErr result (Rose (O.faults sink.old) (O.faults sink.new)) }
-    ensures prefix { OnErr result (AppendsFront (O.written sink.old) (finding_text finding) (O.written sink.new)) }
+    ensures prefix { OnErr result (AppendsFront (Some (O.taken sink.old)) (finding_text finding) (Some (O.taken sink.new))) }
 {
     match finding {
         Finding::Shows { nodes } => write_yes(sink, nodes),
@@ -44,9 +44,9 @@ pub fn write_finding<O: Sink>(sink: &mut O, finding: Finding) -> Result<(), Writ
 // Writes the line of a derivation that the answer of this number covers.
 fn write_covered<O: Sink>(sink: &mut O, answer: u64) -> Result<(), WriteFailed>
     ensures faults_kept { O.faults sink.old ≤ O.faults sink.new }
-    ensures line { OnOk result (O.written sink.new ≡ append_known (O.written sink.old) (covered_text answer)) }
+    ensures line { OnOk result (Some (O.taken sink.new) ≡ append_known (Some (O.taken sink.old)) (covered_text answer)) }
     ensures failed { OnErr result (Rose (O.faults sink.old) (O.faults sink.new)) }
-    ensures prefix { OnErr result (AppendsFront (O.written sink.old) (covered_text answer) (O.written sink.new)) }
+    ensures prefix { OnErr result (AppendsFront (Some (O.taken sink.old)) (covered_text answer) (Some (O.taken sink.new))) }
 {
     let mut digits = Buffer::new();
     let digits = digits.format(answer);
@@ -56,9 +56,9 @@ fn write_covered<O: Sink>(sink: &mut O, answer: u64) -> Result<(), WriteFailed>
 // Writes the line of a derivation with more nodes than the bound.
 fn write_too_long<O: Sink>(sink: &mut O, nodes: usize, bound: u32) -> Result<(), WriteFailed>
     ensures faults_kept { O.faults sink.old ≤ O.faults sink.new }
-    ensures line { OnOk result (O.written sink.new ≡ append_known (O.written sink.old) (too_long_text nodes bound)) }
+    ensures line { OnOk result (Some (O.taken sink.new) ≡ append_known (Some (O.taken sink.old)) (too_long_text nodes bound)) }
     ensures failed { OnErr result (Rose (O.faults sink.old) (O.faults sink.new)) }
-    ensures prefix { OnErr result (AppendsFront (O.written sink.old) (too_long_text nodes bound) (O.written sink.new)) }
+    ensures prefix { OnErr result (AppendsFront (Some (O.taken sink.old)) (too_long_text nodes bound) (Some (O.taken sink.new))) }
 {
     let mut node_digits = Buffer::new();
     let mut bound_digits = Buffer::new();
@@ -74,9 +74,9 @@ fn write_too_long_fields<'a, O: Sink>(
     bound: &'a str,
 ) -> Result<(), WriteFailed>
     ensures faults_kept { O.faults sink.old ≤ O.faults sink.new }
-    ensures line { OnOk result (O.written sink.new ≡ append_known (O.written sink.old) (too_long_fields nodes.now bound.now)) }
+    ensures line { OnOk result (Some (O.taken sink.new) ≡ append_known (Some (O.taken sink.old)) (too_long_fields nodes.now bound.now)) }
     ensures failed { OnErr result (Rose (O.faults sink.old) (O.faults sink.new)) }
-    ensures prefix { OnErr result (AppendsFront (O.written sink.old) (too_long_fields nodes.now bound.now) (O.written sink.new)) }
+    ensures prefix { OnErr result (AppendsFront (Some (O.taken sink.old)) (too_long_fields nodes.now bound.now) (Some (O.taken sink.new))) }
 {
     write_parts(
         sink,
@@ -93,9 +93,9 @@ fn write_too_long_fields<'a, O: Sink>(
 // Writes the line of a derivation whose node of this number is of a whole-number goal.
 fn write_counts<O: Sink>(sink: &mut O, node: usize) -> Result<(), WriteFailed>
     ensures faults_kept { O.faults sink.old ≤ O.faults sink.new }
-    ensures line { OnOk result (O.written sink.new ≡ append_known (O.written sink.old) (counts_text node)) }
+    ensures line { OnOk result (Some (O.taken sink.new) ≡ append_known (Some (O.taken sink.old)) (counts_text node)) }
     ensures failed { OnErr result (Rose (O.faults sink.old) (O.faults sink.new)) }
-    ensures prefix { OnErr result (AppendsFront (O.written sink.old) (counts_text node) (O.written sink.new)) }
+    ensures prefix { OnErr result (AppendsFront (Some (O.taken sink.old)) (counts_text node) (Some (O.taken sink.new))) }
 {
     let mut digits = Buffer::new();
     let digits = digits.format(node);
@@ -105,9 +105,9 @@ fn write_counts<O: Sink>(sink: &mut O, node: usize) -> Result<(), WriteFailed>
 // Writes the line of a derivation of so many nodes that shows the query.
 fn write_yes<O: Sink>(sink: &mut O, nodes: usize) -> Result<(), WriteFailed>
     ensures faults_kept { O.faults sink.old ≤ O.faults sink.new }
-    ensures line { OnOk result (O.written sink.new ≡ append_known (O.written sink.old) (yes_text nodes)) }
+    ensures line { OnOk result (Some (O.taken sink.new) ≡ append_known (Some (O.taken sink.old)) (yes_text nodes)) }
     ensures failed { OnErr result (Rose (O.faults sink.old) (O.faults sink.new)) }
-    ensures prefix { OnErr result (AppendsFront (O.written sink.old) (yes_text nodes) (O.written sink.new)) }
+    ensures prefix { OnErr result (AppendsFront (Some (O.taken sink.old)) (yes_text nodes) (Some (O.taken sink.new))) }
 {
     let mut digits = Buffer::new();
     let digits = digits.format(nodes);
@@ -117,9 +117,9 @@ fn write_yes<O: Sink>(sink: &mut O, nodes: usize) -> Result<(), WriteFailed>
 // Writes the line of a derivation whose node of this number does not fit, for this reason.
 fn write_no<O: Sink>(sink: &mut O, node: usize, reason: u8) -> Result<(), WriteFailed>
     ensures faults_kept { O.faults sink.old ≤ O.faults sink.new }
-    ensures line { OnOk result (O.written sink.new ≡ append_known (O.written sink.old) (no_text node reason)) }
+    ensures line { OnOk result (Some (O.taken sink.new) ≡ append_known (Some (O.taken sink.old)) (no_text node reason)) }
     ensures failed { OnErr result (Rose (O.faults sink.old) (O.faults sink.new)) }
-    ensures prefix { OnErr result (AppendsFront (O.written sink.old) (no_text node reason) (O.written sink.new)) }
+    ensures prefix { OnErr result (AppendsFront (Some (O.taken sink.old)) (no_text node reason) (Some (O.taken sink.new))) }
 {
     let mut node_digits = Buffer::new();
     let mut reason_digits = Buffer::new();
@@ -139,9 +139,9 @@ fn write_no_fields<'a, O: Sink>(
     text: &'a str,
 ) -> Result<(), WriteFailed>
     ensures faults_kept { O.faults sink.old ≤ O.faults sink.new }
-    ensures line { OnOk result (O.written sink.new ≡ append_known (O.written sink.old) (no_fields node.now reason.now text.now)) }
+    ensures line { OnOk result (Some (O.taken sink.new) ≡ append_known (Some (O.taken sink.old)) (no_fields node.now reason.now text.now)) }
     ensures failed { OnErr result (Rose (O.faults sink.old) (O.faults sink.new)) }
-    ensures prefix { OnErr result (AppendsFront (O.written sink.old) (no_fields node.now reason.now text.now) (O.written sink.new)) }
+    ensures prefix { OnErr result (AppendsFront (Some (O.taken sink.old)) (no_fields node.now reason.now text.now) (Some (O.taken sink.new))) }
 {
     write_parts(
         sink,

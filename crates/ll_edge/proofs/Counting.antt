@@ -24,12 +24,6 @@ counts_failed before after answer e failed = rw (e, failed) (Rose-counted_up bef
 pub counts_absent : (before after : Counts) (answer : Got) → after ≡ counts_after before answer → answer ≡ Absent → Rose before.absences after.absences
 counts_absent before after answer e absent = rw (e, absent) (Rose-counted_up before.absences)
 
--- a fact that each number has
-pub IfBytes-always : (P : ℕ → Type 0) → ((n : ℕ) → P n) → (answer : Got) → IfBytes answer P
-IfBytes-always P always (Bytes n) = always n
-IfBytes-always P always Absent = tt
-IfBytes-always P always Failed = tt
-
 pub faults_none_taken : (before after : ℕ) (piece : List ℕ) (answer : Result ℕ WriteFailed) → after ≡ faults_after before piece answer
     → IfOk answer (λ n. n ≡ 0 → 0 < length piece → Rose before after)
 faults_none_taken before after piece (Err refusal) e = tt
@@ -40,15 +34,6 @@ pub faults_failed : (before after : ℕ) (piece : List ℕ) (answer : Result ℕ
     → OnErr answer (Rose before after)
 faults_failed before after piece (Ok n) e = tt
 faults_failed before after piece (Err refusal) e = rw e (Rose-counted_up before)
-
-pub IfOk-always : (P : ℕ → Type 0) → ((n : ℕ) → P n) → (answer : Result ℕ WriteFailed) → IfOk answer P
-IfOk-always P always (Ok n) = always n
-IfOk-always P always (Err refusal) = tt
-
--- a fact that holds anyway
-pub OnErr-always : (P : Type 0) → P → (answer : Result ℕ WriteFailed) → OnErr answer P
-OnErr-always P always (Ok n) = tt
-OnErr-always P always (Err refusal) = always
 
 -- an answer of bytes counts nothing
 pub counts_no_fault : (before after : Counts) (answer : Got) → after ≡ counts_after before answer → IfBytes answer (λ _. after.faults ≡ before.faults)

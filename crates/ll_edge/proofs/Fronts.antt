@@ -1,9 +1,9 @@
 -- First bytes of a text, by those of its pieces.
 use Rattle.std.proofs.Common.{◌≡◌, ◌≤◌, ℕ, zero, suc, ◌+◌, refl, ap, sym, ◌∙◌, List, [], ◌∷◌, ◌++◌, length, take, arith, length-append}
-use Rattle.std.specs.Prelude.{Option}
+use Rattle.std.specs.Prelude.{Option, Some}
 use Rattle.std.specs.Io.KnownBytes.{append_known}
 use Rattle.std.proofs.lemmas.List.{append-nil, take-append-le}
-use Rattle.ll_edge.specs.Pieces.{AppendsFront}
+use Rattle.ll_edge.specs.Pieces.{AppendsFront, TakesFront}
 use Rattle.ll_edge.proofs.Writing.{append_known-nil, append_known-append}
 
 -- the first elements of a list, past some that stand in front
@@ -45,3 +45,7 @@ first-cut before after a b f = front_in before before after [] a b (a ++ b) (sym
 pub second-cut : (before mid after : Option (List ℕ)) (a b : List ℕ) → mid ≡ append_known before a → AppendsFront mid b after
     → AppendsFront before (a ++ b) after
 second-cut before mid after a b e f = front_in before mid after a b [] (a ++ b) e (ap (λ x. a ++ x) (append-nil b)) f
+
+-- calls that took first bytes of a piece appended them to what they had taken
+pub taken_front : {before piece after : List ℕ} → TakesFront before piece after → AppendsFront (Some before) piece (Some after)
+taken_front front = record { taken = front.count; within = omega (arith, front.short); appended = ap Some front.takes }

@@ -1,5 +1,7 @@
 pub mod Counting
 pub mod Writing
 pub mod Fronts
-pub mod Reading
+pub mod Logs
 pub mod CallerLemmas
+pub mod Noting
+pub mod Kept

@@ -1,9 +1,10 @@
 -- What a sink holds while a piece is written to it.
-use Rattle.std.proofs.Common.{◌≡◌, ℕ, ◌+◌, ◌≤◌, List, [], ◌++◌, Option, Some, None, length, take, drop, refl, ap, sym, ◌∙◌, arith, append_assoc, length-drop}
+use Rattle.std.proofs.Common.{◌≡◌, ℕ, ◌+◌, ◌<◌, ◌≤◌, List, [], ◌++◌, Option, Some, None, length, take, drop, refl, ap, sym, ◌∙◌, arith, append_assoc}
+use Rattle.std.proofs.Common.{length-drop}
 use Rattle.std.proofs.Math.Seq.{take-add}
 use Rattle.std.proofs.lemmas.List.{append-nil, take_all}
 use Rattle.std.specs.Io.KnownBytes.{append_known}
-use Rattle.ll_edge.specs.Pieces.{AppendsFront}
+use Rattle.ll_edge.specs.Pieces.{AppendsFront, TakesFront}
 
 -- to append nothing leaves all as it was
 pub append_known-nil : (known : Option (List ℕ)) → append_known known [] ≡ known
@@ -16,32 +17,38 @@ pub append_known-append : (known : Option (List ℕ)) (first second : List ℕ)
 append_known-append None first second = refl
 append_known-append (Some bytes) first second = ap Some (append_assoc bytes first second)
 
--- so many bytes of a piece were appended
-pub record IsWrittenUpTo (before after : Option (List ℕ)) (piece : List ℕ) (done : ℕ) : Type 0 where
+-- so many bytes of a piece were taken
+pub record IsTakenUpTo (before after piece : List ℕ) (done : ℕ) : Type 0 where
   pub within : done ≤ length piece
-  pub appended : after ≡ append_known before (take done piece)
+  pub takes : after ≡ before ++ take done piece
 
 -- none yet
-pub written_none : (known : Option (List ℕ)) (piece : List ℕ) → IsWrittenUpTo known known piece 0
-written_none known piece = record { within = omega arith; appended = sym (append_known-nil known) }
+pub taken_none : (before piece : List ℕ) → IsTakenUpTo before before piece 0
+taken_none before piece = record { within = omega arith; takes = sym (append-nil before) }
 
 -- some more, from the rest of the piece
-pub written_more : {before after : Option (List ℕ)} {piece : List ℕ} {done : ℕ} → IsWrittenUpTo before after piece done
-    → (later : Option (List ℕ)) (rest : List ℕ) (n : ℕ) → rest ≡ drop done piece → n ≤ length rest → later ≡ append_known after (take n rest)
-    → IsWrittenUpTo before later piece (done + n)
-written_more {before} {after} {piece} {done} w later rest n is_rest fits e =
+pub taken_more : {before after piece : List ℕ} {done : ℕ} → IsTakenUpTo before after piece done
+    → (later rest : List ℕ) (n : ℕ) → rest ≡ drop done piece → n ≤ length rest → later ≡ after ++ take n rest
+    → IsTakenUpTo before later piece (done + n)
+taken_more {before} {after} {piece} {done} w later rest n is_rest fits e =
     record {
       within = omega (arith, w.within, length-drop done piece, ap length is_rest);
-      appended = e ∙ ap (λ known. append_known known (take n rest)) w.appended ∙ append_known-append before (take done piece) (take n rest)
-          ∙ ap (λ xs. append_known before (take done piece ++ take n xs)) is_rest ∙ ap (append_known before) (sym (take-add done n piece));
+      takes = e ∙ ap (λ bytes. bytes ++ take n rest) w.takes ∙ append_assoc before (take done piece) (take n rest)
+          ∙ ap (λ xs. before ++ (take done piece ++ take n xs)) is_rest ∙ ap (λ xs. before ++ xs) (sym (take-add done n piece));
     }
 
 -- all of it
-pub written_all : {before after : Option (List ℕ)} {piece : List ℕ} {done : ℕ} → IsWrittenUpTo before after piece done → length piece ≤ done
-    → after ≡ append_known before piece
-written_all {before} {after} {piece} {done} w all = w.appended ∙ ap (append_known before) (take_all done piece all)
+pub taken_all : {before after piece : List ℕ} {done : ℕ} → IsTakenUpTo before after piece done → length piece ≤ done → after ≡ before ++ piece
+taken_all {before} {after} {piece} {done} w all = w.takes ∙ ap (λ xs. before ++ xs) (take_all done piece all)
 
--- as much as was written is a front of the piece
-pub written_front : {before after : Option (List ℕ)} {piece : List ℕ} {done : ℕ} → IsWrittenUpTo before after piece done → (later : Option (List ℕ))
-    → later ≡ after → AppendsFront before piece later
-written_front {done = done} w later e = record { taken = done; within = w.within; appended = e ∙ w.appended }
+-- a front of it, where the last call took nothing
+pub taken_front : {before after piece : List ℕ} {done : ℕ} → IsTakenUpTo before after piece done → done < length piece → (later nothing : List ℕ)
+    → nothing ≡ [] → later ≡ after ++ nothing → TakesFront before piece later
+taken_front {before} {after} {piece} {done} w short later nothing none e =
+    record { count = done; short = short; takes = e ∙ ap (λ xs. after ++ xs) none ∙ append-nil after ∙ w.takes }
+
+-- where what was written is told, it is appended as it was taken
+pub told_front : {before_known after_known : Option (List ℕ)} {before piece after : List ℕ}
+    → ((more : List ℕ) → after ≡ before ++ more → after_known ≡ append_known before_known more) → TakesFront before piece after
+    → AppendsFront before_known piece after_known
+told_front told f = record { taken = f.count; within = let s = f.short in omega (arith, s); appended = told _ f.takes }

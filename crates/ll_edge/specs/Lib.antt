@@ -1,4 +1,8 @@
 pub mod Counts
+pub mod Notes
 pub mod Texts
+pub mod Log
 pub mod Pieces
 pub mod Memory
+pub mod Real
+pub mod MemoryLaws

@@ -6,7 +6,8 @@ use std::alloc::{AllocError, Global};
 use std::rt::Env;
 use std::{env, io};
 
-/// The words of a call behind the program's name, as the system tells them. It refuses with `OutOfMemory` where memory is wanting, and with
+/// The words of a call behind the program's name, as the system tells them: no clause says which, since the library says nothing of the words
+/// that `args` gives, so this body is trusted to pass on each of them in its order. It refuses with `OutOfMemory` where memory is wanting, and with
 /// `InvalidData` where a word is no text.
 pub fn words(rt: &(impl Env + AllocGlobal)) -> io::Result<Vec<String>> {
     let mut words = Vec::new(rt.alloc());

@@ -5,6 +5,7 @@
 mod args;
 mod gate;
 mod memory;
+mod notes;
 mod real;
 mod shelf;
 mod sink;

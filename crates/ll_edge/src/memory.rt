@@ -1,10 +1,11 @@
 // A shelf and a sink in memory, for tests. Their calls are numbered from 0, and fail at given numbers.
-ghost use Rattle.std.specs.Prelude.{◌≡◌, ◌-◌, ◌<◌, ◌≤◌, [], length, min, IfOk};
+ghost use Rattle.std.specs.Prelude.{◌≡◌, ◌-◌, ◌<◌, ◌≤◌, [], ◌∷◌, ◌++◌, map, length, min, IfOk};
 ghost use Rattle.std.specs.Option.{option_copied};
 ghost use Rattle.ll_edge.specs.Texts.{NamesDiffer, text_of, IsPart};
-ghost use Rattle.ll_edge.specs.Memory.{texts_shown, is_failing};
+ghost use Rattle.ll_edge.specs.Memory.{texts_shown, is_failing, asked_of};
 ghost use Rattle.ll_edge.specs.Counts.{counted_up};
 
+use crate::notes::Notes;
 use crate::shelf::{Got, Shelf};
 use crate::sink::{Sink, WriteFailed};
 use std::alloc::{AllocError, Global};
@@ -36,10 +37,12 @@ pub struct MemShelf {
     calls: Calls,
     faults: u64,
     absences: u64,
+    notes: Notes,
 }
 
 impl Model for MemShelf {
-    ghost use Rattle.ll_edge.specs.Memory.{ShelfState, texts_shown};
+    ghost use Rattle.std.specs.Prelude.{map};
+    ghost use Rattle.ll_edge.specs.Memory.{ShelfState, texts_shown, asked_of};
 
     ghost Value = { ShelfState };
 
@@ -48,6 +51,7 @@ impl Model for MemShelf {
       failing = shelf.calls.failing.items;
       next_call = shelf.calls.next;
       counts = record { faults = shelf.faults; absences = shelf.absences };
+      asked = map asked_of shelf.notes.notes;
     } };
 }
 
@@ -62,6 +66,7 @@ impl MemShelf {
           failing = failing.items;
           next_call = 0;
           counts = record { faults = 0; absences = 0 };
+          asked = [];
         } }
     {
         MemShelf {
@@ -69,6 +74,7 @@ impl MemShelf {
             calls: Calls { next: 0, failing },
             faults: 0,
             absences: 0,
+            notes: Notes::new(),
         }
     }
 }
@@ -84,16 +90,25 @@ impl Shelf for MemShelf {
 
     ghost absences = { λ shelf. shelf.counts.absences };
 
+    ghost use Rattle.ll_edge.specs.Memory.{log_of};
+    ghost use Rattle.ll_edge.specs.MemoryLaws.{log_agrees};
+
+    ghost log = { log_of };
+
+    ghost told = { log_agrees };
+
     fn read(&mut self, name: &str, from: u64, buf: &mut [u8]) -> Got
         requires { 0 < length buf.old }
 
         ensures answer { result ≡ shelf_answer self.old name.now from (length buf.new) }
-        ensures after { self.new ≡ shelf_after self.old result }
+        ensures after { self.new ≡ shelf_after self.old name.now from (length buf.new) result }
         ensures bytes { IfBytes result (λ n. PutsPart self.old.texts name.now from buf.new n) }
         ensures faults_kept { self.old.counts.faults ≤ self.new.counts.faults }
         ensures absences_kept { self.old.counts.absences ≤ self.new.counts.absences }
     {
-        if self.calls.count() {
+        let fails = self.calls.count();
+        note_question(&mut self.notes, name, from, buf.len() - 1, fails);
+        if fails {
             self.faults = self.faults.saturating_add(1);
             return Got::Failed;
         }
@@ -105,6 +120,18 @@ impl Shelf for MemShelf {
             }
         }
     }
+}
+
+// Notes what a call asks for, and whether it fails.
+fn note_question(notes: &mut Notes, name: &str, from: u64, beyond: usize, fails: bool)
+    ensures { map asked_of notes.new.notes
+        ≡ map asked_of notes.old.notes ++ record { name = name.now; from = from; beyond = beyond; fails = fails } ∷ [] }
+{
+    notes.note(
+        &[from, beyond as u64, u64::from(fails)],
+        name.as_bytes(),
+        &[],
+    );
 }
 
 // The text of a name.
@@ -192,11 +219,16 @@ impl MemSink {
 
 impl Sink for MemSink {
     ghost use Rattle.std.specs.Prelude.{Some};
+    ghost use Rattle.ll_edge.specs.MemoryLaws.{written_grows};
     ghost use Rattle.ll_edge.specs.Memory.{sink_answer, sink_after};
 
     ghost written = { λ sink. Some sink.written };
 
+    ghost taken = { λ sink. sink.written };
+
     ghost faults = { λ sink. sink.faults };
+
+    ghost told = { written_grows };
 
     fn write(&mut self, piece: &[u8]) -> Result<usize, WriteFailed>
         ensures answer { result ≡ sink_answer self.old piece.now }

@@ -1,7 +1,8 @@
 // Where texts are read from.
-ghost use Rattle.std.specs.Prelude.{◌≡◌, ℕ, ◌<◌, ◌≤◌, length, IfSome, Option, None};
+ghost use Rattle.std.specs.Prelude.{◌≡◌, ℕ, ◌<◌, ◌≤◌, List, [], length, IfSome, Option};
 ghost use Rattle.ll_edge.specs.Counts.{Rose};
-ghost use Rattle.ll_edge.specs.Texts.{Texts, text_of, PutsPart, IfBytes};
+ghost use Rattle.ll_edge.specs.Log.{Entry, answer_of, logged, Agrees};
+ghost use Rattle.ll_edge.specs.Texts.{Texts, IfBytes};
 
 /// What one call of a shelf gives.
 #[derive(Clone, Copy)]
@@ -25,6 +26,9 @@ pub trait Shelf {
     // How many calls found no text of the name.
     ghost absences: { Self → ℕ };
 
+    // The calls so far with their answers, in order. Every shelf tells them.
+    ghost log: { Self → List Entry };
+
     /// Reads a part of a text into `buf`, from the byte with number `from` on.
     fn read(&mut self, name: &str, from: u64, buf: &mut [u8]) -> Got
         requires { 0 < length buf.old }
@@ -39,9 +43,8 @@ pub trait Shelf {
         ensures no_absence { IfBytes result (λ _. absences self.new ≡ absences self.old) }
         ensures fits { IfBytes result (λ n. n ≤ length buf.new) }
 
-        // Where the texts are told.
-        ensures told_absent { result ≡ Got.Absent
-            → IfSome (texts self.old) (λ told. text_of told name.now ≡ None) }
-        ensures told_bytes { IfBytes result (λ n. IfSome (texts self.old)
-            (λ told. PutsPart told name.now from buf.new n)) };
+        ensures logs { log self.new ≡ logged (log self.old) name.now from (answer_of result buf.new) };
+
+    // Where the texts are told, each answer is the one that they give.
+    ghost told: { (shelf : Self) → IfSome (texts shelf) (λ texts. Agrees texts [] (log shelf)) };
 }

@@ -1,8 +1,8 @@
 // Where text is written to.
-ghost use Rattle.std.specs.Prelude.{◌≡◌, ℕ, ◌<◌, ◌≤◌, List, length, take, Option, IfOk, OnOk, OnErr};
+ghost use Rattle.std.specs.Prelude.{◌≡◌, ℕ, ◌<◌, ◌≤◌, List, ◌++◌, length, Option, IfOk, OnOk, OnErr};
 ghost use Rattle.std.specs.Io.KnownBytes.{append_known};
 ghost use Rattle.ll_edge.specs.Counts.{Rose};
-ghost use Rattle.ll_edge.specs.Pieces.{AppendsFront};
+ghost use Rattle.ll_edge.specs.Pieces.{AppendsFront, TakesFront, taken_of};
 
 use thiserror::Error;
 
@@ -16,6 +16,9 @@ pub trait Sink {
     // All that was written, where the sink tells it.
     ghost written: { Self → Option (List ℕ) };
 
+    // The bytes that calls took, in order. Every sink tells them.
+    ghost taken: { Self → List ℕ };
+
     // How many calls failed, or took nothing of a piece that is not empty.
     ghost faults: { Self → ℕ };
 
@@ -24,22 +27,26 @@ pub trait Sink {
         ensures faults_kept { faults self.old ≤ faults self.new }
 
         ensures fits { IfOk result (λ n. n ≤ length piece.now) }
-        ensures appends { IfOk result
-            (λ n. written self.new ≡ append_known (written self.old) (take n piece.now)) }
+        ensures takes { taken self.new ≡ taken self.old ++ taken_of piece.now result }
         ensures none_taken { IfOk result
             (λ n. n ≡ 0 → 0 < length piece.now → Rose (faults self.old) (faults self.new)) }
 
-        ensures failed { OnErr result (Rose (faults self.old) (faults self.new)) }
-        ensures unchanged { OnErr result (written self.new ≡ written self.old) };
+        ensures failed { OnErr result (Rose (faults self.old) (faults self.new)) };
+
+    // Where what was written is told, it grows by what calls take.
+    ghost told: { (before after : Self) (more : List ℕ) → taken after ≡ taken before ++ more
+        → written after ≡ append_known (written before) more };
 }
 
 /// Writes the whole piece. After a refusal a prefix of it was written.
 pub fn write_all<O: Sink>(sink: &mut O, piece: &[u8]) -> Result<(), WriteFailed>
     ensures faults_kept { O.faults sink.old ≤ O.faults sink.new }
+    ensures takes { OnOk result (O.taken sink.new ≡ O.taken sink.old ++ piece.now) }
     ensures appends { OnOk result
         (O.written sink.new ≡ append_known (O.written sink.old) piece.now) }
 
     ensures failed { OnErr result (Rose (O.faults sink.old) (O.faults sink.new)) }
+    ensures takes_front { OnErr result (TakesFront (O.taken sink.old) piece.now (O.taken sink.new)) }
     ensures prefix { OnErr result
         (AppendsFront (O.written sink.old) piece.now (O.written sink.new)) }
 {

@@ -1,6 +1,7 @@
 // Reading a whole text.
 ghost use Rattle.std.specs.Prelude.{◌≡◌, ◌<◌, ◌≤◌, length, vec_len, Some, None, IfOk, IfSome, IsErrOf, IsSomeAnd};
 ghost use Rattle.ll_edge.specs.Counts.{Rose};
+ghost use Rattle.ll_edge.specs.Log.{ShelfKept, ReadingEnds};
 ghost use Rattle.ll_edge.specs.Texts.{text_of};
 
 use crate::shelf::{Got, Shelf};
@@ -51,10 +52,7 @@ pub fn read_text<F: Shelf>(
 ) -> Result<Vec<u8>, ReadFault>
     requires { limit < usize.MAX }
 
-    ensures same_texts { F.texts shelf.new ≡ F.texts shelf.old }
-    ensures faults_kept { F.faults shelf.old ≤ F.faults shelf.new }
-    ensures absences_kept { F.absences shelf.old ≤ F.absences shelf.new }
-
+    ensures kept { ShelfKept F.texts F.faults F.absences F.log shelf.old shelf.new }
     ensures no_fault { IfOk result (λ _. F.faults shelf.new ≡ F.faults shelf.old) }
     ensures no_absence { IfOk result (λ _. F.absences shelf.new ≡ F.absences shelf.old) }
     ensures within_limit { IfOk result (λ text. vec_len text ≤ limit) }
@@ -62,6 +60,8 @@ pub fn read_text<F: Shelf>(
         → Rose (F.absences shelf.old) (F.absences shelf.new) }
     ensures failed { IsErrOf result ReadFault.Failed
         → Rose (F.faults shelf.old) (F.faults shelf.new) }
+
+    ensures reading { ReadingEnds limit name.now (F.log shelf.old) (F.log shelf.new) result }
 
     // Where the texts are told.
     ensures whole { IfOk result (λ text. IfSome (F.texts shelf.old)

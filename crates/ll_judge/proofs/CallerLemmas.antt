@@ -8,8 +8,8 @@ pub use Rattle.ll_judge.proofs.GrammarLemmas.{one-grammar-fault}
 pub use Rattle.ll_judge.proofs.GrammarLemmas.{no-grammar-fault}
 -- a text that is not read when it is its turn is why not all of them are
 pub use Rattle.ll_judge.proofs.PrepareLemmas.{not-read}
--- why a text was not read holds under counts that rose later on
-pub use Rattle.ll_judge.proofs.PrepareLemmas.{not-read-later}
+-- why a text was not read holds with calls of the shelf before
+pub use Rattle.ll_judge.proofs.PrepareLemmas.{not-read-after}
 -- and so does the end of a fault line
 pub use Rattle.ll_judge.proofs.OutcomeLemmas.{refuses-later}
 -- a call that writes the line of its cause ends as one that comes to it

@@ -38,7 +38,7 @@ is-converted proof text version names d e t s = record {
 
 -- ---- reading
 
-module _ (told : Option Texts) (absence read_failed : Type 0) (convert : ConvertWords) where
+module _ (told : Option Texts) (absence read_failed : List ℕ → Type 0) (convert : ConvertWords) where
   -- the text was not read
   pub proof-unread : (e : Refusal) → IsNotRead told absence read_failed convert.proof Proof e → Converts told absence read_failed convert (Err e)
   proof-unread (Text role refusal) h = proof_not_read (cause_of convert.proof refusal)

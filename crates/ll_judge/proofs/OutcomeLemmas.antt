@@ -31,7 +31,7 @@ refused-status cause w before after status (cut s f a) = inr (s, f)
 
 -- ---- a print
 
-module _ (told : Option Texts) (absence read_failed : Type 0) (name : List ℕ) where
+module _ (told : Option Texts) (absence read_failed : List ℕ → Type 0) (name : List ℕ) where
   module _ (write_failed : Type 0) (before after : Option (List ℕ)) where
     pub printed-ends : {A : Type 0} (done : A) → PrintEnds told absence read_failed write_failed name before after (Ok done)
         → Ends (PrintComesTo told absence read_failed name) write_failed before after 0

@@ -18,7 +18,7 @@ IsConversionOf proof version (Ok TooLong) = (text : List ℕ) × IsConverted pro
 IsConversionOf proof version (Err e) = IsNoDerivation proof e
 
 -- what the text of the name in a conversion comes to, or a cause why there is none
-abbrev pub Converts : Option Texts → Type 0 → Type 0 → ConvertWords → Result NewText Refusal → Type 0
+abbrev pub Converts : Option Texts → (List ℕ → Type 0) → (List ℕ → Type 0) → ConvertWords → Result NewText Refusal → Type 0
 Converts told absence read_failed convert (Ok (Whole text)) = ConvertComesTo told absence read_failed convert 0 text.items
 Converts told absence read_failed convert (Ok TooLong) = ConvertFails told absence read_failed convert (OversizedAs convert.proof convert.version)
 Converts told absence read_failed convert (Err (Text role refusal)) = ConvertFails told absence read_failed convert (cause_of convert.proof refusal)

@@ -23,7 +23,7 @@ pub record IsConverted (proof : List ℕ) (version : ℕ) (text : List ℕ) : Ty
 
 -- Why a conversion ends with a fault line: its text is not read; it is no text of a derivation; or the text that would be written has more
 -- bytes than a text may have.
-pub data ConvertFails (told : Option Texts) (absence read_failed : Type 0) (convert : ConvertWords) : Cause → Type 0 where
+pub data ConvertFails (told : Option Texts) (absence read_failed : List ℕ → Type 0) (convert : ConvertWords) : Cause → Type 0 where
   proof_not_read : (cause : Cause) → ReadFails told absence read_failed (convert.proof ∷ []) cause → ConvertFails told absence read_failed convert cause
   faulty_proof : (proof : List ℕ) (f : Fault) → IsRead told convert.proof proof → HasFaultIn proof f
       → ConvertFails told absence read_failed convert (Faulty convert.proof f)
@@ -31,7 +31,7 @@ pub data ConvertFails (told : Option Texts) (absence read_failed : Type 0) (conv
       → ConvertFails told absence read_failed convert (OversizedAs convert.proof convert.version)
 
 -- what a conversion comes to: the derivation's text in the version that is asked for, or a fault line, each with its status
-pub data ConvertComesTo (told : Option Texts) (absence read_failed : Type 0) (convert : ConvertWords) (status : ℕ) (text : List ℕ) : Type 0 where
+pub data ConvertComesTo (told : Option Texts) (absence read_failed : List ℕ → Type 0) (convert : ConvertWords) (status : ℕ) (text : List ℕ) : Type 0 where
   converted : (proof : List ℕ) → IsRead told convert.proof proof → IsConverted proof convert.version text → length text ≤ longest_text → status ≡ 0
       → ConvertComesTo told absence read_failed convert status text
   convert_failed : (cause : Cause) → ConvertFails told absence read_failed convert cause → status ≡ cause_status cause → text ≡ fault_text cause

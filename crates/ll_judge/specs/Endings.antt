@@ -53,13 +53,13 @@ pub data Refuses (cause : Cause) (write_failed : Type 0) (before after : Option 
 -- ---- reading and judging
 
 -- why the text of this name was not read
-abbrev pub IsTextNotRead : Option Texts → Type 0 → Type 0 → List ℕ → TextRefusal → Type 0
-IsTextNotRead told absence read_failed name text.Absent = absence × IfSome told (λ texts. text_of texts name ≡ None)
-IsTextNotRead told absence read_failed name text.Unreadable = read_failed
+abbrev pub IsTextNotRead : Option Texts → (List ℕ → Type 0) → (List ℕ → Type 0) → List ℕ → TextRefusal → Type 0
+IsTextNotRead told absence read_failed name text.Absent = absence name × IfSome told (λ texts. text_of texts name ≡ None)
+IsTextNotRead told absence read_failed name text.Unreadable = read_failed name
 IsTextNotRead told absence read_failed name text.Oversized = IfSome told (λ texts. IsSomeAnd (text_of texts name) (λ text. longest_text < length text))
 IsTextNotRead told absence read_failed name (text.Faulty fault) = ⊥
 
-abbrev pub IsNotRead : Option Texts → Type 0 → Type 0 → List ℕ → Role → Refusal → Type 0
+abbrev pub IsNotRead : Option Texts → (List ℕ → Type 0) → (List ℕ → Type 0) → List ℕ → Role → Refusal → Type 0
 IsNotRead told absence read_failed name role (Text other refusal) = (other ≡ role) × IsTextNotRead told absence read_failed name refusal
 IsNotRead told absence read_failed name role Unwritable = ⊥
 IsNotRead told absence read_failed name role OutOfMemory = Unit {0}
@@ -77,7 +77,7 @@ Judges program query bound (Err Unwritable) = ⊥
 Judges program query bound (Err OutOfMemory) = Unit {0}
 
 -- what was made of the texts that a run names: its problem, or a cause why there is none
-abbrev pub Prepares : Option Texts → Type 0 → Type 0 → RunWords → Result ProblemTree Refusal → Type 0
+abbrev pub Prepares : Option Texts → (List ℕ → Type 0) → (List ℕ → Type 0) → RunWords → Result ProblemTree Refusal → Type 0
 Prepares told absence read_failed run (Ok p) = RunAsks told run p
 Prepares told absence read_failed run (Err (Text role refusal)) = RunFails told absence read_failed run (cause_of (name_of run role) refusal)
 Prepares told absence read_failed run (Err Unwritable) = ⊥
@@ -99,13 +99,14 @@ IsNotMadeOf source Unwritable = ⊥
 IsNotMadeOf source OutOfMemory = Unit {0}
 
 -- why no bytes were printed of the text of this name
-abbrev pub IsNotPrinted : Option Texts → Type 0 → Type 0 → List ℕ → Refusal → Type 0
+abbrev pub IsNotPrinted : Option Texts → (List ℕ → Type 0) → (List ℕ → Type 0) → List ℕ → Refusal → Type 0
 IsNotPrinted told absence read_failed name (Text role refusal) = PrintFails told absence read_failed name (cause_of name refusal)
 IsNotPrinted told absence read_failed name Unwritable = ⊥
 IsNotPrinted told absence read_failed name OutOfMemory = Unit {0}
 
 -- how a print ended, before any fault line is written
-abbrev pub PrintEnds : {A : Type 0} → Option Texts → Type 0 → Type 0 → Type 0 → List ℕ → Option (List ℕ) → Option (List ℕ) → Result A Refusal → Type 0
+abbrev pub PrintEnds : {A : Type 0} → Option Texts → (List ℕ → Type 0) → (List ℕ → Type 0) → Type 0 → List ℕ → Option (List ℕ) → Option (List ℕ)
+    → Result A Refusal → Type 0
 PrintEnds told absence read_failed write_failed name before after (Ok done) =
     (bytes : List ℕ) × IsPrintedAs told name bytes × (after ≡ append_known before bytes)
 PrintEnds told absence read_failed write_failed name before after (Err (Text role refusal)) =

@@ -1,6 +1,8 @@
 //! From the words of a conversion to its bytes.
-ghost use Rattle.std.specs.Prelude.{◌≡◌, ◌≤◌, ◌⊎◌, ℕ, List, length, IfOk};
+ghost use Rattle.std.specs.Prelude.{◌≡◌, ◌≤◌, ◌⊎◌, ℕ, List, length, Option, Some, IfOk};
 ghost use Rattle.ll_edge.specs.Counts.{Rose};
+ghost use Rattle.ll_edge.specs.Log.{ShelfKept, Fits, Met, NoText, Unreadable};
+ghost use Rattle.ll_edge.specs.Texts.{Texts};
 ghost use Rattle.ll_prooftext.specs.Sizes.{text_in};
 ghost use Rattle.ll_prooftext.specs.Versions.{IsProofText};
 ghost use Rattle.ll_judge.specs.CallEnds.{Ends};
@@ -40,14 +42,13 @@ pub fn serve_convert<F: Shelf, O: Sink>(
 ) -> u8
     requires version { (convert.now.version ≡ 1) ⊎ (convert.now.version ≡ 2) }
 
-    ensures same_texts { F.texts shelf.new ≡ F.texts shelf.old }
-    ensures shelf_faults_kept { F.faults shelf.old ≤ F.faults shelf.new }
-    ensures absences_kept { F.absences shelf.old ≤ F.absences shelf.new }
+    ensures kept { ShelfKept F.texts F.faults F.absences F.log shelf.old shelf.new }
     ensures sink_faults_kept { O.faults sink.old ≤ O.faults sink.new }
 
-    ensures ends { Ends (ConvertComesTo (F.texts shelf.old) (Rose (F.absences shelf.old) (F.absences shelf.new))
-        (Rose (F.faults shelf.old) (F.faults shelf.new)) (shown_convert convert.now)) (Rose (O.faults sink.old) (O.faults sink.new))
-        (O.written sink.old) (O.written sink.new) result }
+    ensures ends { (told : Option Texts) → Fits told (F.log shelf.old) (F.log shelf.new)
+        → Ends (ConvertComesTo told (Met F.absences F.log shelf.old shelf.new NoText)
+        (Met F.faults F.log shelf.old shelf.new Unreadable) (shown_convert convert.now)) (Rose (O.faults sink.old) (O.faults sink.new))
+        (Some (O.taken sink.old)) (Some (O.taken sink.new)) result }
 {
     match conversion(alloc, convert, shelf) {
         Ok(NewText::Whole(text)) => match write_all(sink, &text) {
@@ -69,12 +70,11 @@ fn conversion<F: Shelf>(
 ) -> Result<NewText, Refusal>
     requires version { (convert.now.version ≡ 1) ⊎ (convert.now.version ≡ 2) }
 
-    ensures same_texts { F.texts shelf.new ≡ F.texts shelf.old }
-    ensures faults_kept { F.faults shelf.old ≤ F.faults shelf.new }
-    ensures absences_kept { F.absences shelf.old ≤ F.absences shelf.new }
+    ensures kept { ShelfKept F.texts F.faults F.absences F.log shelf.old shelf.new }
 
-    ensures converts { Converts (F.texts shelf.old) (Rose (F.absences shelf.old) (F.absences shelf.new))
-        (Rose (F.faults shelf.old) (F.faults shelf.new)) (shown_convert convert.now) result }
+    ensures converts { (told : Option Texts) → Fits told (F.log shelf.old) (F.log shelf.new)
+        → Converts told (Met F.absences F.log shelf.old shelf.new NoText)
+        (Met F.faults F.log shelf.old shelf.new Unreadable) (shown_convert convert.now) result }
 {
     let proof = read(alloc, shelf, convert.proof, Role::Proof)?;
     converted(alloc, &proof, convert.version)

@@ -1,5 +1,5 @@
 //! The lines by which a call says why it ends without its work.
-ghost use Rattle.std.specs.Prelude.{◌≡◌, ◌≤◌, OnOk, OnErr, map};
+ghost use Rattle.std.specs.Prelude.{◌≡◌, ◌≤◌, Some, OnOk, OnErr, map};
 ghost use Rattle.std.specs.List.{concat};
 ghost use Rattle.std.specs.Io.KnownBytes.{append_known};
 ghost use Rattle.ll_edge.specs.Counts.{Rose};
@@ -32,7 +32,7 @@ pub enum Cause<'a> {
 pub fn refuse<O: Sink>(cause: Cause<'_>, sink: &mut O) -> u8
     ensures faults_kept { O.faults sink.old ≤ O.faults sink.new }
     ensures refuses { Refuses (shown_cause cause.entry) (Rose (O.faults sink.old) (O.faults sink.new))
-        (O.written sink.old) (O.written sink.new) result }
+        (Some (O.taken sink.old)) (Some (O.taken sink.new)) result }
 {
     match write_line(cause, sink) {
         Ok(()) => status(cause),
@@ -57,9 +57,9 @@ fn status(cause: Cause<'_>) -> u8
 /// Writes the line of a cause. After a refusal a prefix of it was written.
 pub fn write_line<O: Sink>(cause: Cause<'_>, sink: &mut O) -> Result<(), WriteFailed>
     ensures faults_kept { O.faults sink.old ≤ O.faults sink.new }
-    ensures line { OnOk result (O.written sink.new ≡ append_known (O.written sink.old) (fault_text (shown_cause cause.entry))) }
+    ensures line { OnOk result (Some (O.taken sink.new) ≡ append_known (Some (O.taken sink.old)) (fault_text (shown_cause cause.entry))) }
     ensures failed { OnErr result (Rose (O.faults sink.old) (O.faults sink.new)) }
-    ensures prefix { OnErr result (AppendsFront (O.written sink.old) (fault_text (shown_cause cause.entry)) (O.written sink.new)) }
+    ensures prefix { OnErr result (AppendsFront (Some (O.taken sink.old)) (fault_text (shown_cause cause.entry)) (Some (O.taken sink.new))) }
 {
     match cause {
         Cause::Usage(number) => {
@@ -85,9 +85,9 @@ pub fn write_line<O: Sink>(cause: Cause<'_>, sink: &mut O) -> Result<(), WriteFa
 // Writes the line of a text's fault.
 fn write_text_fault<O: Sink>(sink: &mut O, name: &str, fault: Fault) -> Result<(), WriteFailed>
     ensures faults_kept { O.faults sink.old ≤ O.faults sink.new }
-    ensures line { OnOk result (O.written sink.new ≡ append_known (O.written sink.old) (fault_text (FaultyText name.now fault))) }
+    ensures line { OnOk result (Some (O.taken sink.new) ≡ append_known (Some (O.taken sink.old)) (fault_text (FaultyText name.now fault))) }
     ensures failed { OnErr result (Rose (O.faults sink.old) (O.faults sink.new)) }
-    ensures prefix { OnErr result (AppendsFront (O.written sink.old) (fault_text (FaultyText name.now fault)) (O.written sink.new)) }
+    ensures prefix { OnErr result (AppendsFront (Some (O.taken sink.old)) (fault_text (FaultyText name.now fault)) (Some (O.taken sink.new))) }
 {
     let mut line = Buffer::new();
     let mut column = Buffer::new();
@@ -112,9 +112,10 @@ fn write_fields<'a, O: Sink>(
     text: &'a str,
 ) -> Result<(), WriteFailed>
     ensures faults_kept { O.faults sink.old ≤ O.faults sink.new }
-    ensures line { OnOk result (O.written sink.new ≡ append_known (O.written sink.old) (fields_text name.now line.now column.now kind.now text.now)) }
+    ensures line { OnOk result (Some (O.taken sink.new) ≡ append_known (Some (O.taken sink.old)) (fields_text name.now line.now column.now kind.now text.now)) }
     ensures failed { OnErr result (Rose (O.faults sink.old) (O.faults sink.new)) }
-    ensures prefix { OnErr result (AppendsFront (O.written sink.old) (fields_text name.now line.now column.now kind.now text.now) (O.written sink.new)) }
+    ensures prefix { OnErr result (AppendsFront (Some (O.taken sink.old)) (fields_text name.now line.now column.now kind.now text.now) (Some
+        (O.taken sink.new))) }
 {
     write_parts(
         sink,
@@ -127,9 +128,9 @@ fn write_fields<'a, O: Sink>(
 /// Writes some texts, one behind the other. After a refusal a prefix of them was written.
 pub fn write_parts<O: Sink>(sink: &mut O, parts: &[&str]) -> Result<(), WriteFailed>
     ensures faults_kept { O.faults sink.old ≤ O.faults sink.new }
-    ensures line { OnOk result (O.written sink.new ≡ append_known (O.written sink.old) (concat (map (λ part. part.now) parts.now))) }
+    ensures line { OnOk result (Some (O.taken sink.new) ≡ append_known (Some (O.taken sink.old)) (concat (map (λ part. part.now) parts.now))) }
     ensures failed { OnErr result (Rose (O.faults sink.old) (O.faults sink.new)) }
-    ensures prefix { OnErr result (AppendsFront (O.written sink.old) (concat (map (λ part. part.now) parts.now)) (O.written sink.new)) }
+    ensures prefix { OnErr result (AppendsFront (Some (O.taken sink.old)) (concat (map (λ part. part.now) parts.now)) (Some (O.taken sink.new))) }
 {
     for part in parts {
         write_all(sink, part.as_bytes())?;

@@ -1,10 +1,11 @@
 // From the words of a run to its problem.
-ghost use Rattle.std.specs.Prelude.{◌≡◌, ◌≤◌, ℕ, List, length, IfOk, IfErr};
-ghost use Rattle.ll_edge.specs.Counts.{Rose};
+ghost use Rattle.std.specs.Prelude.{◌≡◌, ◌≤◌, ℕ, List, [], length, Option, IfOk, IfErr};
+ghost use Rattle.ll_edge.specs.Log.{ShelfKept, Fits, Reads, Handed, Met, NoText, Unreadable};
+ghost use Rattle.ll_edge.specs.Texts.{Texts};
 ghost use Rattle.ll_laws.specs.Valid.{IsValid};
 ghost use Rattle.ll_words.specs.Words.{shown_words};
 ghost use Rattle.ll_judge.specs.Judging.{IsPartOf, TextsAsk, IsProgramCause, IsQueryCause};
-ghost use Rattle.ll_judge.specs.Outcome.{IsRead};
+ghost use Rattle.ll_judge.specs.Outcome.{IsRead, ReadsWhatAsks};
 ghost use Rattle.ll_judge.specs.Endings.{refusal_of, IsNotRead, Judges, Prepares};
 
 use crate::judge::{Role, judge_program, judge_query};
@@ -27,13 +28,13 @@ pub fn prepare<F: Shelf>(
 ) -> Result<Problem, Refusal>
     requires bound { run.now.bound ≤ 1000000 }
 
-    ensures same_texts { F.texts shelf.new ≡ F.texts shelf.old }
-    ensures faults_kept { F.faults shelf.old ≤ F.faults shelf.new }
-    ensures absences_kept { F.absences shelf.old ≤ F.absences shelf.new }
+    ensures kept { ShelfKept F.texts F.faults F.absences F.log shelf.old shelf.new }
 
     ensures valid { IfOk result IsValid }
-    ensures prepares { Prepares (F.texts shelf.old) (Rose (F.absences shelf.old) (F.absences shelf.new))
-        (Rose (F.faults shelf.old) (F.faults shelf.new)) (shown_words run.now) result }
+    ensures prepares { (told : Option Texts) → Fits told (F.log shelf.old) (F.log shelf.new)
+        → Prepares told (Met F.absences F.log shelf.old shelf.new NoText)
+        (Met F.faults F.log shelf.old shelf.new Unreadable) (shown_words run.now) result }
+    ensures reads { IfOk result (ReadsWhatAsks (shown_words run.now) (F.log shelf.old) (F.log shelf.new)) }
 {
     let program = read(alloc, shelf, run.program, Role::Program)?;
     let query = read(alloc, shelf, run.query, Role::Query)?;
@@ -47,13 +48,13 @@ pub fn read<F: Shelf>(
     name: &str,
     role: Role,
 ) -> Result<Vec<u8>, Refusal>
-    ensures same_texts { F.texts shelf.new ≡ F.texts shelf.old }
-    ensures faults_kept { F.faults shelf.old ≤ F.faults shelf.new }
-    ensures absences_kept { F.absences shelf.old ≤ F.absences shelf.new }
+    ensures kept { ShelfKept F.texts F.faults F.absences F.log shelf.old shelf.new }
 
-    ensures read { IfOk result (λ text. IsRead (F.texts shelf.old) name.now text.items) }
-    ensures refused { IfErr result (IsNotRead (F.texts shelf.old) (Rose (F.absences shelf.old) (F.absences shelf.new))
-        (Rose (F.faults shelf.old) (F.faults shelf.new)) name.now role) }
+    ensures reads { IfOk result (λ text. Reads name.now (F.log shelf.old) (F.log shelf.new) text.items (Handed [])) }
+    ensures read { IfOk result (λ text. (told : Option Texts) → Fits told (F.log shelf.old) (F.log shelf.new) → IsRead told name.now text.items) }
+    ensures refused { IfErr result (λ refusal. (told : Option Texts) → Fits told (F.log shelf.old) (F.log shelf.new)
+        → IsNotRead told (Met F.absences F.log shelf.old shelf.new NoText)
+        (Met F.faults F.log shelf.old shelf.new Unreadable) name.now role refusal) }
 {
     match read_text(alloc, shelf, name, LONGEST_TEXT) {
         Ok(text) => Ok(text),

@@ -1,6 +1,8 @@
 //! From the words of a print to its bytes.
-ghost use Rattle.std.specs.Prelude.{◌≡◌, ◌≤◌, length, IfOk, IfErr};
+ghost use Rattle.std.specs.Prelude.{◌≡◌, ◌≤◌, length, Option, Some, IfOk, IfErr};
 ghost use Rattle.ll_edge.specs.Counts.{Rose};
+ghost use Rattle.ll_edge.specs.Log.{ShelfKept, Fits, Met, NoText, Unreadable};
+ghost use Rattle.ll_edge.specs.Texts.{Texts};
 ghost use Rattle.ll_parser.specs.Printed.{program_text};
 ghost use Rattle.ll_judge.specs.declared.refusing.Refusal.TheVariants.{OutOfMemory};
 ghost use Rattle.ll_judge.specs.CallEnds.{Ends};
@@ -17,14 +19,13 @@ use std::alloc::Global;
 
 /// Prints a program, and says why not where it is not printed.
 pub fn serve_print<F: Shelf, O: Sink>(alloc: Global, name: &str, shelf: &mut F, sink: &mut O) -> u8
-    ensures same_texts { F.texts shelf.new ≡ F.texts shelf.old }
-    ensures shelf_faults_kept { F.faults shelf.old ≤ F.faults shelf.new }
-    ensures absences_kept { F.absences shelf.old ≤ F.absences shelf.new }
+    ensures kept { ShelfKept F.texts F.faults F.absences F.log shelf.old shelf.new }
     ensures sink_faults_kept { O.faults sink.old ≤ O.faults sink.new }
 
-    ensures ends { Ends (PrintComesTo (F.texts shelf.old) (Rose (F.absences shelf.old) (F.absences shelf.new))
-        (Rose (F.faults shelf.old) (F.faults shelf.new)) name.now) (Rose (O.faults sink.old) (O.faults sink.new))
-        (O.written sink.old) (O.written sink.new) result }
+    ensures ends { (told : Option Texts) → Fits told (F.log shelf.old) (F.log shelf.new)
+        → Ends (PrintComesTo told (Met F.absences F.log shelf.old shelf.new NoText)
+        (Met F.faults F.log shelf.old shelf.new Unreadable) name.now) (Rose (O.faults sink.old) (O.faults sink.new))
+        (Some (O.taken sink.old)) (Some (O.taken sink.new)) result }
 {
     match print_program(alloc, name, shelf, sink) {
         Ok(()) => 0,
@@ -41,13 +42,12 @@ fn print_program<F: Shelf, O: Sink>(
     shelf: &mut F,
     sink: &mut O,
 ) -> Result<(), Refusal>
-    ensures same_texts { F.texts shelf.new ≡ F.texts shelf.old }
-    ensures shelf_faults_kept { F.faults shelf.old ≤ F.faults shelf.new }
-    ensures absences_kept { F.absences shelf.old ≤ F.absences shelf.new }
+    ensures kept { ShelfKept F.texts F.faults F.absences F.log shelf.old shelf.new }
     ensures sink_faults_kept { O.faults sink.old ≤ O.faults sink.new }
 
-    ensures ends { PrintEnds (F.texts shelf.old) (Rose (F.absences shelf.old) (F.absences shelf.new)) (Rose (F.faults shelf.old) (F.faults shelf.new))
-        (Rose (O.faults sink.old) (O.faults sink.new)) name.now (O.written sink.old) (O.written sink.new) result }
+    ensures ends { (told : Option Texts) → Fits told (F.log shelf.old) (F.log shelf.new)
+        → PrintEnds told (Met F.absences F.log shelf.old shelf.new NoText) (Met F.faults F.log shelf.old shelf.new Unreadable)
+        (Rose (O.faults sink.old) (O.faults sink.new)) name.now (Some (O.taken sink.old)) (Some (O.taken sink.new)) result }
 {
     let bytes = printed(alloc, name, shelf)?;
     write_all(sink, &bytes)?;
@@ -56,13 +56,12 @@ fn print_program<F: Shelf, O: Sink>(
 
 // The bytes that the program of this name is printed as: reads its text from the shelf to its end, and then judges it.
 fn printed<F: Shelf>(alloc: Global, name: &str, shelf: &mut F) -> Result<Vec<u8>, Refusal>
-    ensures same_texts { F.texts shelf.new ≡ F.texts shelf.old }
-    ensures faults_kept { F.faults shelf.old ≤ F.faults shelf.new }
-    ensures absences_kept { F.absences shelf.old ≤ F.absences shelf.new }
+    ensures kept { ShelfKept F.texts F.faults F.absences F.log shelf.old shelf.new }
 
-    ensures bytes { IfOk result (λ bytes. IsPrintedAs (F.texts shelf.old) name.now bytes.items) }
-    ensures refused { IfErr result (IsNotPrinted (F.texts shelf.old) (Rose (F.absences shelf.old) (F.absences shelf.new))
-        (Rose (F.faults shelf.old) (F.faults shelf.new)) name.now) }
+    ensures bytes { IfOk result (λ bytes. (told : Option Texts)
+        → Fits told (F.log shelf.old) (F.log shelf.new) → IsPrintedAs told name.now bytes.items) }
+    ensures refused { IfErr result (λ refusal. (told : Option Texts) → Fits told (F.log shelf.old) (F.log shelf.new)
+        → IsNotPrinted told (Met F.absences F.log shelf.old shelf.new NoText) (Met F.faults F.log shelf.old shelf.new Unreadable) name.now refusal) }
 {
     let text = read(alloc, shelf, name, Role::Program)?;
     printed_text(alloc, &text)

@@ -1,5 +1,5 @@
 // What writes the events of a search as they come.
-ghost use Rattle.std.specs.Prelude.{◌≡◌, ℕ, ◌++◌, ◌<◌, ◌≤◌, [], length, Err, IfOk, OnOk, OnErr, Contains};
+ghost use Rattle.std.specs.Prelude.{◌≡◌, ℕ, ◌++◌, ◌<◌, ◌≤◌, [], length, Some, Err, IfOk, OnOk, OnErr, Contains};
 ghost use Rattle.std.specs.Io.KnownBytes.{append_known};
 ghost use Rattle.ll_edge.specs.Counts.{Rose};
 ghost use Rattle.ll_edge.specs.Pieces.{AppendsFront};
@@ -98,17 +98,17 @@ impl<'p, 's, O: Sink, E: Lined> Outlet for Writing<'p, 's, O, E> {
     ghost use Rattle.ll_outlet.specs.Running.{Writes, BreaksOff, IsWelcome, IsReady, told_with};
 
     ghost takes = { λ before event after. Writes
-        (told_with before.problem.now before.proofs before.answers (O.written before.sink.now) (O.faults before.sink.now)
+        (told_with before.problem.now before.proofs before.answers (Some (O.taken before.sink.now)) (O.faults before.sink.now)
         before.sink.ghost_name before.waiting.now.items)
         event
-        (told_with after.problem.now after.proofs after.answers (O.written after.sink.now) (O.faults after.sink.now)
+        (told_with after.problem.now after.proofs after.answers (Some (O.taken after.sink.now)) (O.faults after.sink.now)
         after.sink.ghost_name after.waiting.now.items) };
 
     ghost breaks = { λ before event after. BreaksOff
-        (told_with before.problem.now before.proofs before.answers (O.written before.sink.now) (O.faults before.sink.now)
+        (told_with before.problem.now before.proofs before.answers (Some (O.taken before.sink.now)) (O.faults before.sink.now)
         before.sink.ghost_name before.waiting.now.items)
         event
-        (told_with after.problem.now after.proofs after.answers (O.written after.sink.now) (O.faults after.sink.now)
+        (told_with after.problem.now after.proofs after.answers (Some (O.taken after.sink.now)) (O.faults after.sink.now)
         after.sink.ghost_name after.waiting.now.items) };
 
     ghost welcome = { λ outlet event. IsWelcome outlet.problem.now event
@@ -161,9 +161,9 @@ impl<'p, 's, O: Sink, E: Lined> Outlet for Writing<'p, 's, O, E> {
 // Puts lines behind those that wait, and writes all of them where they are many. After a refusal none wait.
 fn put<O: Sink>(lines: &[u8], waiting: &mut Vec<u8>, sink: &mut O) -> Result<(), OutFault>
     ensures faults_kept { O.faults sink.old ≤ O.faults sink.new }
-    ensures put { OnOk result (Puts (O.written sink.old) waiting.old.items lines.now (O.written sink.new) waiting.new.items) }
+    ensures put { OnOk result (Puts (Some (O.taken sink.old)) waiting.old.items lines.now (Some (O.taken sink.new)) waiting.new.items) }
     ensures none { OnErr result (waiting.new.items ≡ []) }
-    ensures cut { OnErr result (AppendsFront (O.written sink.old) (waiting.old.items ++ lines.now) (O.written sink.new)) }
+    ensures cut { OnErr result (AppendsFront (Some (O.taken sink.old)) (waiting.old.items ++ lines.now) (Some (O.taken sink.new))) }
     ensures write { result ≡ Err Write → Rose (O.faults sink.old) (O.faults sink.new) }
 {
     let Ok(()) = waiting.extend_from_slice(lines) else {
@@ -179,8 +179,8 @@ fn put<O: Sink>(lines: &[u8], waiting: &mut Vec<u8>, sink: &mut O) -> Result<(),
 fn write_waiting<O: Sink>(waiting: &mut Vec<u8>, sink: &mut O) -> Result<(), OutFault>
     ensures faults_kept { O.faults sink.old ≤ O.faults sink.new }
     ensures none { waiting.new.items ≡ [] }
-    ensures written { OnOk result (O.written sink.new ≡ append_known (O.written sink.old) waiting.old.items) }
-    ensures cut { OnErr result ((0 < length waiting.old.items) × AppendsFront (O.written sink.old) waiting.old.items (O.written sink.new)) }
+    ensures written { OnOk result (Some (O.taken sink.new) ≡ append_known (Some (O.taken sink.old)) waiting.old.items) }
+    ensures cut { OnErr result ((0 < length waiting.old.items) × AppendsFront (Some (O.taken sink.old)) waiting.old.items (Some (O.taken sink.new))) }
     ensures write { OnErr result (Rose (O.faults sink.old) (O.faults sink.new)) }
 {
     if waiting.is_empty() {
@@ -198,7 +198,7 @@ fn write_waiting<O: Sink>(waiting: &mut Vec<u8>, sink: &mut O) -> Result<(), Out
 fn refuse<O: Sink>(waiting: &mut Vec<u8>, sink: &mut O) -> OutFault
     ensures faults_kept { O.faults sink.old ≤ O.faults sink.new }
     ensures none { waiting.new.items ≡ [] }
-    ensures cut { AppendsFront (O.written sink.old) waiting.old.items (O.written sink.new) }
+    ensures cut { AppendsFront (Some (O.taken sink.old)) waiting.old.items (Some (O.taken sink.new)) }
     ensures write { result ≡ Write → Rose (O.faults sink.old) (O.faults sink.new) }
 {
     match write_waiting(waiting, sink) {

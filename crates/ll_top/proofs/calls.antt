@@ -5,6 +5,7 @@ pub mod FirstRunLemmas
 pub mod MadeRunLemmas
 pub mod NothingLemmas
 pub mod ProvedLemmas
+pub mod RightLemmas
 pub mod RunLemmas
 pub mod SessionLemmas
 pub mod WaitingLemmas

@@ -6,3 +6,4 @@ pub mod OneText
 pub mod OutcomeLemmas
 pub mod OwnLemmas
 pub mod SessionLaws
+pub mod ToldLemmas

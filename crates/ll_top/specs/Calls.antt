@@ -11,14 +11,14 @@ use Rattle.ll_words.specs.Words.{IsConvert, IsMake, IsMadeRun}
 use Rattle.ll_laws.specs.Problem.{ProblemTree}
 use Rattle.ll_laws.specs.Output.{run_status}
 use Rattle.ll_top.specs.Outcome.{RunComesTo, whole_text}
-use Rattle.ll_judge.specs.Outcome.{RunAsks, PrintComesTo}
+use Rattle.ll_judge.specs.Outcome.{AnyName, NoName, RunAsks, PrintComesTo}
 use Rattle.ll_check.specs.Outcome.{CheckComesTo}
 use Rattle.ll_top.specs.Sessions.{SessionComesTo}
 use Rattle.ll_top.specs.Deepening.{DeepenComesTo}
 use Rattle.ll_judge.specs.Converting.{ConvertComesTo}
 
 -- what a call with these words comes to: the status and the whole text, where memory does not run out and no write fails
-pub data ComesTo (words : List (List ℕ)) (told : Option Texts) (absence read_failed : Type 0) (status : ℕ) (text : List ℕ) : Type 0 where
+pub data ComesTo (words : List (List ℕ)) (told : Option Texts) (absence read_failed : List ℕ → Type 0) (status : ℕ) (text : List ℕ) : Type 0 where
   misused : (number : ℕ) → IsBadWord words number → status ≡ 3 → text ≡ fault_text (Usage number) → ComesTo words told absence read_failed status text
   runs : (run : RunWords) → IsRun words run → RunComesTo told absence read_failed run status text → ComesTo words told absence read_failed status text
   sessions : (session : SessionWords) → IsSession words session → SessionComesTo told absence read_failed session status text
@@ -38,7 +38,7 @@ pub data ComesTo (words : List (List ℕ)) (told : Option Texts) (absence read_f
 abbrev pub Completes : List (List ℕ) → Option Texts → Type 0 → Type 0 → Option (List ℕ) → Option (List ℕ) → ℕ → Type 0
 Completes words told read_failed write_failed before after status =
     (texts : Texts) (meant : ℕ) (text : List ℕ) → told ≡ Some texts → (read_failed → ⊥) → (write_failed → ⊥)
-    → ComesTo words (Some texts) (Unit {0}) ⊥ meant text
+    → ComesTo words (Some texts) AnyName NoName meant text
     → ((status ≡ meant) × (after ≡ append_known before text)) ⊎ (status ≡ 10)
 
 -- The headline, for a run of whole searches, whatever its number of workers: where the texts are told and ask a problem, and neither a read

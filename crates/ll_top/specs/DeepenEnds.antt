@@ -22,7 +22,7 @@ abbrev pub first_run : DeepenWords → RunWords
 first_run deepen = run_within deepen deepen.series.from
 
 -- why a deepening refuses a text
-abbrev pub DeepenRefuses : Option Texts → Type 0 → Type 0 → DeepenWords → Role → TextRefusal → Type 0
+abbrev pub DeepenRefuses : Option Texts → (List ℕ → Type 0) → (List ℕ → Type 0) → DeepenWords → Role → TextRefusal → Type 0
 DeepenRefuses told absence read_failed deepen role refusal =
     RunFails told absence read_failed (first_run deepen) (cause_of (name_of (first_run deepen) role) refusal)
 

@@ -19,7 +19,7 @@ bound_line n = line (codes "bound " ++ decimal n)
 
 -- What a deepening comes to: the first bound of the series at which the search has an answer, or reaches no bound, or the last bound if there
 -- is none, and the text and the status of the run with it; or a fault line. The faults are those of a run, whatever its bound.
-pub data DeepenComesTo (told : Option Texts) (absence read_failed : Type 0) (deepen : DeepenWords) (status : ℕ) (text : List ℕ) : Type 0 where
+pub data DeepenComesTo (told : Option Texts) (absence read_failed : List ℕ → Type 0) (deepen : DeepenWords) (status : ℕ) (text : List ℕ) : Type 0 where
   deepened : (n : ℕ) (p : ProblemTree) → RunAsks told (run_within deepen n) p → IsDeciding p deepen.series n → status ≡ run_status p
       → text ≡ bound_line n ++ whole_text deepen.proofs p
       → DeepenComesTo told absence read_failed deepen status text

@@ -22,7 +22,8 @@ status_of_found Nothing = 1
 status_of_found Bound = 2
 
 -- how the search of a run ended, before any fault line is written
-abbrev pub RunEnds : Option Texts → Type 0 → Type 0 → Type 0 → RunWords → Option (List ℕ) → Option (List ℕ) → Result Found Refusal → Type 0
+abbrev pub RunEnds : Option Texts → (List ℕ → Type 0) → (List ℕ → Type 0) → Type 0 → RunWords → Option (List ℕ) → Option (List ℕ) → Result Found Refusal
+    → Type 0
 RunEnds told absence read_failed write_failed run before after (Ok found) =
     (p : ProblemTree) × RunAsks told run p × IsValid p × (status_of_found found ≡ status_of_run run.first p)
     × (after ≡ append_known before (text_of_run run.first run.proofs p))

@@ -12,3 +12,5 @@ pub mod MadeEnds
 pub mod Running
 pub mod Proved
 pub mod Nothing
+pub mod Reads
+pub mod Shown

@@ -1,19 +1,21 @@
 -- What a run says that ends with status 1.
-use Rattle.std.specs.Prelude.{Option}
+use Rattle.std.specs.Prelude.{◌≡◌, ℕ, true, List, Option}
 use Rattle.ll_edge.specs.Texts.{Texts}
+use Rattle.ll_bank.specs.Term.{Term}
 use Rattle.ll_laws.specs.Problem.{ProblemTree}
-use Rattle.ll_laws.specs.Line.{DerivationLines}
-use Rattle.ll_laws.specs.Completeness.{ShowsClosed}
+use Rattle.ll_textbook.specs.Follows.{IsFilling, Follows, reckons, IsNumberless}
 use Rattle.ll_words.specs.Words.{RunWords}
 use Rattle.ll_judge.specs.Outcome.{RunAsks}
 
--- No derivation shows the query of the problem (derivations after Hodas and Miller 1994): none at all, whatever closed terms it has for
--- the query's variables and however many nodes. Derivations with whole-number goals are left out.
-abbrev pub NoneShows : ProblemTree → Type 0
-NoneShows p = (d : DerivationLines) → ShowsClosed p d → ⊥
+-- The query of the problem follows from the program with no closed terms for its variables and by no number of nodes (derivability after Hodas
+-- and Miller 1994), but perhaps by derivations that have whole-number goals.
+abbrev pub NoneFollows : ProblemTree → Type 0
+NoneFollows p = (ts : List Term) (m : ℕ) (h : Follows p m ts) → IsFilling p ts → reckons h ≡ true
 
--- the texts of a run ask this problem, whose query no derivation shows
+-- the texts of a run ask this problem, whose query does not follow
 pub record AsksInVain (told : Option Texts) (run : RunWords) : Type 0 where
   pub problem : ProblemTree
   pub asks : RunAsks told run problem
-  pub not_shown : NoneShows problem
+  pub none : NoneFollows problem
+  -- without a whole-number goal in the texts it does not follow at all
+  pub nothing : IsNumberless problem → (ts : List Term) (m : ℕ) → IsFilling problem ts → Follows problem m ts → ⊥

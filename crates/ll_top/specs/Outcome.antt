@@ -42,7 +42,7 @@ abbrev pub status_of_run : Option ℕ → ProblemTree → ℕ
 status_of_run wanted p = if is_some (front_events wanted p) then 0 else run_status p
 
 -- what a run comes to: its text, or a fault line, each with its status
-pub data RunComesTo (told : Option Texts) (absence read_failed : Type 0) (run : RunWords) (status : ℕ) (text : List ℕ) : Type 0 where
+pub data RunComesTo (told : Option Texts) (absence read_failed : List ℕ → Type 0) (run : RunWords) (status : ℕ) (text : List ℕ) : Type 0 where
   ran : (p : ProblemTree) → RunAsks told run p → status ≡ status_of_run run.first p → text ≡ text_of_run run.first run.proofs p
       → RunComesTo told absence read_failed run status text
   failed : (cause : Cause) → RunFails told absence read_failed run cause → status ≡ cause_status cause → text ≡ fault_text cause

@@ -1,8 +1,9 @@
 -- How the parts of a session end, in the program's own types.
-use Rattle.std.specs.Prelude.{◌≡◌, ℕ, Bool, List, [], Option}
+use Rattle.std.specs.Prelude.{◌≡◌, ℕ, Bool, List, [], Option, IfOk}
 use Rattle.std.specs.Io.KnownBytes.{append_known}
 use Rattle.ll_edge.specs.Pieces.{AppendsFront}
 use Rattle.ll_edge.specs.Texts.{Texts}
+use Rattle.ll_laws.specs.Valid.{IsValid}
 use Rattle.ll_parser.specs.Raw.{ProgramTree}
 use Rattle.ll_session.specs.Queries.{QueryLine, AreQueries}
 use Rattle.ll_judge.specs.declared.judge.Role.{Role}
@@ -21,12 +22,12 @@ name_in_session session Query = session.queries
 name_in_session session Proof = []
 
 -- why a session refuses a text
-abbrev pub RefusesText : Option Texts → Type 0 → Type 0 → SessionWords → Role → TextRefusal → Type 0
+abbrev pub RefusesText : Option Texts → (List ℕ → Type 0) → (List ℕ → Type 0) → SessionWords → Role → TextRefusal → Type 0
 RefusesText told absence read_failed session role refusal = SessionFails told absence read_failed session (cause_of (name_in_session session role) refusal)
 
--- the reply to a query was appended
+-- the reply to a query was appended, and what it asks is valid
 abbrev pub WritesReply : Bool → List ℕ → Option (List ℕ) → QueryLine → Option (List ℕ) → Type 0
-WritesReply proofs name before query after = after ≡ append_known before (reply_text proofs name query)
+WritesReply proofs name before query after = (after ≡ append_known before (reply_text proofs name query)) × IfOk query.asked IsValid
 
 -- only a prefix of it was
 abbrev pub CutsReply : Bool → List ℕ → Option (List ℕ) → QueryLine → Option (List ℕ) → Type 0

@@ -36,14 +36,14 @@ pub record SessionAsks (told : Option Texts) (session : SessionWords) (queries :
   pub are : AreQueries tree text session.bound queries
 
 -- Why a session ends with a fault line: its texts are not both read, or its program has a fault. A fault of a query's line is none of these.
-pub data SessionFails (told : Option Texts) (absence read_failed : Type 0) (session : SessionWords) : Cause → Type 0 where
+pub data SessionFails (told : Option Texts) (absence read_failed : List ℕ → Type 0) (session : SessionWords) : Cause → Type 0 where
   session_not_read : (cause : Cause) → ReadFails told absence read_failed (session.program ∷ session.queries ∷ []) cause
       → SessionFails told absence read_failed session cause
   faulty_program : (program text : List ℕ) (f : Fault) → IsRead told session.program program → IsRead told session.queries text → IsProgramFault program f
       → SessionFails told absence read_failed session (Faulty session.program f)
 
 -- what a session comes to: the replies to all its queries, or a fault line, each with its status
-pub data SessionComesTo (told : Option Texts) (absence read_failed : Type 0) (session : SessionWords) (status : ℕ) (text : List ℕ) : Type 0 where
+pub data SessionComesTo (told : Option Texts) (absence read_failed : List ℕ → Type 0) (session : SessionWords) (status : ℕ) (text : List ℕ) : Type 0 where
   replied : (queries : List QueryLine) → SessionAsks told session queries → status ≡ 0 → text ≡ replies_text session.proofs session.queries queries
       → SessionComesTo told absence read_failed session status text
   session_failed : (cause : Cause) → SessionFails told absence read_failed session cause → status ≡ cause_status cause → text ≡ fault_text cause

@@ -1,7 +1,9 @@
 //! Iterative deepening (Korf 1985): a run with the first bound of a series that decides.
-ghost use Rattle.std.specs.Prelude.{◌≡◌, ◌≤◌, IfOk, IfErr};
+ghost use Rattle.std.specs.Prelude.{◌≡◌, ◌≤◌, Option, Some, IfOk, IfErr};
 ghost use Rattle.ll_deepen.specs.Deciding.{events_within, cost_within, IsDeciding, IsSeries};
 ghost use Rattle.ll_edge.specs.Counts.{Rose};
+ghost use Rattle.ll_edge.specs.Log.{ShelfKept, Fits, Met, NoText, Unreadable};
+ghost use Rattle.ll_edge.specs.Texts.{Texts};
 ghost use Rattle.ll_laws.specs.Valid.{IsValid};
 ghost use Rattle.ll_order.specs.Outlets.{CountsOf};
 ghost use Rattle.ll_judge.specs.declared.refusing.Refusal.TheVariants.{OutOfMemory};
@@ -11,6 +13,7 @@ ghost use Rattle.ll_top.specs.DeepenEnds.{with_bound, first_run, DeepenRefuses, 
 ghost use Rattle.ll_top.specs.Endings.{status_of_found};
 ghost use Rattle.ll_judge.specs.Outcome.{name_of};
 ghost use Rattle.ll_top.specs.OwnEnds.{EndsOwn, NoneFails};
+ghost use Rattle.ll_top.specs.Shown.{DeepenShown};
 ghost use Rattle.ll_words.specs.Words.{shown_deepen};
 
 use crate::found_status;
@@ -20,7 +23,8 @@ use crate::team::Team;
 use ll_deepen::{Series, is_decided};
 use ll_edge::{Gate, Shelf, Sink};
 use ll_judge::{Refusal, Role, prepare, refuse, write_heading};
-use ll_laws::{Counts, Problem};
+use ll_laws::{Counts, Problem, answers_are_shown};
+use ll_textbook::answers_are_what_follows;
 use ll_words::{DeepenCommand, RunCommand};
 use std::sync::Wait;
 use std::thread::Threads;
@@ -35,14 +39,15 @@ pub fn serve_deepen<R: Threads + Wait + Sync, F: Shelf, O: Sink, G: Gate>(
 ) -> u8
     requires series { IsSeries deepen.now.series }
 
-    ensures same_texts { F.texts shelf.new ≡ F.texts shelf.old }
-    ensures shelf_faults_kept { F.faults shelf.old ≤ F.faults shelf.new }
-    ensures absences_kept { F.absences shelf.old ≤ F.absences shelf.new }
+    ensures kept { ShelfKept F.texts F.faults F.absences F.log shelf.old shelf.new }
     ensures sink_faults_kept { O.faults sink.old ≤ O.faults sink.new }
 
-    ensures ends { Ends (DeepenComesTo (F.texts shelf.old) (Rose (F.absences shelf.old) (F.absences shelf.new))
-        (Rose (F.faults shelf.old) (F.faults shelf.new)) (shown_deepen deepen.now)) (Rose (O.faults sink.old) (O.faults sink.new))
-        (O.written sink.old) (O.written sink.new) result }
+    ensures ends { (told : Option Texts) → Fits told (F.log shelf.old) (F.log shelf.new)
+        → Ends (DeepenComesTo told (Met F.absences F.log shelf.old shelf.new NoText) (Met F.faults F.log shelf.old shelf.new Unreadable)
+        (shown_deepen deepen.now))
+        (Rose (O.faults sink.old) (O.faults sink.new)) (Some (O.taken sink.old)) (Some (O.taken sink.new)) result }
+    ensures deepened { result ≤ 2 → (told : Option Texts) → Fits told (F.log shelf.old) (F.log shelf.new)
+        → DeepenShown told (shown_deepen deepen.now) (Some (O.taken sink.old)) (Some (O.taken sink.new)) result }
 {
     match deepen_texts(team, deepen, shelf, sink) {
         Ok(found) => found_status(found),
@@ -75,17 +80,20 @@ fn deepen_texts<R: Threads + Wait + Sync, F: Shelf, O: Sink, G: Gate>(
 ) -> Result<Found, Refusal>
     requires series { IsSeries deepen.now.series }
 
-    ensures same_texts { F.texts shelf.new ≡ F.texts shelf.old }
-    ensures shelf_faults_kept { F.faults shelf.old ≤ F.faults shelf.new }
-    ensures absences_kept { F.absences shelf.old ≤ F.absences shelf.new }
+    ensures kept { ShelfKept F.texts F.faults F.absences F.log shelf.old shelf.new }
     ensures sink_faults_kept { O.faults sink.old ≤ O.faults sink.new }
 
-    ensures ends { EndsOwn (DeepenComesTo (F.texts shelf.old) (Rose (F.absences shelf.old) (F.absences shelf.new))
-        (Rose (F.faults shelf.old) (F.faults shelf.new)) (shown_deepen deepen.now)) status_of_found
-        (DeepenRefuses (F.texts shelf.old) (Rose (F.absences shelf.old) (F.absences shelf.new)) (Rose (F.faults shelf.old) (F.faults shelf.new))
+    ensures ends { (told : Option Texts) → Fits told (F.log shelf.old) (F.log shelf.new)
+        → EndsOwn (DeepenComesTo told (Met F.absences F.log shelf.old shelf.new NoText) (Met F.faults F.log shelf.old shelf.new Unreadable)
         (shown_deepen deepen.now))
-        (Rose (O.faults sink.old) (O.faults sink.new)) (O.written sink.old) (O.written sink.new) result }
+        status_of_found (DeepenRefuses told (Met F.absences F.log shelf.old shelf.new NoText) (Met F.faults F.log shelf.old shelf.new Unreadable)
+        (shown_deepen deepen.now))
+        (Rose (O.faults sink.old) (O.faults sink.new)) (Some (O.taken sink.old)) (Some (O.taken sink.new)) result }
+    ensures deepened { IfOk result (λ found. (told : Option Texts) → Fits told (F.log shelf.old) (F.log shelf.new)
+        → DeepenShown told (shown_deepen deepen.now) (Some (O.taken sink.old)) (Some (O.taken sink.new)) (status_of_found found)) }
 {
+    answers_are_shown();
+    answers_are_what_follows();
     let first = RunCommand {
         program: deepen.program,
         query: deepen.query,
@@ -110,7 +118,7 @@ fn run_deepened<R: Threads + Wait + Sync, O: Sink, G: Gate>(
     requires series { IsSeries «series».now }
     ensures faults_kept { O.faults sink.old ≤ O.faults sink.new }
     ensures ends { EndsOwn (DeepensTo proofs «series».now problem.old) status_of_found NoneFails
-        (Rose (O.faults sink.old) (O.faults sink.new)) (O.written sink.old) (O.written sink.new) result }
+        (Rose (O.faults sink.old) (O.faults sink.new)) (Some (O.taken sink.old)) (Some (O.taken sink.new)) result }
 {
     let bound = decide(team, series, problem)?;
     write_heading(sink, "bound ", bound)?;

@@ -42,9 +42,9 @@ pub fn run_first<R: Threads + Wait + Sync, O: Sink, G: Gate>(
 
     ensures faults_kept { O.faults sink.old ≤ O.faults sink.new }
     ensures found { IfOk result (λ found. status_of_found found ≡ status_of_run (Some wanted) problem.now) }
-    ensures text { OnOk result (O.written sink.new ≡ append_known (O.written sink.old) (text_of_run (Some wanted) proofs problem.now)) }
+    ensures text { OnOk result (Some (O.taken sink.new) ≡ append_known (Some (O.taken sink.old)) (text_of_run (Some wanted) proofs problem.now)) }
     ensures refused { IfErr result (IsRunRefusal (O.faults sink.old) (O.faults sink.new)) }
-    ensures prefix { OnErr result (AppendsFront (O.written sink.old) (text_of_run (Some wanted) proofs problem.now) (O.written sink.new)) }
+    ensures prefix { OnErr result (AppendsFront (Some (O.taken sink.old)) (text_of_run (Some wanted) proofs problem.now) (Some (O.taken sink.new))) }
 {
     let mut lines = Vec::new(team.alloc);
     let mut waiting = Vec::new(team.alloc);
@@ -85,10 +85,10 @@ fn write_front<K: Asked, R: Threads + Wait + Sync, O: Sink, G: Gate>(
     ensures faults_kept { O.faults sink.old ≤ O.faults sink.new }
     ensures stops { IfOk result (λ o. (o ≡ None) ↔ (wanted ≤ count_by is_answer (problem_events problem.now))) }
     ensures counts { IfOk result (λ o. IfSome o (λ counts. CountsOf counts (problem_events problem.now) (problem_cost problem.now))) }
-    ensures lines { OnOk result (O.written sink.new ≡ append_known (O.written sink.old)
+    ensures lines { OnOk result (Some (O.taken sink.new) ≡ append_known (Some (O.taken sink.old))
         (all_lines proofs problem.now 0 (first_of (problem_events problem.now) wanted))) }
     ensures refused { IfErr result (IsRunRefusal (O.faults sink.old) (O.faults sink.new)) }
-    ensures prefix { OnErr result (AppendsFront (O.written sink.old) (text_of_run (Some wanted) proofs problem.now) (O.written sink.new)) }
+    ensures prefix { OnErr result (AppendsFront (Some (O.taken sink.old)) (text_of_run (Some wanted) proofs problem.now) (Some (O.taken sink.new))) }
 {
     if proofs {
         return write_front_as::<Event, R, O, G>(
@@ -116,10 +116,10 @@ fn write_front_as<E: Lined, R: Threads + Wait + Sync, O: Sink, G: Gate>(
     ensures faults_kept { O.faults sink.old ≤ O.faults sink.new }
     ensures stops { IfOk result (λ o. (o ≡ None) ↔ (wanted ≤ count_by is_answer (problem_events problem.now))) }
     ensures counts { IfOk result (λ o. IfSome o (λ counts. CountsOf counts (problem_events problem.now) (problem_cost problem.now))) }
-    ensures lines { OnOk result (O.written sink.new ≡ append_known (O.written sink.old)
+    ensures lines { OnOk result (Some (O.taken sink.new) ≡ append_known (Some (O.taken sink.old))
         (all_lines proofs problem.now 0 (first_of (problem_events problem.now) wanted))) }
     ensures refused { IfErr result (IsRunRefusal (O.faults sink.old) (O.faults sink.new)) }
-    ensures prefix { OnErr result (AppendsFront (O.written sink.old) (text_of_run (Some wanted) proofs problem.now) (O.written sink.new)) }
+    ensures prefix { OnErr result (AppendsFront (Some (O.taken sink.old)) (text_of_run (Some wanted) proofs problem.now) (Some (O.taken sink.new))) }
 {
     let mut out = First::new(
         Writing::<O, E> {
@@ -154,12 +154,12 @@ fn give_front<'p, 's, E: Lined, R: Threads + Wait + Sync, O: Sink, G: Gate>(
     ensures faults_kept { O.faults out.old.out.sink.now ≤ O.faults out.new.out.sink.now }
     ensures stops { IfOk result (λ o. (o ≡ None) ↔ (out.old.limit ≤ count_by is_answer (problem_events problem.entry.now))) }
     ensures counts { IfOk result (λ o. IfSome o (λ counts. CountsOf counts (problem_events problem.entry.now) (problem_cost problem.entry.now))) }
-    ensures lines { OnOk result (O.written out.new.out.sink.now
-        ≡ append_known (O.written out.old.out.sink.now) (all_lines out.old.out.proofs problem.entry.now 0
+    ensures lines { OnOk result (Some (O.taken out.new.out.sink.now)
+        ≡ append_known (Some (O.taken out.old.out.sink.now)) (all_lines out.old.out.proofs problem.entry.now 0
         (first_of (problem_events problem.entry.now) out.old.limit))) }
     ensures refused { IfErr result (IsRunRefusal (O.faults out.old.out.sink.now) (O.faults out.new.out.sink.now)) }
-    ensures prefix { OnErr result (AppendsFront (O.written out.old.out.sink.now) (text_of_run (Some out.old.limit) out.old.out.proofs problem.entry.now)
-        (O.written out.new.out.sink.now)) }
+    ensures prefix { OnErr result (AppendsFront (Some (O.taken out.old.out.sink.now)) (text_of_run (Some out.old.limit) out.old.out.proofs problem.entry.now)
+        (Some (O.taken out.new.out.sink.now))) }
 {
     answers_are_shown();
     match crew_first(team.rt, team.alloc, problem, team.workers, team.gate, out) {
@@ -172,9 +172,9 @@ fn give_front<'p, 's, E: Lined, R: Threads + Wait + Sync, O: Sink, G: Gate>(
 // Writes the line of a run that stops after so many answers. After a refusal a prefix of it was written.
 fn write_stop<O: Sink>(answers: u32, sink: &mut O) -> Result<(), WriteFailed>
     ensures faults_kept { O.faults sink.old ≤ O.faults sink.new }
-    ensures line { OnOk result (O.written sink.new ≡ append_known (O.written sink.old) (stopped_text answers)) }
+    ensures line { OnOk result (Some (O.taken sink.new) ≡ append_known (Some (O.taken sink.old)) (stopped_text answers)) }
     ensures failed { OnErr result (Rose (O.faults sink.old) (O.faults sink.new)) }
-    ensures prefix { OnErr result (AppendsFront (O.written sink.old) (stopped_text answers) (O.written sink.new)) }
+    ensures prefix { OnErr result (AppendsFront (Some (O.taken sink.old)) (stopped_text answers) (Some (O.taken sink.new))) }
 {
     let mut digits = Buffer::new();
     let digits = digits.format(answers);

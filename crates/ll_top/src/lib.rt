@@ -13,12 +13,14 @@ mod team;
 ghost use Rattle.std.specs.Prelude.{◌≡◌, ◌≤◌, ◌<◌, ◌↔◌, ◌⊎◌, ℕ, List, Option, None, Some, IfSome, IfOk, IfErr, OnOk, OnErr};
 ghost use Rattle.std.specs.Io.KnownBytes.{append_known};
 ghost use Rattle.ll_edge.specs.Counts.{Rose};
+ghost use Rattle.ll_edge.specs.Log.{ShelfKept, Agrees, Fits, Met, NoText, Unreadable};
 ghost use Rattle.ll_edge.specs.Pieces.{AppendsFront};
 ghost use Rattle.ll_edge.specs.Texts.{Texts};
 ghost use Rattle.ll_laws.specs.Valid.{IsValid};
-ghost use Rattle.ll_words.specs.Words.{FitsForm, cover_form, IsInForm, IsInWorkersForm, RunWords, IsRun, shown_words, word_texts};
-ghost use Rattle.ll_judge.specs.Outcome.{name_of};
-ghost use Rattle.ll_check.specs.Outcome.{IsDenied, IsCoveredCall, IsUncoveredCall};
+ghost use Rattle.ll_words.specs.Words.{FitsForm, cover_form, IsInForm, IsInWorkersForm, RunWords, IsRun, SessionWords, IsSession, DeepenWords, IsDeepen};
+ghost use Rattle.ll_words.specs.Words.{CheckWords, IsCheck, shown_words, word_texts};
+ghost use Rattle.ll_judge.specs.Outcome.{AnyName, NoName, name_of};
+ghost use Rattle.ll_check.specs.Outcome.{IsProved, IsDenied, IsCoveredCall, IsUncoveredCall};
 ghost use Rattle.ll_top.specs.Outcome.{RunComesTo, text_of_run, status_of_run};
 ghost use Rattle.ll_top.specs.Calls.{ComesTo, Completes, Headline};
 ghost use Rattle.ll_judge.specs.CallEnds.{Ends};
@@ -26,17 +28,20 @@ ghost use Rattle.ll_top.specs.Endings.{status_of_found, RunEnds};
 ghost use Rattle.ll_top.specs.Running.{IsRunRefusal};
 ghost use Rattle.ll_top.specs.Proved.{WritesShown};
 ghost use Rattle.ll_top.specs.Nothing.{AsksInVain};
+ghost use Rattle.ll_top.specs.Reads.{RunReads};
+ghost use Rattle.ll_top.specs.Shown.{SessionShown, DeepenShown};
 
 use deepening::serve_deepen;
 use first_run::run_first;
 use ll_check::serve_check;
-use ll_edge::{Gate, Shelf, Sink};
+use ll_edge::{FileShelf, Gate, OpenGate, Shelf, Sink, StdSink};
 use ll_judge::{Cause, Refusal, Role, prepare, refuse, serve_convert, serve_print};
-use ll_laws::{Problem, answers_are_shown, search_is_complete};
+use ll_laws::{Problem, answers_are_shown};
 use ll_lexer::one_reading;
 use ll_parser::{one_program, one_query};
 use ll_prooftext::one_derivation_in_any;
 use ll_session::one_session;
+use ll_textbook::answers_are_what_follows;
 use ll_words::{Command, RunCommand, read_command, workers_of};
 pub use made_runs::made_asks;
 use made_runs::serve_made_run;
@@ -44,6 +49,7 @@ use making::serve_make;
 use run::{Found, run};
 use session::serve_session;
 use std::alloc::Global;
+use std::rt::Files;
 use std::sync::Wait;
 use std::thread::Threads;
 use team::Team;
@@ -65,45 +71,98 @@ pub fn lolli<R: Threads + Wait + Sync, F: Shelf, O: Sink, G: Gate>(
     sink: &mut O,
     gate: &G,
 ) -> u8
-    // What was written, and why: the words, the texts as far as they are told, and the counts determine it.
-    ensures outcome { Ends (ComesTo (word_texts words.now) (F.texts shelf.old) (Rose (F.absences shelf.old) (F.absences shelf.new))
-        (Rose (F.faults shelf.old) (F.faults shelf.new))) (Rose (O.faults sink.old) (O.faults sink.new))
-        (O.written sink.old) (O.written sink.new) result }
+    // What was taken, and why, over every shelf and sink, the real ones too: with any texts that the answers of this call fit.
+    ensures outcome { (told : Option Texts) → Fits told (F.log shelf.old) (F.log shelf.new)
+        → Ends (ComesTo (word_texts words.now) told (Met F.absences F.log shelf.old shelf.new NoText)
+        (Met F.faults F.log shelf.old shelf.new Unreadable)) (Rose (O.faults sink.old) (O.faults sink.new)) (Some (O.taken sink.old)) (Some
+        (O.taken sink.new)) result }
 
     // Where nothing failed, the one status and the whole text, or want of memory.
-    ensures complete { Completes (word_texts words.now) (F.texts shelf.old) (Rose (F.faults shelf.old) (F.faults shelf.new))
-        (Rose (O.faults sink.old) (O.faults sink.new)) (O.written sink.old) (O.written sink.new) result }
+    ensures complete { (told : Option Texts) → Fits told (F.log shelf.old) (F.log shelf.new)
+        → Completes (word_texts words.now) told (Rose (F.faults shelf.old) (F.faults shelf.new)) (Rose (O.faults sink.old) (O.faults sink.new))
+        (Some (O.taken sink.old)) (Some (O.taken sink.new)) result }
 
     // The headline: a run whose texts ask a problem writes the answers of one engine in its order, and its counts, whatever the number of workers.
-    ensures headline { Headline (word_texts words.now) (F.texts shelf.old) (O.written sink.old) (O.written sink.new) result }
+    ensures headline { (told : Option Texts) → Fits told (F.log shelf.old) (F.log shelf.new)
+        → Headline (word_texts words.now) told (Some (O.taken sink.old)) (Some (O.taken sink.new)) result }
 
-    // Each answer of a run has a derivation that shows it; with `--proofs` its text stands behind the answer's.
+    // Exactly, for a run that ends: the shelf handed out the program's text and then the query's, each whole, and nothing else, and the sink took
+    // their output.
+    ensures run_reads { (run : RunWords) → IsRun (word_texts words.now) run → result ≤ 2
+        → RunReads run (F.log shelf.old) (F.log shelf.new) (O.taken sink.old) (O.taken sink.new) result }
+
+    // Each answer of a run is right: its query follows from the program in the sequent calculus, and so does each instance of it. With `--proofs` the
+    // text of a derivation stands behind it. What follows within the bound is an instance of an answer, whole-number goals aside.
     ensures proved { (run : RunWords) → IsRun (word_texts words.now) run → result ≤ 2
-        → WritesShown (F.texts shelf.old) run (O.written sink.old) (O.written sink.new) }
+        → (told : Option Texts) → Fits told (F.log shelf.old) (F.log shelf.new) → WritesShown told run (Some (O.taken sink.old)) (Some (O.taken sink.new)) }
 
-    // Where a run ends with status 1, no derivation shows its query, whatever its terms and its size, but for those with whole-number nodes.
-    ensures nothing { (run : RunWords) → IsRun (word_texts words.now) run → result ≡ 1 → AsksInVain (F.texts shelf.old) run }
+    // Where a run ends with status 1, its query does not follow, whatever its terms and the number of nodes, but perhaps by whole-number goals.
+    ensures nothing { (run : RunWords) → IsRun (word_texts words.now) run → result ≡ 1
+        → (told : Option Texts) → Fits told (F.log shelf.old) (F.log shelf.new) → AsksInVain told run }
 
-    // The causes of statuses, over every shelf and sink.
+    // The reply to each query of a session is right in the same way, and so is the run with the bound that decides.
+    ensures replied { (session : SessionWords) → IsSession (word_texts words.now) session → result ≡ 0
+        → (told : Option Texts) → Fits told (F.log shelf.old) (F.log shelf.new) → SessionShown told session (Some (O.taken sink.old)) (Some
+        (O.taken sink.new)) }
+    ensures deepened { (deepen : DeepenWords) → IsDeepen (word_texts words.now) deepen → result ≤ 2
+        → (told : Option Texts) → Fits told (F.log shelf.old) (F.log shelf.new) → DeepenShown told deepen (Some (O.taken sink.old)) (Some
+        (O.taken sink.new)) result }
+
+    // Where a derivation shows the query, so that a check or a cover ends with 0, the query follows with its terms, by as many nodes.
+    ensures shown { (check : CheckWords) → IsCheck (word_texts words.now) check → result ≡ 0
+        → (told : Option Texts) → Fits told (F.log shelf.old) (F.log shelf.new) → IsProved told check }
+    ensures denied { result ≡ 9 → (told : Option Texts) → Fits told (F.log shelf.old) (F.log shelf.new) → IsDenied (word_texts words.now) told }
+    ensures covered { FitsForm cover_form (word_texts words.now) → result ≡ 0
+        → (told : Option Texts) → Fits told (F.log shelf.old) (F.log shelf.new) → IsCoveredCall (word_texts words.now) told }
+    ensures uncovered { result ≡ 11 → (told : Option Texts) → Fits told (F.log shelf.old) (F.log shelf.new) → IsUncoveredCall (word_texts words.now) told }
+
+    // The causes of the other statuses.
     ensures usage { result ≡ 3 → IsInForm (word_texts words.now) → ⊥ }
     ensures misused { (IsInForm (word_texts words.now) → ⊥) → (result ≡ 3) ⊎ (result ≡ 6) }
     ensures absent { result ≡ 4 → Rose (F.absences shelf.old) (F.absences shelf.new) }
     ensures unreadable { result ≡ 5 → Rose (F.faults shelf.old) (F.faults shelf.new) }
     ensures unwritable { result ≡ 6 → Rose (O.faults sink.old) (O.faults sink.new) }
-    ensures denied { result ≡ 9 → IsDenied (word_texts words.now) (F.texts shelf.old) }
-    ensures covered { FitsForm cover_form (word_texts words.now) → result ≡ 0 → IsCoveredCall (word_texts words.now) (F.texts shelf.old) }
-    ensures uncovered { result ≡ 11 → IsUncoveredCall (word_texts words.now) (F.texts shelf.old) }
 
-    ensures same_texts { F.texts shelf.new ≡ F.texts shelf.old }
-    ensures counts_kept { (F.faults shelf.old ≤ F.faults shelf.new)
-        × (F.absences shelf.old ≤ F.absences shelf.new)
-        × (O.faults sink.old ≤ O.faults sink.new) }
+    ensures kept { ShelfKept F.texts F.faults F.absences F.log shelf.old shelf.new }
+    ensures sink_faults_kept { O.faults sink.old ≤ O.faults sink.new }
+
+    // Where the shelf tells its texts, they are texts that fit; and the sink may tell what was written.
+    ensures told_outcome { Ends (ComesTo (word_texts words.now) (F.texts shelf.old) (Met F.absences F.log shelf.old shelf.new NoText)
+        (Met F.faults F.log shelf.old shelf.new Unreadable)) (Rose (O.faults sink.old) (O.faults sink.new)) (O.written sink.old) (O.written sink.new) result }
+    ensures told_complete { Completes (word_texts words.now) (F.texts shelf.old) (Rose (F.faults shelf.old) (F.faults shelf.new))
+        (Rose (O.faults sink.old) (O.faults sink.new)) (O.written sink.old) (O.written sink.new) result }
+    ensures told_headline { Headline (word_texts words.now) (F.texts shelf.old) (O.written sink.old) (O.written sink.new) result }
+    ensures told_proved { (run : RunWords) → IsRun (word_texts words.now) run → result ≤ 2
+        → WritesShown (F.texts shelf.old) run (O.written sink.old) (O.written sink.new) }
+    ensures told_nothing { (run : RunWords) → IsRun (word_texts words.now) run → result ≡ 1 → AsksInVain (F.texts shelf.old) run }
+    ensures told_denied { result ≡ 9 → IsDenied (word_texts words.now) (F.texts shelf.old) }
+    ensures told_covered { FitsForm cover_form (word_texts words.now) → result ≡ 0 → IsCoveredCall (word_texts words.now) (F.texts shelf.old) }
+    ensures told_uncovered { result ≡ 11 → IsUncoveredCall (word_texts words.now) (F.texts shelf.old) }
 {
     one_text();
-    match lolli_plain(alloc, words, shelf, sink) {
-        Some(status) => status,
-        None => serve_search(rt, alloc, words, shelf, sink, gate),
-    }
+    answers_are_what_follows();
+    serve(rt, alloc, words, shelf, sink, gate)
+}
+
+/// Does what `lolli` does over the files and the standard output of the system: this is what the program runs. What it says of texts holds of all
+/// that the calls of the system fit.
+pub fn lolli_real<R: Threads + Wait + Sync + Files + Print>(
+    rt: &R,
+    alloc: Global,
+    words: &[&str],
+    shelf: &mut FileShelf<'_, R>,
+    sink: &mut StdSink<'_, R>,
+) -> u8
+    ensures headline { (texts : Texts) → Agrees texts shelf.old.log shelf.new.log
+        → Headline (word_texts words.now) (Some texts) (Some sink.old.taken) (Some sink.new.taken) result }
+    ensures run_reads { (run : RunWords) → IsRun (word_texts words.now) run → result ≤ 2
+        → RunReads run shelf.old.log shelf.new.log sink.old.taken sink.new.taken result }
+    ensures proved { (run : RunWords) → IsRun (word_texts words.now) run → result ≤ 2
+        → (texts : Texts) → Agrees texts shelf.old.log shelf.new.log → WritesShown (Some texts) run (Some sink.old.taken) (Some sink.new.taken) }
+    ensures nothing { (run : RunWords) → IsRun (word_texts words.now) run → result ≡ 1
+        → (texts : Texts) → Agrees texts shelf.old.log shelf.new.log → AsksInVain (Some texts) run }
+{
+    lolli(rt, alloc, words, shelf, sink, &OpenGate)
 }
 
 /// Does what `lolli` does for all words but those of a form with `--workers`, and answers the status. For these it answers
@@ -117,34 +176,47 @@ pub fn lolli_plain<F: Shelf, O: Sink>(
     ensures workers { (result ≡ None) ↔ IsInWorkersForm (word_texts words.now) }
     ensures untouched { result ≡ None → (shelf.new ≡ shelf.old) × (sink.new ≡ sink.old) }
 
-    ensures outcome { IfSome result (Ends (ComesTo (word_texts words.now) (F.texts shelf.old) (Rose (F.absences shelf.old) (F.absences shelf.new))
-        (Rose (F.faults shelf.old) (F.faults shelf.new))) (Rose (O.faults sink.old) (O.faults sink.new))
-        (O.written sink.old) (O.written sink.new)) }
-    ensures complete { IfSome result (Completes (word_texts words.now) (F.texts shelf.old) (Rose (F.faults shelf.old) (F.faults shelf.new))
-        (Rose (O.faults sink.old) (O.faults sink.new)) (O.written sink.old) (O.written sink.new)) }
+    ensures outcome { IfSome result (λ status. (told : Option Texts) → Fits told (F.log shelf.old) (F.log shelf.new)
+        → Ends (ComesTo (word_texts words.now) told (Met F.absences F.log shelf.old shelf.new NoText)
+        (Met F.faults F.log shelf.old shelf.new Unreadable)) (Rose (O.faults sink.old) (O.faults sink.new)) (Some (O.taken sink.old)) (Some
+        (O.taken sink.new)) status) }
+    ensures complete { IfSome result (λ status. (told : Option Texts) → Fits told (F.log shelf.old) (F.log shelf.new)
+        → Completes (word_texts words.now) told (Rose (F.faults shelf.old) (F.faults shelf.new)) (Rose (O.faults sink.old) (O.faults sink.new))
+        (Some (O.taken sink.old)) (Some (O.taken sink.new)) status) }
+
+    ensures shown { (check : CheckWords) → IsCheck (word_texts words.now) check → result ≡ Some 0
+        → (told : Option Texts) → Fits told (F.log shelf.old) (F.log shelf.new) → IsProved told check }
+    ensures denied { result ≡ Some 9 → (told : Option Texts) → Fits told (F.log shelf.old) (F.log shelf.new) → IsDenied (word_texts words.now) told }
+    ensures covered { FitsForm cover_form (word_texts words.now) → result ≡ Some 0
+        → (told : Option Texts) → Fits told (F.log shelf.old) (F.log shelf.new) → IsCoveredCall (word_texts words.now) told }
+    ensures uncovered { result ≡ Some 11 → (told : Option Texts) → Fits told (F.log shelf.old) (F.log shelf.new) → IsUncoveredCall (word_texts words.now) told }
 
     ensures usage { result ≡ Some 3 → IsInForm (word_texts words.now) → ⊥ }
     ensures misused { (IsInForm (word_texts words.now) → ⊥) → (result ≡ Some 3) ⊎ (result ≡ Some 6) }
     ensures absent { result ≡ Some 4 → Rose (F.absences shelf.old) (F.absences shelf.new) }
     ensures unreadable { result ≡ Some 5 → Rose (F.faults shelf.old) (F.faults shelf.new) }
     ensures unwritable { result ≡ Some 6 → Rose (O.faults sink.old) (O.faults sink.new) }
-    ensures denied { result ≡ Some 9 → IsDenied (word_texts words.now) (F.texts shelf.old) }
-    ensures covered { FitsForm cover_form (word_texts words.now) → result ≡ Some 0 → IsCoveredCall (word_texts words.now) (F.texts shelf.old) }
-    ensures uncovered { result ≡ Some 11 → IsUncoveredCall (word_texts words.now) (F.texts shelf.old) }
 
-    ensures same_texts { F.texts shelf.new ≡ F.texts shelf.old }
-    ensures counts_kept { (F.faults shelf.old ≤ F.faults shelf.new)
-        × (F.absences shelf.old ≤ F.absences shelf.new)
-        × (O.faults sink.old ≤ O.faults sink.new) }
+    ensures kept { ShelfKept F.texts F.faults F.absences F.log shelf.old shelf.new }
+    ensures sink_faults_kept { O.faults sink.old ≤ O.faults sink.new }
+
+    ensures told_outcome { IfSome result (Ends (ComesTo (word_texts words.now) (F.texts shelf.old) (Met F.absences F.log shelf.old shelf.new NoText)
+        (Met F.faults F.log shelf.old shelf.new Unreadable)) (Rose (O.faults sink.old) (O.faults sink.new)) (O.written sink.old) (O.written sink.new)) }
+    ensures told_complete { IfSome result (Completes (word_texts words.now) (F.texts shelf.old) (Rose (F.faults shelf.old) (F.faults shelf.new))
+        (Rose (O.faults sink.old) (O.faults sink.new)) (O.written sink.old) (O.written sink.new)) }
+    ensures told_denied { result ≡ Some 9 → IsDenied (word_texts words.now) (F.texts shelf.old) }
+    ensures told_covered { FitsForm cover_form (word_texts words.now) → result ≡ Some 0 → IsCoveredCall (word_texts words.now) (F.texts shelf.old) }
+    ensures told_uncovered { result ≡ Some 11 → IsUncoveredCall (word_texts words.now) (F.texts shelf.old) }
 {
     one_text();
+    answers_are_what_follows();
     serve_plain(alloc, words, shelf, sink)
 }
 
 /// Words and texts determine the status and what is written, where no read fails.
 pub fn one_text()
     ensures { (words : List (List ℕ)) (texts : Texts) (status other : ℕ) (text more : List ℕ)
-        → ComesTo words (Some texts) (Unit {0}) ⊥ status text → ComesTo words (Some texts) (Unit {0}) ⊥ other more
+        → ComesTo words (Some texts) AnyName NoName status text → ComesTo words (Some texts) AnyName NoName other more
         → (status ≡ other) × (text ≡ more) }
 {
     one_reading();
@@ -152,6 +224,42 @@ pub fn one_text()
     one_query();
     one_derivation_in_any();
     one_session();
+}
+
+// Serves words of any form, or of none.
+fn serve<R: Threads + Wait + Sync, F: Shelf, O: Sink, G: Gate>(
+    rt: &R,
+    alloc: Global,
+    words: &[&str],
+    shelf: &mut F,
+    sink: &mut O,
+    gate: &G,
+) -> u8
+    ensures kept { ShelfKept F.texts F.faults F.absences F.log shelf.old shelf.new }
+    ensures sink_faults_kept { O.faults sink.old ≤ O.faults sink.new }
+
+    ensures outcome { (told : Option Texts) → Fits told (F.log shelf.old) (F.log shelf.new)
+        → Ends (ComesTo (word_texts words.now) told (Met F.absences F.log shelf.old shelf.new NoText)
+        (Met F.faults F.log shelf.old shelf.new Unreadable)) (Rose (O.faults sink.old) (O.faults sink.new)) (Some (O.taken sink.old)) (Some
+        (O.taken sink.new)) result }
+    ensures run_reads { (run : RunWords) → IsRun (word_texts words.now) run → result ≤ 2
+        → RunReads run (F.log shelf.old) (F.log shelf.new) (O.taken sink.old) (O.taken sink.new) result }
+    ensures proved { (run : RunWords) → IsRun (word_texts words.now) run → result ≤ 2
+        → (told : Option Texts) → Fits told (F.log shelf.old) (F.log shelf.new) → WritesShown told run (Some (O.taken sink.old)) (Some (O.taken sink.new)) }
+    ensures nothing { (run : RunWords) → IsRun (word_texts words.now) run → result ≡ 1
+        → (told : Option Texts) → Fits told (F.log shelf.old) (F.log shelf.new) → AsksInVain told run }
+    ensures replied { (session : SessionWords) → IsSession (word_texts words.now) session → result ≡ 0
+        → (told : Option Texts) → Fits told (F.log shelf.old) (F.log shelf.new) → SessionShown told session (Some (O.taken sink.old)) (Some
+        (O.taken sink.new)) }
+    ensures deepened { (deepen : DeepenWords) → IsDeepen (word_texts words.now) deepen → result ≤ 2
+        → (told : Option Texts) → Fits told (F.log shelf.old) (F.log shelf.new) → DeepenShown told deepen (Some (O.taken sink.old)) (Some
+        (O.taken sink.new)) result }
+    ensures misused { (IsInForm (word_texts words.now) → ⊥) → (result ≡ 3) ⊎ (result ≡ 6) }
+{
+    match lolli_plain(alloc, words, shelf, sink) {
+        Some(status) => status,
+        None => serve_search(rt, alloc, words, shelf, sink, gate),
+    }
 }
 
 // Serves words of a form with `--workers`.
@@ -165,17 +273,25 @@ fn serve_search<R: Threads + Wait + Sync, F: Shelf, O: Sink, G: Gate>(
 ) -> u8
     requires workers { IsInWorkersForm (word_texts words.now) }
 
-    ensures same_texts { F.texts shelf.new ≡ F.texts shelf.old }
-    ensures shelf_faults_kept { F.faults shelf.old ≤ F.faults shelf.new }
-    ensures absences_kept { F.absences shelf.old ≤ F.absences shelf.new }
+    ensures kept { ShelfKept F.texts F.faults F.absences F.log shelf.old shelf.new }
     ensures sink_faults_kept { O.faults sink.old ≤ O.faults sink.new }
 
-    ensures outcome { Ends (ComesTo (word_texts words.now) (F.texts shelf.old) (Rose (F.absences shelf.old) (F.absences shelf.new))
-        (Rose (F.faults shelf.old) (F.faults shelf.new))) (Rose (O.faults sink.old) (O.faults sink.new))
-        (O.written sink.old) (O.written sink.new) result }
+    ensures outcome { (told : Option Texts) → Fits told (F.log shelf.old) (F.log shelf.new)
+        → Ends (ComesTo (word_texts words.now) told (Met F.absences F.log shelf.old shelf.new NoText)
+        (Met F.faults F.log shelf.old shelf.new Unreadable)) (Rose (O.faults sink.old) (O.faults sink.new)) (Some (O.taken sink.old)) (Some
+        (O.taken sink.new)) result }
+    ensures run_reads { (run : RunWords) → IsRun (word_texts words.now) run → result ≤ 2
+        → RunReads run (F.log shelf.old) (F.log shelf.new) (O.taken sink.old) (O.taken sink.new) result }
     ensures proved { (run : RunWords) → IsRun (word_texts words.now) run → result ≤ 2
-        → WritesShown (F.texts shelf.old) run (O.written sink.old) (O.written sink.new) }
-    ensures nothing { (run : RunWords) → IsRun (word_texts words.now) run → result ≡ 1 → AsksInVain (F.texts shelf.old) run }
+        → (told : Option Texts) → Fits told (F.log shelf.old) (F.log shelf.new) → WritesShown told run (Some (O.taken sink.old)) (Some (O.taken sink.new)) }
+    ensures nothing { (run : RunWords) → IsRun (word_texts words.now) run → result ≡ 1
+        → (told : Option Texts) → Fits told (F.log shelf.old) (F.log shelf.new) → AsksInVain told run }
+    ensures replied { (session : SessionWords) → IsSession (word_texts words.now) session → result ≡ 0
+        → (told : Option Texts) → Fits told (F.log shelf.old) (F.log shelf.new) → SessionShown told session (Some (O.taken sink.old)) (Some
+        (O.taken sink.new)) }
+    ensures deepened { (deepen : DeepenWords) → IsDeepen (word_texts words.now) deepen → result ≤ 2
+        → (told : Option Texts) → Fits told (F.log shelf.old) (F.log shelf.new) → DeepenShown told deepen (Some (O.taken sink.old)) (Some
+        (O.taken sink.new)) result }
 {
     let Ok(command) = read_command(words) else {
         unreachable!()
@@ -209,14 +325,13 @@ fn serve_plain<F: Shelf, O: Sink>(
     ensures workers { (result ≡ None) ↔ IsInWorkersForm (word_texts words.now) }
     ensures untouched { result ≡ None → (shelf.new ≡ shelf.old) × (sink.new ≡ sink.old) }
 
-    ensures same_texts { F.texts shelf.new ≡ F.texts shelf.old }
-    ensures shelf_faults_kept { F.faults shelf.old ≤ F.faults shelf.new }
-    ensures absences_kept { F.absences shelf.old ≤ F.absences shelf.new }
+    ensures kept { ShelfKept F.texts F.faults F.absences F.log shelf.old shelf.new }
     ensures sink_faults_kept { O.faults sink.old ≤ O.faults sink.new }
 
-    ensures outcome { IfSome result (Ends (ComesTo (word_texts words.now) (F.texts shelf.old) (Rose (F.absences shelf.old) (F.absences shelf.new))
-        (Rose (F.faults shelf.old) (F.faults shelf.new))) (Rose (O.faults sink.old) (O.faults sink.new))
-        (O.written sink.old) (O.written sink.new)) }
+    ensures outcome { IfSome result (λ status. (told : Option Texts) → Fits told (F.log shelf.old) (F.log shelf.new)
+        → Ends (ComesTo (word_texts words.now) told (Met F.absences F.log shelf.old shelf.new NoText)
+        (Met F.faults F.log shelf.old shelf.new Unreadable)) (Rose (O.faults sink.old) (O.faults sink.new)) (Some (O.taken sink.old)) (Some
+        (O.taken sink.new)) status) }
     ensures misused { (IsInForm (word_texts words.now) → ⊥) → (result ≡ Some 3) ⊎ (result ≡ Some 6) }
 {
     match read_command(words) {
@@ -242,19 +357,20 @@ fn serve_run<R: Threads + Wait + Sync, F: Shelf, O: Sink, G: Gate>(
     requires bound { run.now.bound ≤ 1000000 }
     requires first { IfSome run.now.first (λ wanted. 0 < wanted) }
 
-    ensures same_texts { F.texts shelf.new ≡ F.texts shelf.old }
-    ensures shelf_faults_kept { F.faults shelf.old ≤ F.faults shelf.new }
-    ensures absences_kept { F.absences shelf.old ≤ F.absences shelf.new }
+    ensures kept { ShelfKept F.texts F.faults F.absences F.log shelf.old shelf.new }
     ensures sink_faults_kept { O.faults sink.old ≤ O.faults sink.new }
 
-    ensures ends { Ends (RunComesTo (F.texts shelf.old) (Rose (F.absences shelf.old) (F.absences shelf.new))
-        (Rose (F.faults shelf.old) (F.faults shelf.new)) (shown_words run.now)) (Rose (O.faults sink.old) (O.faults sink.new))
-        (O.written sink.old) (O.written sink.new) result }
-    ensures proved { result ≤ 2 → WritesShown (F.texts shelf.old) (shown_words run.now) (O.written sink.old) (O.written sink.new) }
-    ensures nothing { result ≡ 1 → AsksInVain (F.texts shelf.old) (shown_words run.now) }
+    ensures ends { (told : Option Texts) → Fits told (F.log shelf.old) (F.log shelf.new)
+        → Ends (RunComesTo told (Met F.absences F.log shelf.old shelf.new NoText) (Met F.faults F.log shelf.old shelf.new Unreadable) (shown_words run.now))
+        (Rose (O.faults sink.old) (O.faults sink.new)) (Some (O.taken sink.old)) (Some (O.taken sink.new)) result }
+    ensures run_reads { result ≤ 2
+        → RunReads (shown_words run.now) (F.log shelf.old) (F.log shelf.new) (O.taken sink.old) (O.taken sink.new) result }
+    ensures proved { result ≤ 2 → (told : Option Texts) → Fits told (F.log shelf.old) (F.log shelf.new)
+        → WritesShown told (shown_words run.now) (Some (O.taken sink.old)) (Some (O.taken sink.new)) }
+    ensures nothing { result ≡ 1 → (told : Option Texts) → Fits told (F.log shelf.old) (F.log shelf.new) → AsksInVain told (shown_words run.now) }
 {
     answers_are_shown();
-    search_is_complete();
+    answers_are_what_follows();
     match run_texts(team, run, shelf, sink) {
         Ok(found) => found_status(found),
         Err(Refusal::Text(role, refusal)) => refuse(refusal.cause(text_name(run, role)), sink),
@@ -273,13 +389,14 @@ fn run_texts<R: Threads + Wait + Sync, F: Shelf, O: Sink, G: Gate>(
     requires bound { command.now.bound ≤ 1000000 }
     requires first { IfSome command.now.first (λ wanted. 0 < wanted) }
 
-    ensures same_texts { F.texts shelf.new ≡ F.texts shelf.old }
-    ensures shelf_faults_kept { F.faults shelf.old ≤ F.faults shelf.new }
-    ensures absences_kept { F.absences shelf.old ≤ F.absences shelf.new }
+    ensures kept { ShelfKept F.texts F.faults F.absences F.log shelf.old shelf.new }
     ensures sink_faults_kept { O.faults sink.old ≤ O.faults sink.new }
 
-    ensures ends { RunEnds (F.texts shelf.old) (Rose (F.absences shelf.old) (F.absences shelf.new)) (Rose (F.faults shelf.old) (F.faults shelf.new))
-        (Rose (O.faults sink.old) (O.faults sink.new)) (shown_words command.now) (O.written sink.old) (O.written sink.new) result }
+    ensures ends { (told : Option Texts) → Fits told (F.log shelf.old) (F.log shelf.new)
+        → RunEnds told (Met F.absences F.log shelf.old shelf.new NoText) (Met F.faults F.log shelf.old shelf.new Unreadable)
+        (Rose (O.faults sink.old) (O.faults sink.new)) (shown_words command.now) (Some (O.taken sink.old)) (Some (O.taken sink.new)) result }
+    ensures run_reads { IfOk result (λ found. RunReads (shown_words command.now) (F.log shelf.old) (F.log shelf.new)
+        (O.taken sink.old) (O.taken sink.new) (status_of_found found)) }
 {
     let problem = prepare(team.alloc, command, shelf)?;
     let found = run_problem(team, &problem, command.proofs, command.first, sink);
@@ -300,9 +417,9 @@ fn run_problem<R: Threads + Wait + Sync, O: Sink, G: Gate>(
 
     ensures faults_kept { O.faults sink.old ≤ O.faults sink.new }
     ensures found { IfOk result (λ found. status_of_found found ≡ status_of_run first problem.now) }
-    ensures text { OnOk result (O.written sink.new ≡ append_known (O.written sink.old) (text_of_run first proofs problem.now)) }
+    ensures text { OnOk result (Some (O.taken sink.new) ≡ append_known (Some (O.taken sink.old)) (text_of_run first proofs problem.now)) }
     ensures refused { IfErr result (IsRunRefusal (O.faults sink.old) (O.faults sink.new)) }
-    ensures prefix { OnErr result (AppendsFront (O.written sink.old) (text_of_run first proofs problem.now) (O.written sink.new)) }
+    ensures prefix { OnErr result (AppendsFront (Some (O.taken sink.old)) (text_of_run first proofs problem.now) (Some (O.taken sink.new))) }
 {
     match first {
         None => run(team, problem, proofs, sink),

@@ -1,5 +1,5 @@
 //! A run of a program that is made from a kind and a number: the counts of its search.
-ghost use Rattle.std.specs.Prelude.{◌≡◌, ◌≤◌, ℕ, IfOk, IfErr, OnOk, OnErr};
+ghost use Rattle.std.specs.Prelude.{◌≡◌, ◌≤◌, ℕ, IfOk, IfErr, OnOk, OnErr, Some};
 ghost use Rattle.std.specs.Io.KnownBytes.{append_known};
 ghost use Rattle.ll_edge.specs.Counts.{Rose};
 ghost use Rattle.ll_edge.specs.Pieces.{AppendsFront};
@@ -51,7 +51,7 @@ pub fn serve_made_run<R: Threads + Wait + Sync, O: Sink, G: Gate>(
     requires bound { run.bound ≤ 1000000 }
     ensures faults_kept { O.faults sink.old ≤ O.faults sink.new }
     ensures ends { Ends (MadeRunComesTo (shown_made_run run)) (Rose (O.faults sink.old) (O.faults sink.new))
-        (O.written sink.old) (O.written sink.new) result }
+        (Some (O.taken sink.old)) (Some (O.taken sink.new)) result }
 {
     match run_made(team, run, sink) {
         Ok(found) => found_status(found),
@@ -82,7 +82,7 @@ fn run_made<R: Threads + Wait + Sync, O: Sink, G: Gate>(
     requires fits { Fits run.make.kind run.make.number }
     requires bound { run.bound ≤ 1000000 }
     ensures faults_kept { O.faults sink.old ≤ O.faults sink.new }
-    ensures ends { MadeRunEnds (Rose (O.faults sink.old) (O.faults sink.new)) (shown_made_run run) (O.written sink.old) (O.written sink.new) result }
+    ensures ends { MadeRunEnds (Rose (O.faults sink.old) (O.faults sink.new)) (shown_made_run run) (Some (O.taken sink.old)) (Some (O.taken sink.new)) result }
 {
     made_asks();
     let text = program(team.alloc, run.make.kind, run.make.number)?;
@@ -100,9 +100,9 @@ fn write_counts<R: Threads + Wait + Sync, O: Sink, G: Gate>(
     requires valid { IsValid problem.now }
     ensures faults_kept { O.faults sink.old ≤ O.faults sink.new }
     ensures found { IfOk result (λ found. status_of_found found ≡ run_status problem.now) }
-    ensures line { OnOk result (O.written sink.new ≡ append_known (O.written sink.old) (last_line problem.now)) }
+    ensures line { OnOk result (Some (O.taken sink.new) ≡ append_known (Some (O.taken sink.old)) (last_line problem.now)) }
     ensures refused { IfErr result (IsRunRefusal (O.faults sink.old) (O.faults sink.new)) }
-    ensures prefix { OnErr result (AppendsFront (O.written sink.old) (last_line problem.now) (O.written sink.new)) }
+    ensures prefix { OnErr result (AppendsFront (Some (O.taken sink.old)) (last_line problem.now) (Some (O.taken sink.new))) }
 {
     let counts = count_events(team, problem)?;
     let mut line = Vec::new(team.alloc);

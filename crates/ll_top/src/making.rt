@@ -1,5 +1,5 @@
 //! The text of a program that is made from a kind and a number.
-ghost use Rattle.std.specs.Prelude.{◌≤◌};
+ghost use Rattle.std.specs.Prelude.{◌≤◌, Some};
 ghost use Rattle.ll_edge.specs.Counts.{Rose};
 ghost use Rattle.ll_make.specs.Kinds.{Fits};
 ghost use Rattle.ll_words.specs.Words.{shown_make};
@@ -17,7 +17,7 @@ pub fn serve_make<O: Sink>(alloc: Global, make: MakeCommand, sink: &mut O) -> u8
     requires { Fits make.kind make.number }
     ensures faults_kept { O.faults sink.old ≤ O.faults sink.new }
     ensures ends { Ends (MakeComesTo (shown_make make)) (Rose (O.faults sink.old) (O.faults sink.new))
-        (O.written sink.old) (O.written sink.new) result }
+        (Some (O.taken sink.old)) (Some (O.taken sink.new)) result }
 {
     let Ok(text) = program(alloc, make.kind, make.number) else {
         return 10;

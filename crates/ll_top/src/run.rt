@@ -1,5 +1,5 @@
 // A run of a problem: its answers, written as they come, and the last line.
-ghost use Rattle.std.specs.Prelude.{◌≡◌, ◌≤◌, [], IfOk, IfErr, OnOk, OnErr};
+ghost use Rattle.std.specs.Prelude.{◌≡◌, ◌≤◌, [], IfOk, IfErr, OnOk, OnErr, Some};
 ghost use Rattle.std.specs.Io.KnownBytes.{append_known};
 ghost use Rattle.std.specs.Arc.{arc_value};
 ghost use Rattle.ll_edge.specs.Pieces.{AppendsFront};
@@ -50,9 +50,9 @@ pub fn run<R: Threads + Wait + Sync, O: Sink, G: Gate>(
 
     ensures faults_kept { O.faults sink.old ≤ O.faults sink.new }
     ensures found { IfOk result (λ found. status_of_found found ≡ run_status problem.now) }
-    ensures text { OnOk result (O.written sink.new ≡ append_known (O.written sink.old) (whole_text proofs problem.now)) }
+    ensures text { OnOk result (Some (O.taken sink.new) ≡ append_known (Some (O.taken sink.old)) (whole_text proofs problem.now)) }
     ensures refused { IfErr result (IsRunRefusal (O.faults sink.old) (O.faults sink.new)) }
-    ensures prefix { OnErr result (AppendsFront (O.written sink.old) (whole_text proofs problem.now) (O.written sink.new)) }
+    ensures prefix { OnErr result (AppendsFront (Some (O.taken sink.old)) (whole_text proofs problem.now) (Some (O.taken sink.new))) }
 {
     let index = problem_index(team.alloc, problem)?;
     run_with(team, problem, &index, proofs, sink)
@@ -71,9 +71,9 @@ pub fn run_with<R: Threads + Wait + Sync, O: Sink, G: Gate>(
 
     ensures faults_kept { O.faults sink.old ≤ O.faults sink.new }
     ensures found { IfOk result (λ found. status_of_found found ≡ run_status problem.now) }
-    ensures text { OnOk result (O.written sink.new ≡ append_known (O.written sink.old) (whole_text proofs problem.now)) }
+    ensures text { OnOk result (Some (O.taken sink.new) ≡ append_known (Some (O.taken sink.old)) (whole_text proofs problem.now)) }
     ensures refused { IfErr result (IsRunRefusal (O.faults sink.old) (O.faults sink.new)) }
-    ensures prefix { OnErr result (AppendsFront (O.written sink.old) (whole_text proofs problem.now) (O.written sink.new)) }
+    ensures prefix { OnErr result (AppendsFront (Some (O.taken sink.old)) (whole_text proofs problem.now) (Some (O.taken sink.new))) }
 {
     let mut lines = Vec::new(team.alloc);
     let mut waiting = Vec::new(team.alloc);
@@ -98,11 +98,11 @@ pub fn write_summary<O: Sink>(
 ) -> Result<Found, Refusal>
     ensures faults_kept { O.faults sink.old ≤ O.faults sink.new }
     ensures found { IfOk result (λ found. status_of_found found ≡ status_of_counts counts.now.answers counts.now.reached) }
-    ensures text { OnOk result (O.written sink.new ≡ append_known (O.written sink.old)
+    ensures text { OnOk result (Some (O.taken sink.new) ≡ append_known (Some (O.taken sink.old))
         (counts_text counts.now.answers counts.now.reached counts.now.inferences)) }
     ensures refused { IfErr result (IsRunRefusal (O.faults sink.old) (O.faults sink.new)) }
-    ensures prefix { OnErr result (AppendsFront (O.written sink.old) (counts_text counts.now.answers counts.now.reached counts.now.inferences)
-        (O.written sink.new)) }
+    ensures prefix { OnErr result (AppendsFront (Some (O.taken sink.old)) (counts_text counts.now.answers counts.now.reached counts.now.inferences)
+        (Some (O.taken sink.new))) }
 {
     lines.clear();
     summary(counts, lines)?;
@@ -128,9 +128,10 @@ fn write_events<K: Asked, R: Threads + Wait + Sync, O: Sink, G: Gate>(
 
     ensures faults_kept { O.faults sink.old ≤ O.faults sink.new }
     ensures counts { IfOk result (λ counts. CountsOf counts (problem_events problem.now) (problem_cost problem.now)) }
-    ensures lines { OnOk result (O.written sink.new ≡ append_known (O.written sink.old) (all_lines proofs problem.now 0 (problem_events problem.now))) }
+    ensures lines { OnOk result (Some (O.taken sink.new) ≡ append_known (Some (O.taken sink.old)) (all_lines proofs problem.now 0
+        (problem_events problem.now))) }
     ensures refused { IfErr result (IsRunRefusal (O.faults sink.old) (O.faults sink.new)) }
-    ensures prefix { OnErr result (AppendsFront (O.written sink.old) (whole_text proofs problem.now) (O.written sink.new)) }
+    ensures prefix { OnErr result (AppendsFront (Some (O.taken sink.old)) (whole_text proofs problem.now) (Some (O.taken sink.new))) }
 {
     if proofs {
         return write_events_as::<Event, R, O, G>(
@@ -157,9 +158,10 @@ fn write_events_as<E: Lined, R: Threads + Wait + Sync, O: Sink, G: Gate>(
 
     ensures faults_kept { O.faults sink.old ≤ O.faults sink.new }
     ensures counts { IfOk result (λ counts. CountsOf counts (problem_events problem.now) (problem_cost problem.now)) }
-    ensures lines { OnOk result (O.written sink.new ≡ append_known (O.written sink.old) (all_lines proofs problem.now 0 (problem_events problem.now))) }
+    ensures lines { OnOk result (Some (O.taken sink.new) ≡ append_known (Some (O.taken sink.old)) (all_lines proofs problem.now 0
+        (problem_events problem.now))) }
     ensures refused { IfErr result (IsRunRefusal (O.faults sink.old) (O.faults sink.new)) }
-    ensures prefix { OnErr result (AppendsFront (O.written sink.old) (whole_text proofs problem.now) (O.written sink.new)) }
+    ensures prefix { OnErr result (AppendsFront (Some (O.taken sink.old)) (whole_text proofs problem.now) (Some (O.taken sink.new))) }
 {
     let mut out = Writing::<O, E> {
         alloc: team.alloc,
@@ -192,10 +194,11 @@ fn give_events<'p, 's, E: Lined, R: Threads + Wait + Sync, O: Sink, G: Gate>(
     ensures none { out.new.waiting.now.items ≡ [] }
     ensures faults_kept { O.faults out.old.sink.now ≤ O.faults out.new.sink.now }
     ensures counts { IfOk result (λ counts. CountsOf counts (problem_events problem.entry.now) (problem_cost problem.entry.now)) }
-    ensures lines { OnOk result (O.written out.new.sink.now ≡ append_known (O.written out.old.sink.now)
+    ensures lines { OnOk result (Some (O.taken out.new.sink.now) ≡ append_known (Some (O.taken out.old.sink.now))
         (all_lines out.old.proofs problem.entry.now 0 (problem_events problem.entry.now))) }
     ensures refused { IfErr result (IsRunRefusal (O.faults out.old.sink.now) (O.faults out.new.sink.now)) }
-    ensures prefix { OnErr result (AppendsFront (O.written out.old.sink.now) (whole_text out.old.proofs problem.entry.now) (O.written out.new.sink.now)) }
+    ensures prefix { OnErr result (AppendsFront (Some (O.taken out.old.sink.now)) (whole_text out.old.proofs problem.entry.now) (Some
+        (O.taken out.new.sink.now))) }
 {
     answers_are_shown();
     match crew_with(

@@ -1,10 +1,12 @@
 //! A session: a reply to each line of a text that is a query, over one program.
-ghost use Rattle.std.specs.Prelude.{◌≡◌, ◌≤◌, length, Ok, Err, IfErr, OnOk, OnErr};
+ghost use Rattle.std.specs.Prelude.{◌≡◌, ◌≤◌, length, Option, Some, Ok, Err, IfErr, OnOk, OnErr};
 ghost use Rattle.std.specs.Io.KnownBytes.{append_known};
 ghost use Rattle.std.specs.Arc.{arc_value};
 ghost use Rattle.ll_edge.specs.Counts.{Rose};
+ghost use Rattle.ll_edge.specs.Log.{ShelfKept, Fits, Met, NoText, Unreadable};
 ghost use Rattle.ll_edge.specs.Pieces.{AppendsFront};
 ghost use Rattle.ll_index.specs.Index.{HasIndex};
+ghost use Rattle.ll_edge.specs.Texts.{Texts};
 ghost use Rattle.ll_laws.specs.Valid.{IsValid};
 ghost use Rattle.ll_parser.specs.Raw.{ProgramTree};
 ghost use Rattle.ll_session.specs.Queries.{IsProgramOf, IsLoaded};
@@ -14,6 +16,8 @@ ghost use Rattle.ll_top.specs.OwnEnds.{EndsOwn, NoneFails};
 ghost use Rattle.ll_top.specs.Running.{IsRunRefusal};
 ghost use Rattle.ll_top.specs.Sessions.{reply_text, SessionComesTo};
 ghost use Rattle.ll_top.specs.SessionEnds.{name_in_session, RefusesText, WritesReply, CutsReply, RepliesTo, TextsComeTo, RefusesProgram};
+ghost use Rattle.ll_judge.specs.Judging.{IsFaultless};
+ghost use Rattle.ll_top.specs.Shown.{WritesReplies, SessionShown};
 ghost use Rattle.ll_words.specs.Words.{shown_session};
 
 use crate::indexes::program_index;
@@ -22,10 +26,11 @@ use crate::team::Team;
 use ll_edge::{Gate, Shelf, Sink};
 use ll_index::Index;
 use ll_judge::{Cause, Refusal, Role, load_text, read, refusal, refuse, write_heading, write_line};
-use ll_laws::Problem;
+use ll_laws::{Problem, answers_are_shown};
 use ll_lexer::{Fault, TextFault};
 use ll_polarity::Loaded;
 use ll_session::{ask_text, is_query_line, on_line, one_session, split_line};
+use ll_textbook::answers_are_what_follows;
 use ll_words::SessionCommand;
 use std::sync::{Arc, Wait};
 use std::thread::Threads;
@@ -41,14 +46,15 @@ pub fn serve_session<R: Threads + Wait + Sync, F: Shelf, O: Sink, G: Gate>(
 ) -> u8
     requires bound { session.now.bound ≤ 1000000 }
 
-    ensures same_texts { F.texts shelf.new ≡ F.texts shelf.old }
-    ensures shelf_faults_kept { F.faults shelf.old ≤ F.faults shelf.new }
-    ensures absences_kept { F.absences shelf.old ≤ F.absences shelf.new }
+    ensures kept { ShelfKept F.texts F.faults F.absences F.log shelf.old shelf.new }
     ensures sink_faults_kept { O.faults sink.old ≤ O.faults sink.new }
 
-    ensures ends { Ends (SessionComesTo (F.texts shelf.old) (Rose (F.absences shelf.old) (F.absences shelf.new))
-        (Rose (F.faults shelf.old) (F.faults shelf.new)) (shown_session session.now)) (Rose (O.faults sink.old) (O.faults sink.new))
-        (O.written sink.old) (O.written sink.new) result }
+    ensures ends { (told : Option Texts) → Fits told (F.log shelf.old) (F.log shelf.new)
+        → Ends (SessionComesTo told (Met F.absences F.log shelf.old shelf.new NoText) (Met F.faults F.log shelf.old shelf.new Unreadable)
+        (shown_session session.now))
+        (Rose (O.faults sink.old) (O.faults sink.new)) (Some (O.taken sink.old)) (Some (O.taken sink.new)) result }
+    ensures replied { result ≡ 0 → (told : Option Texts) → Fits told (F.log shelf.old) (F.log shelf.new)
+        → SessionShown told (shown_session session.now) (Some (O.taken sink.old)) (Some (O.taken sink.new)) }
 {
     match reply_to_texts(team, session, shelf, sink) {
         Ok(()) => 0,
@@ -81,17 +87,20 @@ fn reply_to_texts<R: Threads + Wait + Sync, F: Shelf, O: Sink, G: Gate>(
 ) -> Result<(), Refusal>
     requires bound { session.now.bound ≤ 1000000 }
 
-    ensures same_texts { F.texts shelf.new ≡ F.texts shelf.old }
-    ensures shelf_faults_kept { F.faults shelf.old ≤ F.faults shelf.new }
-    ensures absences_kept { F.absences shelf.old ≤ F.absences shelf.new }
+    ensures kept { ShelfKept F.texts F.faults F.absences F.log shelf.old shelf.new }
     ensures sink_faults_kept { O.faults sink.old ≤ O.faults sink.new }
 
-    ensures ends { EndsOwn (SessionComesTo (F.texts shelf.old) (Rose (F.absences shelf.old) (F.absences shelf.new))
-        (Rose (F.faults shelf.old) (F.faults shelf.new)) (shown_session session.now)) (λ done. 0)
-        (RefusesText (F.texts shelf.old) (Rose (F.absences shelf.old) (F.absences shelf.new)) (Rose (F.faults shelf.old) (F.faults shelf.new))
+    ensures ends { (told : Option Texts) → Fits told (F.log shelf.old) (F.log shelf.new)
+        → EndsOwn (SessionComesTo told (Met F.absences F.log shelf.old shelf.new NoText) (Met F.faults F.log shelf.old shelf.new Unreadable)
         (shown_session session.now))
-        (Rose (O.faults sink.old) (O.faults sink.new)) (O.written sink.old) (O.written sink.new) result }
+        (λ done. 0) (RefusesText told (Met F.absences F.log shelf.old shelf.new NoText) (Met F.faults F.log shelf.old shelf.new Unreadable)
+        (shown_session session.now))
+        (Rose (O.faults sink.old) (O.faults sink.new)) (Some (O.taken sink.old)) (Some (O.taken sink.new)) result }
+    ensures replied { OnOk result ((told : Option Texts) → Fits told (F.log shelf.old) (F.log shelf.new)
+        → SessionShown told (shown_session session.now) (Some (O.taken sink.old)) (Some (O.taken sink.new))) }
 {
+    answers_are_shown();
+    answers_are_what_follows();
     let program = read(team.alloc, shelf, session.program, Role::Program)?;
     let text = read(team.alloc, shelf, session.queries, Role::Query)?;
     reply_to_text(team, session, &program, &text, sink)
@@ -110,7 +119,9 @@ fn reply_to_text<R: Threads + Wait + Sync, O: Sink, G: Gate>(
     requires bound { session.now.bound ≤ 1000000 }
     ensures faults_kept { O.faults sink.old ≤ O.faults sink.new }
     ensures ends { EndsOwn (TextsComeTo session.now.proofs session.now.queries.now program.now text.now session.now.bound) (λ done. 0)
-        (RefusesProgram program.now) (Rose (O.faults sink.old) (O.faults sink.new)) (O.written sink.old) (O.written sink.new) result }
+        (RefusesProgram program.now) (Rose (O.faults sink.old) (O.faults sink.new)) (Some (O.taken sink.old)) (Some (O.taken sink.new)) result }
+    ensures replied { OnOk result ((tree : ProgramTree) × IsFaultless program.now tree
+        × WritesReplies session.now.proofs session.now.queries.now tree text.now session.now.bound (Some (O.taken sink.old)) (Some (O.taken sink.new))) }
 {
     match load_text(team.alloc, program) {
         Ok(loaded) => reply_over(team, session, &loaded, text, sink),
@@ -132,7 +143,9 @@ fn reply_over<R: Threads + Wait + Sync, O: Sink, G: Gate>(
     ensures faults_kept { O.faults sink.old ≤ O.faults sink.new }
     ensures ends { (program : ProgramTree) → IsProgramOf program loaded.now
         → EndsOwn (RepliesTo session.now.proofs session.now.queries.now program text.now session.now.bound) (λ done. 0) NoneFails
-        (Rose (O.faults sink.old) (O.faults sink.new)) (O.written sink.old) (O.written sink.new) result }
+        (Rose (O.faults sink.old) (O.faults sink.new)) (Some (O.taken sink.old)) (Some (O.taken sink.new)) result }
+    ensures replied { OnOk result ((program : ProgramTree) → IsProgramOf program loaded.now
+        → WritesReplies session.now.proofs session.now.queries.now program text.now session.now.bound (Some (O.taken sink.old)) (Some (O.taken sink.new))) }
 {
     let index = program_index(team.alloc, loaded)?;
     reply_to_lines(team, session, loaded, &index, text, sink)
@@ -157,7 +170,9 @@ fn reply_to_lines<R: Threads + Wait + Sync, O: Sink, G: Gate>(
     ensures faults_kept { O.faults sink.old ≤ O.faults sink.new }
     ensures ends { (program : ProgramTree) → IsProgramOf program loaded.now
         → EndsOwn (RepliesTo session.now.proofs session.now.queries.now program text.now session.now.bound) (λ done. 0) NoneFails
-        (Rose (O.faults sink.old) (O.faults sink.new)) (O.written sink.old) (O.written sink.new) result }
+        (Rose (O.faults sink.old) (O.faults sink.new)) (Some (O.taken sink.old)) (Some (O.taken sink.new)) result }
+    ensures replied { OnOk result ((program : ProgramTree) → IsProgramOf program loaded.now
+        → WritesReplies session.now.proofs session.now.queries.now program text.now session.now.bound (Some (O.taken sink.old)) (Some (O.taken sink.new))) }
 {
     one_session();
     let mut rest = text;
@@ -190,10 +205,10 @@ fn reply_to_line<R: Threads + Wait + Sync, O: Sink, G: Gate>(
     ensures faults_kept { O.faults sink.old ≤ O.faults sink.new }
     ensures replies { OnOk result ((program : ProgramTree) → IsProgramOf program loaded.now
         → Replies (WritesReply session.now.proofs session.now.queries.now) (CutsReply session.now.proofs session.now.queries.now) program session.now.bound
-        number line.now (O.written sink.old) (O.written sink.new)) }
+        number line.now (Some (O.taken sink.old)) (Some (O.taken sink.new))) }
     ensures cut { OnErr result ((program : ProgramTree) → IsProgramOf program loaded.now
         → RefusesLine (WritesReply session.now.proofs session.now.queries.now) (CutsReply session.now.proofs session.now.queries.now) program session.now.bound
-        number line.now (O.written sink.old) (O.written sink.new)) }
+        number line.now (Some (O.taken sink.old)) (Some (O.taken sink.new))) }
     ensures refused { IfErr result (IsRunRefusal (O.faults sink.old) (O.faults sink.new)) }
 {
     let part = loaded.copy(team.alloc)?;
@@ -220,11 +235,11 @@ fn reply_with_run<R: Threads + Wait + Sync, O: Sink, G: Gate>(
     requires valid { IsValid problem.now }
     requires index { HasIndex problem.now.clauses (arc_value index.now) }
     ensures faults_kept { O.faults sink.old ≤ O.faults sink.new }
-    ensures text { OnOk result (O.written sink.new ≡ append_known (O.written sink.old)
+    ensures text { OnOk result (Some (O.taken sink.new) ≡ append_known (Some (O.taken sink.old))
         (reply_text session.now.proofs session.now.queries.now (record { line = number; asked = Ok problem.now }))) }
     ensures refused { IfErr result (IsRunRefusal (O.faults sink.old) (O.faults sink.new)) }
-    ensures prefix { OnErr result (AppendsFront (O.written sink.old)
-        (reply_text session.now.proofs session.now.queries.now (record { line = number; asked = Ok problem.now })) (O.written sink.new)) }
+    ensures prefix { OnErr result (AppendsFront (Some (O.taken sink.old))
+        (reply_text session.now.proofs session.now.queries.now (record { line = number; asked = Ok problem.now })) (Some (O.taken sink.new))) }
 {
     write_heading(sink, "query ", number)?;
     run_with(team, problem, index, session.proofs, sink)?;
@@ -238,11 +253,11 @@ fn reply_with_fault<O: Sink>(
     sink: &mut O,
 ) -> Result<(), Refusal>
     ensures faults_kept { O.faults sink.old ≤ O.faults sink.new }
-    ensures text { OnOk result (O.written sink.new ≡ append_known (O.written sink.old)
+    ensures text { OnOk result (Some (O.taken sink.new) ≡ append_known (Some (O.taken sink.old))
         (reply_text session.now.proofs session.now.queries.now (record { line = fault.at.line; asked = Err fault }))) }
     ensures refused { IfErr result (IsRunRefusal (O.faults sink.old) (O.faults sink.new)) }
-    ensures prefix { OnErr result (AppendsFront (O.written sink.old)
-        (reply_text session.now.proofs session.now.queries.now (record { line = fault.at.line; asked = Err fault })) (O.written sink.new)) }
+    ensures prefix { OnErr result (AppendsFront (Some (O.taken sink.old))
+        (reply_text session.now.proofs session.now.queries.now (record { line = fault.at.line; asked = Err fault })) (Some (O.taken sink.new))) }
 {
     write_heading(sink, "query ", fault.at.line)?;
     write_line(Cause::Faulty(session.queries, fault), sink)?;

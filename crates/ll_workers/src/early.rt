@@ -18,7 +18,11 @@ struct Flagged<'f, O: Sink> {
 impl<'f, O: Sink> Sink for Flagged<'f, O> {
     ghost written = { λ flagged. O.written flagged.sink };
 
+    ghost taken = { λ flagged. O.taken flagged.sink };
+
     ghost faults = { λ flagged. O.faults flagged.sink };
+
+    ghost told = { λ before after more e. O.told before.sink after.sink more e };
 
     fn write(&mut self, piece: &[u8]) -> Result<usize, WriteFailed> {
         self.called.store(1, Ordering::SeqCst);

@@ -1,7 +1,7 @@
 //! The program: takes the words, and leaves the rest to the top call.
 #![tactic(auto)]
 
-use ll_edge::{FileShelf, OpenGate, StdSink, lent, words};
+use ll_edge::{FileShelf, StdSink, lent, words};
 use std::io;
 use std::process::ExitCode;
 
@@ -21,7 +21,7 @@ fn main(rt: HostRuntime) -> ExitCode {
     let mut shelf = FileShelf::new(&rt);
     let mut sink = StdSink::new(&rt);
     let status = match lent(alloc, &words) {
-        Ok(words) => ll_top::lolli(&rt, alloc, &words, &mut shelf, &mut sink, &OpenGate),
+        Ok(words) => ll_top::lolli_real(&rt, alloc, &words, &mut shelf, &mut sink),
         Err(_) => OUT_OF_MEMORY,
     };
     ExitCode::from(status)

@@ -91,7 +91,7 @@ run-deepened proofs series p now n faults middle more before mid after r d e l m
 
 -- ---- the texts of a deepening
 
-module _ (told : Option Texts) (absence read_failed : Type 0) (deepen : DeepenWords) (w : Type 0) where
+module _ (told : Option Texts) (absence read_failed : List ℕ → Type 0) (deepen : DeepenWords) (w : Type 0) where
   -- they ask no problem
   pub not-deepened : (before : Option (List ℕ)) (e : Refusal) → Prepares told absence read_failed (first_run deepen) (Err e)
       → EndsOwn (DeepenComesTo told absence read_failed deepen) status_of_found (DeepenRefuses told absence read_failed deepen) w before before (Err e)

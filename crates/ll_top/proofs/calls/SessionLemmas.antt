@@ -1,6 +1,6 @@
 -- The replies of a session, from line to line and up to the whole call.
 use Rattle.std.proofs.Common.{◌≡◌, ℕ, refl, ap, sym, subst, ◌∙◌, Bool, List, [], ◌∷◌, ◌++◌}
-use Rattle.std.specs.Prelude.{Option, Result, Err}
+use Rattle.std.specs.Prelude.{Option, Result, Err, IfOk}
 use Rattle.std.specs.Io.KnownBytes.{append_known}
 use Rattle.std.proofs.lemmas.List.{append-nil}
 use Rattle.ll_edge.specs.Counts.{Rose}
@@ -9,6 +9,10 @@ use Rattle.ll_edge.specs.Texts.{Texts}
 use Rattle.ll_index.specs.declared.index.Index.{Index}
 use Rattle.ll_index.specs.Index.{HasIndex}
 use Rattle.ll_laws.specs.Problem.{ProblemTree}
+use Rattle.ll_laws.specs.Sound.{Every}
+use Rattle.ll_laws.specs.Valid.{IsValid}
+use Rattle.ll_order.specs.Outlets.{Gives}
+use Rattle.ll_top.specs.Shown.{WritesReplies}
 use Rattle.ll_lexer.specs.declared.TextFault.{TextFault}
 use Rattle.ll_lexer.specs.declared.TextFault.TheVariants as text_fault
 use Rattle.ll_parser.specs.Raw.{ProgramTree}
@@ -57,9 +61,18 @@ module _ (proofs : Bool) (name : List ℕ) where
     replies-written count a = (
       replies_text proofs name a.queries,
       record { queries = a.queries; are = a.are; succeeds = refl; is = refl },
-      given-written Takes Breaks (λ w. w) reply replies (λ w. refl) (λ x q y h. h) (λ x q y qs h. refl) (λ x q qs. (replies_text proofs name qs, refl))
+      given-written Takes Breaks (λ w. w) reply replies (λ w. refl) (λ x q y h. h.0) (λ x q y qs h. refl) (λ x q qs. (replies_text proofs name qs, refl))
           (λ x q y h. h) before after a.queries a.given,
     )
+
+    each-valid : (x y : Option (List ℕ)) (queries : List QueryLine) → Gives Takes x queries y → Every (λ q. IfOk q.asked IsValid) queries
+    each-valid x y [] g = tt
+    each-valid x y (q ∷ queries) (z, h, g) = (h.1, each-valid z y queries g)
+
+    pub replies-valid : (count : ℕ) → Answers Takes Breaks program text bound before count after → WritesReplies proofs name program text bound before after
+    unfolding replies-written
+    replies-valid count a =
+        record { queries = a.queries; are = a.are; valid = each-valid before after a.queries a.given; written = (replies-written count a).2 }
 
     -- only a prefix of them was
     pub replies-cut : StopsShort Takes Breaks program text bound before after
@@ -69,7 +82,8 @@ module _ (proofs : Bool) (name : List ℕ) where
       (
         record { queries = queries; are = are; succeeds = refl; is = refl },
         subst (λ t. AppendsFront before t after) (append-nil (replies_text proofs name queries))
-            (refused-written Takes Breaks (λ w. w) reply replies (λ w. refl) (λ x q y h. h) (λ x q y qs h. refl) (λ x q qs. (replies_text proofs name qs, refl))
+            (refused-written Takes Breaks (λ w. w) reply replies (λ w. refl) (λ x q y h. h.0) (λ x q y qs h. refl) (λ x q qs.
+            (replies_text proofs name qs, refl))
             (λ x q y h. h) before after queries [] r),
       ),
     )
@@ -78,7 +92,7 @@ module _ (proofs : Bool) (name : List ℕ) where
       (
         record { queries = front ++ back; are = are; succeeds = refl; is = refl },
         subst (λ t. AppendsFront before t after) (append-nil (replies_text proofs name (front ++ back)))
-            (front-given Takes Breaks (λ w. w) reply replies (λ w. refl) (λ x q y h. h) (λ x q y qs h. refl) (λ x q qs. (replies_text proofs name qs, refl))
+            (front-given Takes Breaks (λ w. w) reply replies (λ w. refl) (λ x q y h. h.0) (λ x q y qs h. refl) (λ x q qs. (replies_text proofs name qs, refl))
             (λ x q y h. h) before after front back [] g),
       ),
     )
@@ -125,7 +139,7 @@ not-loaded Comes status_of program w before text_fault.OutOfMemory e r h =
 
 -- ---- the texts of a session
 
-module _ {A : Type 0} (told : Option Texts) (absence read_failed : Type 0) (session : SessionWords) (status_of : A → ℕ) (w : Type 0) where
+module _ {A : Type 0} (told : Option Texts) (absence read_failed : List ℕ → Type 0) (session : SessionWords) (status_of : A → ℕ) (w : Type 0) where
   abbrev Comes : ℕ → List ℕ → Type 0
   Comes = SessionComesTo told absence read_failed session
 
@@ -181,7 +195,8 @@ module _ {A : Type 0} (told : Option Texts) (absence read_failed : Type 0) (sess
         (RefusesText told absence read_failed session) w before after r comes refuses h
 
 -- the line of its cause was written
-pub session-refused : (told : Option Texts) (absence read_failed w : Type 0) (session : SessionWords) (before middle after : Option (List ℕ)) (role : Role)
+pub session-refused : (told : Option Texts) (absence read_failed : List ℕ → Type 0) (w : Type 0) (session : SessionWords) (before middle after : Option
+    (List ℕ)) (role : Role)
     (refusal : TextRefusal) (status : ℕ) → RefusesText told absence read_failed session role refusal
     → middle ≡ before → Refuses (cause_of (name_in_session session role) refusal) w middle after status
     → Ends (SessionComesTo told absence read_failed session) w before after status

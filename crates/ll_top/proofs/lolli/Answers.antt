@@ -1,120 +1,97 @@
-use Rattle.std.proofs.Common.{refl, ap, ◌∙◌, le_trans, Some}
+use Rattle.std.proofs.Common.{None}
 use Rattle.ll_words.specs.Words.{word_texts}
-use Rattle.ll_words.proofs.CallerLemmas.{workers-in-form}
-use Rattle.ll_top.proofs.outcomes.CallLemmas.{call-usage, call-absent, call-unreadable, call-unwritable, call-denied, call-covered, call-uncovered, completes}
-use Rattle.ll_top.proofs.outcomes.CallLemmas.{heads, plain-heads, no-plain-run, plain-misused}
+use Rattle.ll_top.proofs.outcomes.CallLemmas.{call-usage, call-absent, call-unreadable, call-unwritable, call-denied, call-covered, call-uncovered}
+use Rattle.ll_top.proofs.outcomes.CallLemmas.{completes, heads}
+use Rattle.ll_top.proofs.outcomes.OneText.{call-shown}
+use Rattle.ll_top.proofs.outcomes.ToldLemmas.{texts-fit, ends-told, shown-told}
 use Rattle.ll_top.proofs.lolli.Goals as goal
 
-pub returns-in-None-clause-usage : goal.returns-in-None-clause-usage
-returns-in-None-clause-usage g c =
-    let u = c.in-None.ensures.untouched refl in call-usage (word_texts c.args.words.now) _ _ _ _ _ _ c.serve_search.result
-    (rw (u.0, u.1) at c.serve_search.ensures.outcome)
+pub returns-clause-outcome : goal.returns-clause-outcome
+returns-clause-outcome g c = c.serve.ensures.outcome
 
-pub returns-in-None-clause-absent : goal.returns-in-None-clause-absent
-returns-in-None-clause-absent g c =
-    let u = c.in-None.ensures.untouched refl in call-absent (word_texts c.args.words.now) _ _ _ _ _ _ c.serve_search.result
-    (rw (u.0, u.1) at c.serve_search.ensures.outcome)
+pub returns-clause-run_reads : goal.returns-clause-run_reads
+returns-clause-run_reads g c = c.serve.ensures.run_reads
 
-pub returns-in-None-clause-unreadable : goal.returns-in-None-clause-unreadable
-returns-in-None-clause-unreadable g c =
-    let u = c.in-None.ensures.untouched refl in call-unreadable (word_texts c.args.words.now) _ _ _ _ _ _ c.serve_search.result
-    (rw (u.0, u.1) at c.serve_search.ensures.outcome)
+pub returns-clause-proved : goal.returns-clause-proved
+returns-clause-proved g c = c.serve.ensures.proved
 
-pub returns-in-None-clause-unwritable : goal.returns-in-None-clause-unwritable
-returns-in-None-clause-unwritable g c =
-    let u = c.in-None.ensures.untouched refl in call-unwritable (word_texts c.args.words.now) _ _ _ _ _ _ c.serve_search.result
-    (rw (u.0, u.1) at c.serve_search.ensures.outcome)
+pub returns-clause-nothing : goal.returns-clause-nothing
+returns-clause-nothing g c = c.serve.ensures.nothing
 
-pub returns-in-None-clause-denied : goal.returns-in-None-clause-denied
-returns-in-None-clause-denied g c =
-    let u = c.in-None.ensures.untouched refl in call-denied (word_texts c.args.words.now) _ _ _ _ _ _ c.serve_search.result
-    (rw (u.0, u.1) at c.serve_search.ensures.outcome)
+pub returns-clause-misused : goal.returns-clause-misused
+returns-clause-misused g c = c.serve.ensures.misused
 
-pub returns-in-None-clause-covered : goal.returns-in-None-clause-covered
-returns-in-None-clause-covered g c =
-    let u = c.in-None.ensures.untouched refl in call-covered (word_texts c.args.words.now) _ _ _ _ _ _ c.serve_search.result
-    (rw (u.0, u.1) at c.serve_search.ensures.outcome)
+pub returns-clause-kept : goal.returns-clause-kept
+returns-clause-kept g c = c.serve.ensures.kept
 
-pub returns-in-None-clause-uncovered : goal.returns-in-None-clause-uncovered
-returns-in-None-clause-uncovered g c =
-    let u = c.in-None.ensures.untouched refl in call-uncovered (word_texts c.args.words.now) _ _ _ _ _ _ c.serve_search.result
-    (rw (u.0, u.1) at c.serve_search.ensures.outcome)
+pub returns-clause-sink_faults_kept : goal.returns-clause-sink_faults_kept
+returns-clause-sink_faults_kept g c = c.serve.ensures.sink_faults_kept
 
-pub returns-in-None-clause-complete : goal.returns-in-None-clause-complete
-returns-in-None-clause-complete g c =
-    let u = c.in-None.ensures.untouched refl in
-    completes c.one_text.ensures (word_texts c.args.words.now) _ _ _ _ _ _ c.serve_search.result (rw (u.0, u.1) at c.serve_search.ensures.outcome)
+pub returns-clause-complete : goal.returns-clause-complete
+returns-clause-complete g c = λ told fits.
+    completes c.one_text.ensures (word_texts c.args.words.now) told _ _ _ _ _ c.serve.result _ (λ name m. m.rose) (c.serve.ensures.outcome told fits)
 
-pub returns-in-None-clause-outcome : goal.returns-in-None-clause-outcome
-returns-in-None-clause-outcome g c = let u = c.in-None.ensures.untouched refl in rw (u.0, u.1) at c.serve_search.ensures.outcome
+pub returns-clause-headline : goal.returns-clause-headline
+returns-clause-headline g c = λ told fits.
+    heads c.one_text.ensures (word_texts c.args.words.now) told _ _ _ _ _ c.serve.result (c.serve.ensures.outcome told fits)
 
-pub returns-in-None-clause-headline : goal.returns-in-None-clause-headline
-returns-in-None-clause-headline g c =
-    let u = c.in-None.ensures.untouched refl in
-    heads c.one_text.ensures (word_texts c.args.words.now) _ _ _ _ _ _ c.serve_search.result (rw (u.0, u.1) at c.serve_search.ensures.outcome)
+pub returns-clause-usage : goal.returns-clause-usage
+returns-clause-usage g c = call-usage (word_texts c.args.words.now) None _ _ _ _ _ c.serve.result (c.serve.ensures.outcome None tt)
 
-pub returns-in-Some-clause-headline : goal.returns-in-Some-clause-headline
-returns-in-Some-clause-headline g c =
-    plain-heads (word_texts c.args.words.now) _ _ _ _ _ _ c.lolli_plain.result c.lolli_plain.ensures.outcome c.one_text.ensures c.in-Some.status c.in-Some.is
+pub returns-clause-absent : goal.returns-clause-absent
+returns-clause-absent g c = λ e. (call-absent (word_texts c.args.words.now) None _ _ _ _ _ c.serve.result (c.serve.ensures.outcome None tt) e).1.rose
 
-pub returns-in-None-clause-proved : goal.returns-in-None-clause-proved
-returns-in-None-clause-proved g c = let u = c.in-None.ensures.untouched refl in rw (u.0, u.1) at c.serve_search.ensures.proved
+pub returns-clause-unreadable : goal.returns-clause-unreadable
+returns-clause-unreadable g c = λ e. (call-unreadable (word_texts c.args.words.now) None _ _ _ _ _ c.serve.result (c.serve.ensures.outcome None tt) e).1.rose
 
-pub returns-in-None-clause-nothing : goal.returns-in-None-clause-nothing
-returns-in-None-clause-nothing g c = let u = c.in-None.ensures.untouched refl in rw u.0 at c.serve_search.ensures.nothing
+pub returns-clause-unwritable : goal.returns-clause-unwritable
+returns-clause-unwritable g c = call-unwritable (word_texts c.args.words.now) None _ _ _ _ _ c.serve.result (c.serve.ensures.outcome None tt)
 
-pub returns-in-None-clause-misused : goal.returns-in-None-clause-misused
-returns-in-None-clause-misused g c = λ h. absurd (h (workers-in-form (word_texts c.args.words.now) (c.in-None.ensures.workers.0 refl)))
+pub returns-clause-denied : goal.returns-clause-denied
+returns-clause-denied g c = λ e told fits. call-denied (word_texts c.args.words.now) told _ _ _ _ _ c.serve.result (c.serve.ensures.outcome told fits) e
 
-pub returns-in-None-clause-same_texts : goal.returns-in-None-clause-same_texts
-returns-in-None-clause-same_texts g c = c.serve_search.ensures.same_texts ∙ c.lolli_plain.ensures.same_texts
+pub returns-clause-covered : goal.returns-clause-covered
+returns-clause-covered g c = λ f e told fits. call-covered (word_texts c.args.words.now) told _ _ _ _ _ c.serve.result (c.serve.ensures.outcome told fits) f e
 
-pub returns-in-None-clause-counts_kept : goal.returns-in-None-clause-counts_kept
-returns-in-None-clause-counts_kept g c =
-    let kept = c.lolli_plain.ensures.counts_kept in (
-      le_trans kept.0 c.serve_search.ensures.shelf_faults_kept,
-      le_trans kept.1 c.serve_search.ensures.absences_kept,
-      le_trans kept.2 c.serve_search.ensures.sink_faults_kept,
-    )
+pub returns-clause-uncovered : goal.returns-clause-uncovered
+returns-clause-uncovered g c = λ e told fits. call-uncovered (word_texts c.args.words.now) told _ _ _ _ _ c.serve.result (c.serve.ensures.outcome told fits) e
 
-pub returns-in-Some-clause-outcome : goal.returns-in-Some-clause-outcome
-returns-in-Some-clause-outcome g c = c.in-Some.ensures.outcome
+pub returns-clause-shown : goal.returns-clause-shown
+returns-clause-shown g c = λ check is e told fits.
+    call-shown c.answers_are_what_follows.ensures.unlabelled (word_texts c.args.words.now) told _ _ check _ _ _ c.serve.result
+    (c.serve.ensures.outcome told fits) is e
 
-pub returns-in-Some-clause-complete : goal.returns-in-Some-clause-complete
-returns-in-Some-clause-complete g c = c.in-Some.ensures.complete
+pub returns-clause-told_outcome : goal.returns-clause-told_outcome
+returns-clause-told_outcome g c = ends-told (g.O.Sink.taken c.args.sink.now) (g.O.Sink.taken c.serve.new.sink) _ _
+    (g.met.O.Sink.told c.args.sink.now c.serve.new.sink) _ _ c.serve.result
+    (c.serve.ensures.outcome _ (texts-fit c.serve.ensures.kept (g.met.F.Shelf.told c.serve.new.shelf)))
 
-pub returns-in-Some-clause-proved : goal.returns-in-Some-clause-proved
-returns-in-Some-clause-proved g c = λ run is small. absurd (no-plain-run (word_texts c.args.words.now) c.in-Some.status c.in-Some.ensures.workers is.form)
+pub returns-clause-told_complete : goal.returns-clause-told_complete
+returns-clause-told_complete g c = completes c.one_text.ensures (word_texts c.args.words.now) _ _ _ _ _ _ c.serve.result _ (λ name m. m.rose)
+    (returns-clause-told_outcome g c)
 
-pub returns-in-Some-clause-nothing : goal.returns-in-Some-clause-nothing
-returns-in-Some-clause-nothing g c = λ run is one. absurd (no-plain-run (word_texts c.args.words.now) c.in-Some.status c.in-Some.ensures.workers is.form)
+pub returns-clause-told_headline : goal.returns-clause-told_headline
+returns-clause-told_headline g c = heads c.one_text.ensures (word_texts c.args.words.now) _ _ _ _ _ _ c.serve.result (returns-clause-told_outcome g c)
 
-pub returns-in-Some-clause-usage : goal.returns-in-Some-clause-usage
-returns-in-Some-clause-usage g c = λ e. c.in-Some.ensures.usage (ap (λ n. Some n) e)
+pub returns-clause-told_proved : goal.returns-clause-told_proved
+returns-clause-told_proved g c = λ run is small.
+    shown-told (g.O.Sink.taken c.args.sink.now) (g.O.Sink.taken c.serve.new.sink) _ _ (g.met.O.Sink.told c.args.sink.now c.serve.new.sink) _ run
+    (c.serve.ensures.proved run is small _ (texts-fit c.serve.ensures.kept (g.met.F.Shelf.told c.serve.new.shelf)))
 
-pub returns-in-Some-clause-misused : goal.returns-in-Some-clause-misused
-returns-in-Some-clause-misused g c = λ h. plain-misused c.in-Some.status 3 6 (c.in-Some.ensures.misused h)
+pub returns-clause-told_nothing : goal.returns-clause-told_nothing
+returns-clause-told_nothing g c = λ run is one. c.serve.ensures.nothing run is one _ (texts-fit c.serve.ensures.kept (g.met.F.Shelf.told c.serve.new.shelf))
 
-pub returns-in-Some-clause-absent : goal.returns-in-Some-clause-absent
-returns-in-Some-clause-absent g c = λ e. c.in-Some.ensures.absent (ap (λ n. Some n) e)
+pub returns-clause-told_denied : goal.returns-clause-told_denied
+returns-clause-told_denied g c = λ e. returns-clause-denied g c e _ (texts-fit c.serve.ensures.kept (g.met.F.Shelf.told c.serve.new.shelf))
 
-pub returns-in-Some-clause-unreadable : goal.returns-in-Some-clause-unreadable
-returns-in-Some-clause-unreadable g c = λ e. c.in-Some.ensures.unreadable (ap (λ n. Some n) e)
+pub returns-clause-told_covered : goal.returns-clause-told_covered
+returns-clause-told_covered g c = λ f e. returns-clause-covered g c f e _ (texts-fit c.serve.ensures.kept (g.met.F.Shelf.told c.serve.new.shelf))
 
-pub returns-in-Some-clause-unwritable : goal.returns-in-Some-clause-unwritable
-returns-in-Some-clause-unwritable g c = λ e. c.in-Some.ensures.unwritable (ap (λ n. Some n) e)
+pub returns-clause-told_uncovered : goal.returns-clause-told_uncovered
+returns-clause-told_uncovered g c = λ e. returns-clause-uncovered g c e _ (texts-fit c.serve.ensures.kept (g.met.F.Shelf.told c.serve.new.shelf))
 
-pub returns-in-Some-clause-denied : goal.returns-in-Some-clause-denied
-returns-in-Some-clause-denied g c = λ e. c.in-Some.ensures.denied (ap (λ n. Some n) e)
+pub returns-clause-replied : goal.returns-clause-replied
+returns-clause-replied g c = c.serve.ensures.replied
 
-pub returns-in-Some-clause-covered : goal.returns-in-Some-clause-covered
-returns-in-Some-clause-covered g c = λ f e. c.in-Some.ensures.covered f (ap (λ n. Some n) e)
-
-pub returns-in-Some-clause-uncovered : goal.returns-in-Some-clause-uncovered
-returns-in-Some-clause-uncovered g c = λ e. c.in-Some.ensures.uncovered (ap (λ n. Some n) e)
-
-pub returns-in-Some-clause-same_texts : goal.returns-in-Some-clause-same_texts
-returns-in-Some-clause-same_texts g c = c.in-Some.ensures.same_texts
-
-pub returns-in-Some-clause-counts_kept : goal.returns-in-Some-clause-counts_kept
-returns-in-Some-clause-counts_kept g c = c.in-Some.ensures.counts_kept
+pub returns-clause-deepened : goal.returns-clause-deepened
+returns-clause-deepened g c = c.serve.ensures.deepened

@@ -13,7 +13,7 @@ use Rattle.ll_top.specs.Making.{MakeComesTo}
 use Rattle.ll_words.specs.Making.{MakeWords, MadeRunWords}
 use Rattle.ll_top.specs.MadeRuns.{MadeRunComesTo}
 use Rattle.ll_judge.specs.Faults.{Cause, Usage, Absent, Unreadable, Oversized, OversizedAs, Faulty, fault_text, cause_status}
-use Rattle.ll_judge.specs.Outcome.{ReadFails, absent as is_absent, unreadable as is_unreadable, oversized as is_oversized, run_texts, RunFails}
+use Rattle.ll_judge.specs.Outcome.{AnyName, NoName, ReadFails, absent as is_absent, unreadable as is_unreadable, oversized as is_oversized, run_texts, RunFails}
 use Rattle.ll_judge.specs.Outcome.{not_read, faulty, PrintFails, source_not_read, faulty_source, PrintComesTo, printed, print_failed, RunAsks}
 use Rattle.ll_top.specs.Outcome.{RunComesTo, ran, failed, front_events, status_of_run, text_of_run, whole_text}
 use Rattle.ll_check.specs.Outcome.{name_in_check, check_texts, CheckFails, texts_not_read, faulty_text, CheckComesTo, shown, refuted, covered, too_long}
@@ -43,7 +43,8 @@ ends-as Comes Other f w before after status (no_memory s a) = no_memory s (own a
     own (nothing e) = nothing e
     own (front s t c a) = front s t (f s t c) a
 
-module _ (words : List (List ℕ)) (told : Option Texts) (absence read_failed write_failed : Type 0) (before after : Option (List ℕ)) (status : ℕ) where
+module _ (words : List (List ℕ)) (told : Option Texts) (absence read_failed : List ℕ → Type 0) (write_failed : Type 0) (before after : Option (List ℕ))
+    (status : ℕ) where
   abbrev pub CallEnds : Type 0
   CallEnds = Ends (ComesTo words told absence read_failed) write_failed before after status
 
@@ -87,7 +88,7 @@ module _ (words : List (List ℕ)) (told : Option Texts) (absence read_failed wr
 
 -- ---- which command
 
-module _ (words : List (List ℕ)) (told : Option Texts) (absence read_failed : Type 0) (status : ℕ) (text : List ℕ) where
+module _ (words : List (List ℕ)) (told : Option Texts) (absence read_failed : List ℕ → Type 0) (status : ℕ) (text : List ℕ) where
   abbrev pub is_misuse : ComesTo words told absence read_failed status text → Bool
   is_misuse (misused n b s t) = true
   is_misuse c = false
@@ -143,19 +144,19 @@ run-of-small first p = by_end (is_some (front_events first p)) (run-small p)
     by_end false h = h
 
 -- what a status says of a command
-record Says (absence read_failed : Type 0) (status : ℕ) : Type 0 where
+record Says (absence read_failed : List ℕ → Type 0) (status : ℕ) : Type 0 where
   used : status ≡ 3 → ⊥
-  absent : status ≡ 4 → absence
-  unreadable : status ≡ 5 → read_failed
+  absent : status ≡ 4 → (name : List ℕ) × absence name
+  unreadable : status ≡ 5 → (name : List ℕ) × read_failed name
   cut_off : status ≡ 6 → ⊥
 
 -- and of one that judges no derivation
-record Unjudged (absence read_failed : Type 0) (status : ℕ) : Type 0 where
+record Unjudged (absence read_failed : List ℕ → Type 0) (status : ℕ) : Type 0 where
   says : Says absence read_failed status
   undenied : status ≡ 9 → ⊥
   uncounted : status ≡ 11 → ⊥
 
-module _ (told : Option Texts) (absence read_failed : Type 0) where
+module _ (told : Option Texts) (absence read_failed : List ℕ → Type 0) where
   small-says : (status : ℕ) → status ≤ 2 → Unjudged absence read_failed status
   small-says status l = record {
     says = record { used = λ e. omega arith; absent = λ e. absurd (omega arith); unreadable = λ e. absurd (omega arith); cut_off = λ e. omega arith };
@@ -172,12 +173,12 @@ module _ (told : Option Texts) (absence read_failed : Type 0) where
 
   unread-says : (names : List (List ℕ)) (cause : Cause) → ReadFails told absence read_failed names cause → Unjudged absence read_failed (cause_status cause)
   unread-says names (Absent name) (is_absent n r a f) = record {
-    says = record { used = λ e. omega arith; absent = λ e. a; unreadable = λ e. absurd (omega arith); cut_off = λ e. omega arith };
+    says = record { used = λ e. omega arith; absent = λ e. (n, a); unreadable = λ e. absurd (omega arith); cut_off = λ e. omega arith };
     undenied = λ e. omega arith;
     uncounted = λ e. omega arith;
   }
   unread-says names (Unreadable name) (is_unreadable n r f) = record {
-    says = record { used = λ e. omega arith; absent = λ e. absurd (omega arith); unreadable = λ e. f; cut_off = λ e. omega arith };
+    says = record { used = λ e. omega arith; absent = λ e. absurd (omega arith); unreadable = λ e. (n, f); cut_off = λ e. omega arith };
     undenied = λ e. omega arith;
     uncounted = λ e. omega arith;
   }
@@ -265,7 +266,7 @@ module _ (told : Option Texts) (absence read_failed : Type 0) where
   check-comes-says check status text (counting p d n c g h s t) = judged-says status (inr s)
   check-comes-says check status text (check_failed cause f s t) = (at-status status (cause_status cause) s (check-cause-says check cause f)).says
 
-module _ (words : List (List ℕ)) (told : Option Texts) (absence read_failed : Type 0) where
+module _ (words : List (List ℕ)) (told : Option Texts) (absence read_failed : List ℕ → Type 0) where
   -- a call that judges no derivation
   abbrev judges : (status : ℕ) (text : List ℕ) → ComesTo words told absence read_failed status text → Bool
   judges status text (misused n b s t) = true
@@ -353,19 +354,19 @@ module _ (words : List (List ℕ)) (told : Option Texts) (absence read_failed : 
     call-usage (unwritable meant text c w s a) e f = omega arith
     call-usage (no_memory s a) e f = omega arith
 
-    pub call-absent : Ends (ComesTo words told absence read_failed) write_failed before after status → status ≡ 4 → absence
+    pub call-absent : Ends (ComesTo words told absence read_failed) write_failed before after status → status ≡ 4 → (name : List ℕ) × absence name
     call-absent (whole text c a) e = by c
       where
-        by : ComesTo words told absence read_failed status text → absence
+        by : ComesTo words told absence read_failed status text → (name : List ℕ) × absence name
         by (misused n b s t) = absurd (omega arith)
         by c = (comes-says status text c refl).absent e
     call-absent (unwritable meant text c w s a) e = absurd (omega arith)
     call-absent (no_memory s a) e = absurd (omega arith)
 
-    pub call-unreadable : Ends (ComesTo words told absence read_failed) write_failed before after status → status ≡ 5 → read_failed
+    pub call-unreadable : Ends (ComesTo words told absence read_failed) write_failed before after status → status ≡ 5 → (name : List ℕ) × read_failed name
     call-unreadable (whole text c a) e = by c
       where
-        by : ComesTo words told absence read_failed status text → read_failed
+        by : ComesTo words told absence read_failed status text → (name : List ℕ) × read_failed name
         by (misused n b s t) = absurd (omega arith)
         by c = (comes-says status text c refl).unreadable e
     call-unreadable (unwritable meant text c w s a) e = absurd (omega arith)
@@ -399,24 +400,24 @@ module _ (words : List (List ℕ)) (told : Option Texts) (absence read_failed : 
 -- ---- completeness
 
 -- where the texts are told and no read failed, absences need no count
-module _ (texts : Texts) (absence read_failed : Type 0) (no_fault : read_failed → ⊥) where
+module _ (texts : Texts) (absence read_failed : List ℕ → Type 0) (no_fault : (name : List ℕ) → read_failed name → ⊥) where
   told-unread : (names : List (List ℕ)) (cause : Cause) → ReadFails (Some texts) absence read_failed names cause
-      → ReadFails (Some texts) (Unit {0}) ⊥ names cause
+      → ReadFails (Some texts) AnyName NoName names cause
   told-unread names _ (is_absent a r w e) = is_absent a r tt e
-  told-unread names _ (is_unreadable a r w) = absurd (no_fault w)
+  told-unread names _ (is_unreadable a r w) = absurd (no_fault a w)
   told-unread names _ (is_oversized a r l) = is_oversized a r l
 
-  told-fails : (run : RunWords) (cause : Cause) → RunFails (Some texts) absence read_failed run cause → RunFails (Some texts) (Unit {0}) ⊥ run cause
+  told-fails : (run : RunWords) (cause : Cause) → RunFails (Some texts) absence read_failed run cause → RunFails (Some texts) AnyName NoName run cause
   told-fails run _ (not_read c r) = not_read c (told-unread (run_texts run) c r)
   told-fails run _ (faulty p q role g h k t) = faulty p q role g h k t
 
   told-run : (run : RunWords) (status : ℕ) (text : List ℕ) → RunComesTo (Some texts) absence read_failed run status text
-      → RunComesTo (Some texts) (Unit {0}) ⊥ run status text
+      → RunComesTo (Some texts) AnyName NoName run status text
   told-run run status text (ran p a e f) = ran p a e f
   told-run run status text (failed c h e f) = failed c (told-fails run c h) e f
 
   told-session : (session : SessionWords) (status : ℕ) (text : List ℕ) → SessionComesTo (Some texts) absence read_failed session status text
-      → SessionComesTo (Some texts) (Unit {0}) ⊥ session status text
+      → SessionComesTo (Some texts) AnyName NoName session status text
   told-session session status text (replied q a e f) = replied q a e f
   told-session session status text (session_failed _ (session_not_read c r) e f) =
       session_failed c (session_not_read c (told-unread (session.program ∷ session.queries ∷ []) c r)) e f
@@ -424,18 +425,18 @@ module _ (texts : Texts) (absence read_failed : Type 0) (no_fault : read_failed 
       session_failed (Faulty session.program g) (faulty_program p t g h k x) e f
 
   told-deepen : (deepen : DeepenWords) (status : ℕ) (text : List ℕ) → DeepenComesTo (Some texts) absence read_failed deepen status text
-      → DeepenComesTo (Some texts) (Unit {0}) ⊥ deepen status text
+      → DeepenComesTo (Some texts) AnyName NoName deepen status text
   told-deepen deepen status text (deepened n p a d e f) = deepened n p a d e f
   told-deepen deepen status text (deepen_failed c h e f) = deepen_failed c (told-fails (run_within deepen deepen.series.from) c h) e f
 
   told-print : (name : List ℕ) (status : ℕ) (text : List ℕ) → PrintComesTo (Some texts) absence read_failed name status text
-      → PrintComesTo (Some texts) (Unit {0}) ⊥ name status text
+      → PrintComesTo (Some texts) AnyName NoName name status text
   told-print name status text (printed p e) = printed p e
   told-print name status text (print_failed _ (source_not_read c r) e f) = print_failed c (source_not_read c (told-unread (name ∷ []) c r)) e f
   told-print name status text (print_failed _ (faulty_source p g h t) e f) = print_failed (Faulty name g) (faulty_source p g h t) e f
 
   told-check : (check : CheckWords) (status : ℕ) (text : List ℕ) → CheckComesTo (Some texts) absence read_failed check status text
-      → CheckComesTo (Some texts) (Unit {0}) ⊥ check status text
+      → CheckComesTo (Some texts) AnyName NoName check status text
   told-check check status text (shown p d b g h e f) = shown p d b g h e f
   told-check check status text (covered p d n b g h e f) = covered p d n b g h e f
   told-check check status text (too_long p d b g h e f) = too_long p d b g h e f
@@ -446,14 +447,14 @@ module _ (texts : Texts) (absence read_failed : Type 0) (no_fault : read_failed 
       check_failed (Faulty (name_in_check check role) g) (faulty_text p q s role g h k l t) e f
 
   told-convert : (convert : ConvertWords) (status : ℕ) (text : List ℕ) → ConvertComesTo (Some texts) absence read_failed convert status text
-      → ConvertComesTo (Some texts) (Unit {0}) ⊥ convert status text
+      → ConvertComesTo (Some texts) AnyName NoName convert status text
   told-convert convert status text (converted p h k l s) = converted p h k l s
   told-convert convert status text (convert_failed _ (proof_not_read c r) e f) = convert_failed c (proof_not_read c (told-unread (convert.proof ∷ []) c r)) e f
   told-convert convert status text (convert_failed c (faulty_proof p g h k) e f) = convert_failed c (faulty_proof p g h k) e f
   told-convert convert status text (convert_failed c (too_long_as p t h k l) e f) = convert_failed c (too_long_as p t h k l) e f
 
   told-comes : (words : List (List ℕ)) (status : ℕ) (text : List ℕ) → ComesTo words (Some texts) absence read_failed status text
-      → ComesTo words (Some texts) (Unit {0}) ⊥ status text
+      → ComesTo words (Some texts) AnyName NoName status text
   told-comes words status text (misused n b e f) = misused n b e f
   told-comes words status text (runs run r c) = runs run r (told-run run status text c)
   told-comes words status text (sessions session r c) = sessions session r (told-session session status text c)
@@ -465,42 +466,44 @@ module _ (texts : Texts) (absence read_failed : Type 0) (no_fault : read_failed 
   told-comes words status text (runs_made run h c) = runs_made run h c
 
 module _
-    (one : (words : List (List ℕ)) (texts : Texts) (status other : ℕ) (text more : List ℕ) → ComesTo words (Some texts) (Unit {0}) ⊥ status text
-    → ComesTo words (Some texts) (Unit {0}) ⊥ other more → (status ≡ other) × (text ≡ more))
-    (words : List (List ℕ)) (told : Option Texts) (absence read_failed write_failed : Type 0) (before after : Option (List ℕ)) (status : ℕ) where
-  pub completes : Ends (ComesTo words told absence read_failed) write_failed before after status
-      → Completes words told read_failed write_failed before after status
-  completes (whole text c a) = λ texts meant other e read written m.
-      let own = told-comes texts absence read_failed read words status text (subst (λ t. ComesTo words t absence read_failed status text) e c) in
+    (one : (words : List (List ℕ)) (texts : Texts) (status other : ℕ) (text more : List ℕ) → ComesTo words (Some texts) AnyName NoName status text
+    → ComesTo words (Some texts) AnyName NoName other more → (status ≡ other) × (text ≡ more))
+    (words : List (List ℕ)) (told : Option Texts) (absence read_failed : List ℕ → Type 0) (write_failed : Type 0) (before after : Option (List ℕ))
+    (status : ℕ) where
+  pub completes : (any_failed : Type 0) → ((name : List ℕ) → read_failed name → any_failed)
+      → Ends (ComesTo words told absence read_failed) write_failed before after status → Completes words told any_failed write_failed before after status
+  completes any_failed rose (whole text c a) = λ texts meant other e read written m.
+      let own = told-comes texts absence read_failed (λ name h. read (rose name h)) words status text (subst
+      (λ t. ComesTo words t absence read_failed status text) e c) in
       let same = one words texts status meant text other own m in
       inl (same.0, a ∙ ap (λ t. append_known before t) same.1)
-  completes (unwritable meant text c w s a) = λ texts other t e read written m. absurd (written w)
-  completes (no_memory s a) = λ texts meant t e read written m. inr s
+  completes any_failed rose (unwritable meant text c w s a) = λ texts other t e read written m. absurd (written w)
+  completes any_failed rose (no_memory s a) = λ texts meant t e read written m. inr s
 
 -- ---- the headline
 
 -- where no read failed by its status, absences need no count
-module _ (texts : Texts) (absence read_failed : Type 0) where
+module _ (texts : Texts) (absence read_failed : List ℕ → Type 0) where
   calm-unread : (names : List (List ℕ)) (cause : Cause) → (cause_status cause ≡ 5 → ⊥) → ReadFails (Some texts) absence read_failed names cause
-      → ReadFails (Some texts) (Unit {0}) ⊥ names cause
+      → ReadFails (Some texts) AnyName NoName names cause
   calm-unread names _ apart (is_absent a r w e) = is_absent a r tt e
   calm-unread names _ apart (is_unreadable a r w) = absurd (apart refl)
   calm-unread names _ apart (is_oversized a r l) = is_oversized a r l
 
   calm-fails : (run : RunWords) (cause : Cause) → (cause_status cause ≡ 5 → ⊥) → RunFails (Some texts) absence read_failed run cause
-      → RunFails (Some texts) (Unit {0}) ⊥ run cause
+      → RunFails (Some texts) AnyName NoName run cause
   calm-fails run _ apart (not_read c r) = not_read c (calm-unread (run_texts run) c apart r)
   calm-fails run _ apart (faulty p q role g h k t) = faulty p q role g h k t
 
   calm-run : (run : RunWords) (status : ℕ) (text : List ℕ) → (status ≡ 5 → ⊥) → RunComesTo (Some texts) absence read_failed run status text
-      → RunComesTo (Some texts) (Unit {0}) ⊥ run status text
+      → RunComesTo (Some texts) AnyName NoName run status text
   calm-run run status text apart (ran p a e f) = ran p a e f
   calm-run run status text apart (failed c h e f) = failed c (calm-fails run c (λ five. apart (e ∙ five)) h) e f
 
   -- a call with the words of a run comes to what the run comes to
   calm-comes : (words : List (List ℕ)) (run : RunWords) (status : ℕ) (text : List ℕ) → IsRun words run → (status ≡ 5 → ⊥)
       → ComesTo words (Some texts) absence read_failed status text
-      → ComesTo words (Some texts) (Unit {0}) ⊥ status text
+      → ComesTo words (Some texts) AnyName NoName status text
   calm-comes words run status text r apart (runs other o c) = runs other o (calm-run other status text apart c)
   calm-comes words run status text r apart (misused n b e f) = absurd (bad-not-in-form words n b (run-in-form words r.form))
   calm-comes words run status text r apart c = absurd (let k = sym (run-kind words r.form)
@@ -508,13 +511,14 @@ module _ (texts : Texts) (absence read_failed : Type 0) where
 
 -- what a run comes to whose texts ask a problem
 whole-run : (texts : Texts) (run : RunWords) (p : ProblemTree) → run.first ≡ None → RunAsks (Some texts) run p
-    → RunComesTo (Some texts) (Unit {0}) ⊥ run (run_status p) (whole_text run.proofs p)
+    → RunComesTo (Some texts) AnyName NoName run (run_status p) (whole_text run.proofs p)
 whole-run texts run p e a = ran p a (ap (λ first. status_of_run first p) (sym e)) (ap (λ first. text_of_run first run.proofs p) (sym e))
 
 module _
-    (one : (words : List (List ℕ)) (texts : Texts) (status other : ℕ) (text more : List ℕ) → ComesTo words (Some texts) (Unit {0}) ⊥ status text
-    → ComesTo words (Some texts) (Unit {0}) ⊥ other more → (status ≡ other) × (text ≡ more))
-    (words : List (List ℕ)) (told : Option Texts) (absence read_failed write_failed : Type 0) (before after : Option (List ℕ)) (status : ℕ) where
+    (one : (words : List (List ℕ)) (texts : Texts) (status other : ℕ) (text more : List ℕ) → ComesTo words (Some texts) AnyName NoName status text
+    → ComesTo words (Some texts) AnyName NoName other more → (status ≡ other) × (text ≡ more))
+    (words : List (List ℕ)) (told : Option Texts) (absence read_failed : List ℕ → Type 0) (write_failed : Type 0) (before after : Option (List ℕ))
+    (status : ℕ) where
   pub heads : Ends (ComesTo words told absence read_failed) write_failed before after status → Headline words told before after status
   heads (whole text c a) = λ run texts p r first e asks five six ten.
       let own = calm-comes texts absence read_failed words run status text r five (subst (λ t. ComesTo words t absence read_failed status text) e c) in
@@ -525,7 +529,8 @@ module _
 
 -- ---- a call that may not be served
 
-module _ (words : List (List ℕ)) (told : Option Texts) (absence read_failed write_failed : Type 0) (before after : Option (List ℕ)) (answer : Option ℕ)
+module _ (words : List (List ℕ)) (told : Option Texts) (absence read_failed : List ℕ → Type 0) (write_failed : Type 0) (before after : Option (List ℕ))
+    (answer : Option ℕ)
     (ends : IfSome answer (Ends (ComesTo words told absence read_failed) write_failed before after)) where
   at-status_of : (status : ℕ) → answer ≡ Some status → Ends (ComesTo words told absence read_failed) write_failed before after status
   at-status_of status e = subst (λ o. IfSome o (Ends (ComesTo words told absence read_failed) write_failed before after)) e ends
@@ -533,10 +538,10 @@ module _ (words : List (List ℕ)) (told : Option Texts) (absence read_failed wr
   pub plain-usage : answer ≡ Some 3 → IsInForm words → ⊥
   plain-usage e f = call-usage words told absence read_failed write_failed before after 3 (at-status_of 3 e) refl f
 
-  pub plain-absent : answer ≡ Some 4 → absence
+  pub plain-absent : answer ≡ Some 4 → (name : List ℕ) × absence name
   plain-absent e = call-absent words told absence read_failed write_failed before after 4 (at-status_of 4 e) refl
 
-  pub plain-unreadable : answer ≡ Some 5 → read_failed
+  pub plain-unreadable : answer ≡ Some 5 → (name : List ℕ) × read_failed name
   plain-unreadable e = call-unreadable words told absence read_failed write_failed before after 5 (at-status_of 5 e) refl
 
   pub plain-unwritable : answer ≡ Some 6 → write_failed
@@ -551,20 +556,25 @@ module _ (words : List (List ℕ)) (told : Option Texts) (absence read_failed wr
   pub plain-uncovered : answer ≡ Some 11 → IsUncoveredCall words told
   plain-uncovered e = call-uncovered words told absence read_failed write_failed before after 11 (at-status_of 11 e) refl
 
-  pub plain-completes : ((words : List (List ℕ)) (texts : Texts) (status other : ℕ) (text more : List ℕ) → ComesTo words (Some texts) (Unit {0}) ⊥ status text
-      → ComesTo words (Some texts) (Unit {0}) ⊥ other more → (status ≡ other) × (text ≡ more))
-      → IfSome answer (Completes words told read_failed write_failed before after)
-  plain-completes one = by answer ends
+  pub plain-completes : ((words : List (List ℕ)) (texts : Texts) (status other : ℕ) (text more : List ℕ) → ComesTo words (Some texts) AnyName NoName status text
+      → ComesTo words (Some texts) AnyName NoName other more → (status ≡ other) × (text ≡ more))
+      → (any_failed : Type 0) → ((name : List ℕ) → read_failed name → any_failed)
+      → IfSome answer (Completes words told any_failed write_failed before after)
+  plain-completes one any_failed rose = by answer ends
     where
       by : (o : Option ℕ) → IfSome o (Ends (ComesTo words told absence read_failed) write_failed before after)
-          → IfSome o (Completes words told read_failed write_failed before after)
+          → IfSome o (Completes words told any_failed write_failed before after)
       by None h = tt
-      by (Some status) h = completes one words told absence read_failed write_failed before after status h
+      by (Some status) h = completes one words told absence read_failed write_failed before after status any_failed rose h
 
-  pub plain-heads : ((words : List (List ℕ)) (texts : Texts) (status other : ℕ) (text more : List ℕ) → ComesTo words (Some texts) (Unit {0}) ⊥ status text
-      → ComesTo words (Some texts) (Unit {0}) ⊥ other more → (status ≡ other) × (text ≡ more))
+  pub plain-heads : ((words : List (List ℕ)) (texts : Texts) (status other : ℕ) (text more : List ℕ) → ComesTo words (Some texts) AnyName NoName status text
+      → ComesTo words (Some texts) AnyName NoName other more → (status ≡ other) × (text ≡ more))
       → (status : ℕ) → answer ≡ Some status → Headline words told before after status
   plain-heads one status e = heads one words told absence read_failed write_failed before after status (at-status_of status e)
+
+-- no words of a form with workers were served
+pub no-plain : (words : List (List ℕ)) (status : ℕ) → ((Some status ≡ None) ↔ IsInWorkersForm words) → IsInWorkersForm words → ⊥
+no-plain words status h f = let e = h.1 f in cc
 
 -- no words of a run were served
 pub no-plain-run : (words : List (List ℕ)) (status : ℕ) → ((Some status ≡ None) ↔ IsInWorkersForm words) → FitsForm run_form words → ⊥

@@ -8,7 +8,7 @@ use Rattle.ll_laws.specs.Problem.{ProblemTree}
 use Rattle.ll_laws.specs.Output.{run_status}
 use Rattle.ll_judge.specs.Faults.{Cause, fault_text, cause_status}
 use Rattle.ll_words.specs.Words.{RunWords, DeepenWords}
-use Rattle.ll_judge.specs.Outcome.{RunAsks, RunFails}
+use Rattle.ll_judge.specs.Outcome.{AnyName, NoName, RunAsks, RunFails}
 use Rattle.ll_top.specs.Outcome.{whole_text}
 use Rattle.ll_top.specs.Deepening.{run_within, bound_line, DeepenComesTo, deepened, deepen_failed}
 use Rattle.ll_top.specs.DeepenEnds.{with_bound, first_run}
@@ -16,8 +16,8 @@ use Rattle.ll_top.proofs.calls.DeepenLemmas.{asks-within, deciding-within}
 
 -- what is known of runs: they ask one problem, or fail of one cause, and not both
 module _ (texts : Texts) (one_problem : (run : RunWords) (p q : ProblemTree) → RunAsks (Some texts) run p → RunAsks (Some texts) run q → p ≡ q)
-    (not_both : (run : RunWords) (p : ProblemTree) (c : Cause) → RunAsks (Some texts) run p → RunFails (Some texts) (Unit {0}) ⊥ run c → ⊥)
-    (one_cause : (run : RunWords) (c d : Cause) → RunFails (Some texts) (Unit {0}) ⊥ run c → RunFails (Some texts) (Unit {0}) ⊥ run d → c ≡ d) where
+    (not_both : (run : RunWords) (p : ProblemTree) (c : Cause) → RunAsks (Some texts) run p → RunFails (Some texts) AnyName NoName run c → ⊥)
+    (one_cause : (run : RunWords) (c d : Cause) → RunFails (Some texts) AnyName NoName run c → RunFails (Some texts) AnyName NoName run d → c ≡ d) where
   -- one bound decides
   deciding-once : (deepen : DeepenWords) (n m : ℕ) (p q : ProblemTree) → RunAsks (Some texts) (run_within deepen n) p
       → RunAsks (Some texts) (run_within deepen m) q → IsDeciding p deepen.series n → IsDeciding q deepen.series m → n ≡ m
@@ -28,11 +28,11 @@ module _ (texts : Texts) (one_problem : (run : RunWords) (p q : ProblemTree) →
       (deciding-within q deepen.series m 0 e)
 
   asks-or-fails : (deepen : DeepenWords) (n : ℕ) (p : ProblemTree) (c : Cause) → RunAsks (Some texts) (run_within deepen n) p
-      → RunFails (Some texts) (Unit {0}) ⊥ (first_run deepen) c → ⊥
+      → RunFails (Some texts) AnyName NoName (first_run deepen) c → ⊥
   asks-or-fails deepen n p c a f = not_both (first_run deepen) (with_bound p deepen.series.from) c (asks-within (Some texts) deepen n deepen.series.from p a) f
 
-  pub deepens-one : (deepen : DeepenWords) (s t : ℕ) (u v : List ℕ) → DeepenComesTo (Some texts) (Unit {0}) ⊥ deepen s u
-      → DeepenComesTo (Some texts) (Unit {0}) ⊥ deepen t v → (s ≡ t) × (u ≡ v)
+  pub deepens-one : (deepen : DeepenWords) (s t : ℕ) (u v : List ℕ) → DeepenComesTo (Some texts) AnyName NoName deepen s u
+      → DeepenComesTo (Some texts) AnyName NoName deepen t v → (s ≡ t) × (u ≡ v)
   deepens-one deepen s t u v (deepened n p a d e f) (deepened m q b c g h) =
       let same = deciding-once deepen n m p q a b d c in
       let o = one_problem (run_within deepen m) p q (subst (λ x. RunAsks (Some texts) (run_within deepen x) p) same a) b in (

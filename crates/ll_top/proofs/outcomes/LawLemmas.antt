@@ -36,7 +36,8 @@ use Rattle.ll_judge.specs.Judging.{HasGrammarFault, IsProgramText, IsQueryText, 
 use Rattle.ll_judge.specs.Judging.{of_program_reading, of_program_scope, IsQueryFault, of_query_reading, of_query_scope, IsTextFault, of_program, of_query}
 use Rattle.ll_judge.specs.Judging.{TextsAsk, most_open, IsCheckFault, of_run_texts, of_proof, TextsGive}
 use Rattle.ll_check.specs.Verdicts.{yes_text, no_text, covered_text, too_long_text, counts_text}
-use Rattle.ll_judge.specs.Outcome.{name_of, IsRead, Reaches, first, later, run_texts, ReadFails, absent, unreadable, oversized, RunFails, not_read, faulty}
+use Rattle.ll_judge.specs.Outcome.{AnyName, NoName, name_of, IsRead, Reaches, first, later, run_texts, ReadFails, absent, unreadable, oversized, RunFails}
+use Rattle.ll_judge.specs.Outcome.{not_read, faulty}
 use Rattle.ll_judge.specs.Outcome.{RunAsks, IsPrintedAs, PrintFails, source_not_read, faulty_source, PrintComesTo, printed, print_failed, longest_text}
 use Rattle.ll_top.specs.Outcome.{status_of_run, text_of_run, RunComesTo, ran, failed}
 use Rattle.ll_check.specs.Outcome.{name_in_check, check_texts, CheckFails, texts_not_read, faulty_text, CheckGives}
@@ -253,7 +254,7 @@ module _ (laws : Laws) where
           let same_name = one-turn names a b r s (absent-not-read a e) (long-not-read b (text_of texts b) refl l) in
           none-long b (text_of texts b) refl (subst (λ n. text_of texts n ≡ None) same_name e) l
 
-      pub unread-once : (c d : Cause) → ReadFails (Some texts) (Unit {0}) ⊥ names c → ReadFails (Some texts) (Unit {0}) ⊥ names d → c ≡ d
+      pub unread-once : (c d : Cause) → ReadFails (Some texts) AnyName NoName names c → ReadFails (Some texts) AnyName NoName names d → c ≡ d
       unread-once _ _ (absent a r w e) (absent b s x f) = ap Absent (one-turn names a b r s (absent-not-read a e) (absent-not-read b f))
       unread-once _ _ (absent a r w e) (oversized b s l) = absurd (clash a b r s e l)
       unread-once _ _ (oversized a r l) (absent b s x f) = absurd (clash b a s r f l)
@@ -262,7 +263,7 @@ module _ (laws : Laws) where
       unread-once _ _ (unreadable a r w) _ = absurd w
       unread-once _ _ _ (unreadable b s w) = absurd w
 
-      pub read-or-not : (c : Cause) → AreRead names → ReadFails (Some texts) (Unit {0}) ⊥ names c → ⊥
+      pub read-or-not : (c : Cause) → AreRead names → ReadFails (Some texts) AnyName NoName names c → ⊥
       read-or-not _ r (absent b s x f) = turn-read names b r s (absent-not-read b f)
       read-or-not _ r (unreadable b s w) = w
       read-or-not _ r (oversized b s m) = turn-read names b r s (long-not-read b (text_of texts b) refl m)
@@ -273,7 +274,7 @@ module _ (laws : Laws) where
       both-read : (p q : List ℕ) → IsRead (Some texts) run.program p → IsRead (Some texts) run.query q → AreRead (run_texts run)
       both-read p q h k = ((p, h), ((q, k), tt))
 
-      pub fails-once : (c d : Cause) → RunFails (Some texts) (Unit {0}) ⊥ run c → RunFails (Some texts) (Unit {0}) ⊥ run d → c ≡ d
+      pub fails-once : (c d : Cause) → RunFails (Some texts) AnyName NoName run c → RunFails (Some texts) AnyName NoName run d → c ≡ d
       fails-once _ _ (not_read c r) (not_read d s) = unread-once (run_texts run) c d r s
       fails-once _ _ (not_read c r) (faulty p q role f h k t) = absurd (read-or-not (run_texts run) c (both-read p q h k) r)
       fails-once _ _ (faulty p q role f h k t) (not_read d s) = absurd (read-or-not (run_texts run) d (both-read p q h k) s)
@@ -288,14 +289,15 @@ module _ (laws : Laws) where
           subst (λ x. TextsAsk x q run.bound problem) (one-read run.program a.program p a.program_read h)
           (subst (λ x. TextsAsk a.program x run.bound problem) (one-read run.query a.query q a.query_read k) a.asks)
 
-      pub asks-not-fails : (p : ProblemTree) (c : Cause) → RunAsks (Some texts) run p → RunFails (Some texts) (Unit {0}) ⊥ run c → ⊥
+      pub asks-not-fails : (p : ProblemTree) (c : Cause) → RunAsks (Some texts) run p → RunFails (Some texts) AnyName NoName run c → ⊥
       asks-not-fails p _ a (not_read c r) = read-or-not (run_texts run) c (both-read a.program a.query a.program_read a.query_read) r
       asks-not-fails p _ a (faulty u v role f m n w) = asks-no-fault u v run.bound p role f (asks-moved u v p m n a) w
 
       pub one-problem : (p q : ProblemTree) → RunAsks (Some texts) run p → RunAsks (Some texts) run q → p ≡ q
       one-problem p q a b = one-asked b.program b.query run.bound p q (asks-moved b.program b.query p b.program_read b.query_read a) b.asks
 
-      pub run-once : (s t : ℕ) (u v : List ℕ) → RunComesTo (Some texts) (Unit {0}) ⊥ run s u → RunComesTo (Some texts) (Unit {0}) ⊥ run t v → (s ≡ t) × (u ≡ v)
+      pub run-once : (s t : ℕ) (u v : List ℕ) → RunComesTo (Some texts) AnyName NoName run s u → RunComesTo (Some texts) AnyName NoName run t v
+          → (s ≡ t) × (u ≡ v)
       run-once s t u v (ran p a e f) (ran q b g h) = let o = one-problem p q a b in
           (e ∙ (ap (status_of_run run.first) o ∙ sym g), f ∙ (ap (text_of_run run.first run.proofs) o ∙ sym h))
       run-once s t u v (ran p a e f) (failed c b g h) = absurd (asks-not-fails p c a b)
@@ -304,16 +306,16 @@ module _ (laws : Laws) where
 
     -- ---- deepenings
 
-    pub deepen-once : (deepen : DeepenWords) (s t : ℕ) (u v : List ℕ) → DeepenComesTo (Some texts) (Unit {0}) ⊥ deepen s u
-        → DeepenComesTo (Some texts) (Unit {0}) ⊥ deepen t v → (s ≡ t) × (u ≡ v)
+    pub deepen-once : (deepen : DeepenWords) (s t : ℕ) (u v : List ℕ) → DeepenComesTo (Some texts) AnyName NoName deepen s u
+        → DeepenComesTo (Some texts) AnyName NoName deepen t v → (s ≡ t) × (u ≡ v)
     deepen-once deepen s t u v c d = deepens-one texts one-problem asks-not-fails fails-once deepen s t u v c d
 
     -- ---- sessions
 
     module _ (one_list : (program : ProgramTree) (bound line : ℕ) (lines : List (List ℕ)) (queries others : List QueryLine)
         → HaveQueries program bound line lines queries → HaveQueries program bound line lines others → queries ≡ others) where
-      pub session-once : (session : SessionWords) (s t : ℕ) (u v : List ℕ) → SessionComesTo (Some texts) (Unit {0}) ⊥ session s u
-          → SessionComesTo (Some texts) (Unit {0}) ⊥ session t v → (s ≡ t) × (u ≡ v)
+      pub session-once : (session : SessionWords) (s t : ℕ) (u v : List ℕ) → SessionComesTo (Some texts) AnyName NoName session s u
+          → SessionComesTo (Some texts) AnyName NoName session t v → (s ≡ t) × (u ≡ v)
       session-once session s t u v c d =
           sessions-one texts one-read unread-once (λ first second p q h k cause r. read-or-not (first ∷ second ∷ []) cause ((p, h), ((q, k), tt)) r) one-program
           one-program-fault faultless-no-fault one_list session s t u v c d
@@ -321,14 +323,14 @@ module _ (laws : Laws) where
     -- ---- prints
 
     module _ (name : List ℕ) where
-      print-fails-once : (c d : Cause) → PrintFails (Some texts) (Unit {0}) ⊥ name c → PrintFails (Some texts) (Unit {0}) ⊥ name d → c ≡ d
+      print-fails-once : (c d : Cause) → PrintFails (Some texts) AnyName NoName name c → PrintFails (Some texts) AnyName NoName name d → c ≡ d
       print-fails-once _ _ (source_not_read c r) (source_not_read d s) = unread-once (name ∷ []) c d r s
       print-fails-once _ _ (source_not_read c r) (faulty_source p f h t) = absurd (read-or-not (name ∷ []) c ((p, h), tt) r)
       print-fails-once _ _ (faulty_source p f h t) (source_not_read c r) = absurd (read-or-not (name ∷ []) c ((p, h), tt) r)
       print-fails-once _ _ (faulty_source p f h t) (faulty_source q g k u) =
           ap (Faulty name) (one-reading-fault Program q f g (subst (λ x. IsReadingFault Program x f) (one-read name p q h k) t) u)
 
-      printed-not-fails : (bytes : List ℕ) (c : Cause) → IsPrintedAs (Some texts) name bytes → PrintFails (Some texts) (Unit {0}) ⊥ name c → ⊥
+      printed-not-fails : (bytes : List ℕ) (c : Cause) → IsPrintedAs (Some texts) name bytes → PrintFails (Some texts) AnyName NoName name c → ⊥
       printed-not-fails bytes _ a (source_not_read c r) = read-or-not (name ∷ []) c ((a.text, a.text_read), tt) r
       printed-not-fails bytes _ a (faulty_source q f k t) = program-no-fault q a.tree f
           (subst (λ x. IsProgramText x a.tree) (one-read name a.text q a.text_read k) a.is_program) t
@@ -339,7 +341,7 @@ module _ (laws : Laws) where
           ∙ (ap program_text (one-program b.text a.tree b.tree
           (subst (λ x. IsProgramText x a.tree) (one-read name a.text b.text a.text_read b.text_read) a.is_program) b.is_program) ∙ sym b.is)
 
-      pub print-once : (s t : ℕ) (u v : List ℕ) → PrintComesTo (Some texts) (Unit {0}) ⊥ name s u → PrintComesTo (Some texts) (Unit {0}) ⊥ name t v
+      pub print-once : (s t : ℕ) (u v : List ℕ) → PrintComesTo (Some texts) AnyName NoName name s u → PrintComesTo (Some texts) AnyName NoName name t v
           → (s ≡ t) × (u ≡ v)
       print-once s t u v (printed a e) (printed b g) = (e ∙ sym g, printed-once u v a b)
       print-once s t u v (printed a e) (print_failed c b g h) = absurd (printed-not-fails u c a b)
@@ -354,7 +356,7 @@ module _ (laws : Laws) where
           → AreRead (check_texts check)
       all-read p q r h k l = ((p, h), ((q, k), ((r, l), tt)))
 
-      check-fails-once : (c d : Cause) → CheckFails (Some texts) (Unit {0}) ⊥ check c → CheckFails (Some texts) (Unit {0}) ⊥ check d → c ≡ d
+      check-fails-once : (c d : Cause) → CheckFails (Some texts) AnyName NoName check c → CheckFails (Some texts) AnyName NoName check d → c ≡ d
       check-fails-once _ _ (texts_not_read c r) (texts_not_read d s) = unread-once (check_texts check) c d r s
       check-fails-once _ _ (texts_not_read c x) (faulty_text p q r role f h k l t) = absurd (read-or-not (check_texts check) c (all-read p q r h k l) x)
       check-fails-once _ _ (faulty_text p q r role f h k l t) (texts_not_read d x) = absurd (read-or-not (check_texts check) d (all-read p q r h k l) x)
@@ -373,7 +375,7 @@ module _ (laws : Laws) where
           (subst (λ x. TextsGive a.program x r (bound_in check) problem d) (one-read check.query a.query q a.query_read k)
           (subst (λ x. TextsGive a.program a.query x (bound_in check) problem d) (one-read check.proof a.proof r a.proof_read l) a.give))
 
-      gives-not-fails : (p : ProblemTree) (d : DerivationLines) (c : Cause) → CheckGives (Some texts) check p d → CheckFails (Some texts) (Unit {0}) ⊥ check c
+      gives-not-fails : (p : ProblemTree) (d : DerivationLines) (c : Cause) → CheckGives (Some texts) check p d → CheckFails (Some texts) AnyName NoName check c
           → ⊥
       gives-not-fails p d _ a (texts_not_read c x) = read-or-not (check_texts check) c
           (all-read a.program a.query a.proof a.program_read a.query_read a.proof_read) x
@@ -437,7 +439,7 @@ module _ (laws : Laws) where
           let o = given-once p q d e a b in
           ap (λ (x : DerivationLines). too_long_text (length x.nodes) p.bound) o.1 ∙ ap (λ (x : ProblemTree). too_long_text (length e.nodes) x.bound) o.0
 
-      pub check-once : (s t : ℕ) (u v : List ℕ) → CheckComesTo (Some texts) (Unit {0}) ⊥ check s u → CheckComesTo (Some texts) (Unit {0}) ⊥ check t v
+      pub check-once : (s t : ℕ) (u v : List ℕ) → CheckComesTo (Some texts) AnyName NoName check s u → CheckComesTo (Some texts) AnyName NoName check t v
           → (s ≡ t) × (u ≡ v)
       check-once s t u v (shown p d w a x e f) (shown q c z b y g h) = let o = given-once p q d c a b in
           (e ∙ sym g, f ∙ (ap (λ x. yes_text (length x.nodes)) o.1 ∙ sym h))
@@ -498,7 +500,7 @@ module _ (laws : Laws) where
           → IsConverted q convert.version v → length u ≤ longest_text → longest_text < length v → ⊥
       short-or-too-long p q u v r s a b l m = let e = ap length (converted-once convert.version p q u v r s a b) in omega arith
 
-      convert-fails-once : (c d : Cause) → ConvertFails (Some texts) (Unit {0}) ⊥ convert c → ConvertFails (Some texts) (Unit {0}) ⊥ convert d → c ≡ d
+      convert-fails-once : (c d : Cause) → ConvertFails (Some texts) AnyName NoName convert c → ConvertFails (Some texts) AnyName NoName convert d → c ≡ d
       convert-fails-once _ _ (proof_not_read c r) (proof_not_read d s) = unread-once (convert.proof ∷ []) c d r s
       convert-fails-once _ _ (proof_not_read c r) (faulty_proof p f h k) = absurd (read-or-not (convert.proof ∷ []) c ((p, h), tt) r)
       convert-fails-once _ _ (proof_not_read c r) (too_long_as p u h k l) = absurd (read-or-not (convert.proof ∷ []) c ((p, h), tt) r)
@@ -511,12 +513,13 @@ module _ (laws : Laws) where
       convert-fails-once _ _ (too_long_as p u h k l) (too_long_as q v m n o) = refl
 
       converted-not-fails : (p u : List ℕ) (c : Cause) → IsRead (Some texts) convert.proof p → IsConverted p convert.version u → length u ≤ longest_text
-          → ConvertFails (Some texts) (Unit {0}) ⊥ convert c → ⊥
+          → ConvertFails (Some texts) AnyName NoName convert c → ⊥
       converted-not-fails p u _ h a l (proof_not_read c r) = read-or-not (convert.proof ∷ []) c ((p, h), tt) r
       converted-not-fails p u _ h a l (faulty_proof q f m n) = converted-no-fault convert.version p q u f h m a n
       converted-not-fails p u _ h a l (too_long_as q v m n o) = short-or-too-long p q u v h m a n l o
 
-      pub converts-one : (s t : ℕ) (u v : List ℕ) → ConvertComesTo (Some texts) (Unit {0}) ⊥ convert s u → ConvertComesTo (Some texts) (Unit {0}) ⊥ convert t v
+      pub converts-one : (s t : ℕ) (u v : List ℕ) → ConvertComesTo (Some texts) AnyName NoName convert s u
+          → ConvertComesTo (Some texts) AnyName NoName convert t v
           → (s ≡ t) × (u ≡ v)
       converts-one s t u v (converted p r a l e) (converted q h b m g) = (e ∙ sym g, converted-once convert.version p q u v r h a b)
       converts-one s t u v (converted p r a l e) (convert_failed c b g h) = absurd (converted-not-fails p u c r a l b)

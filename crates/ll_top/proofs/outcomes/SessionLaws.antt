@@ -9,15 +9,15 @@ use Rattle.ll_session.specs.Queries.{QueryLine, AreQueries, HaveQueries}
 use Rattle.ll_judge.specs.Faults.{Cause, Faulty, fault_text, cause_status}
 use Rattle.ll_words.specs.Words.{SessionWords}
 use Rattle.ll_judge.specs.Judging.{IsProgramText, IsFaultless, IsProgramFault}
-use Rattle.ll_judge.specs.Outcome.{IsRead, ReadFails}
+use Rattle.ll_judge.specs.Outcome.{AnyName, NoName, IsRead, ReadFails}
 use Rattle.ll_top.specs.Sessions.{replies_text, SessionAsks, SessionFails, session_not_read, faulty_program, SessionComesTo, replied, session_failed}
 
 -- what is known of texts: one is read of a name, or one of two is not; it is one program, or has one fault, and not both; and the lines of one
 -- have one list of queries
 module _ (texts : Texts) (one_read : (name a b : List ℕ) → IsRead (Some texts) name a → IsRead (Some texts) name b → a ≡ b)
-    (one_unread : (names : List (List ℕ)) (c d : Cause) → ReadFails (Some texts) (Unit {0}) ⊥ names c → ReadFails (Some texts) (Unit {0}) ⊥ names d → c ≡ d)
+    (one_unread : (names : List (List ℕ)) (c d : Cause) → ReadFails (Some texts) AnyName NoName names c → ReadFails (Some texts) AnyName NoName names d → c ≡ d)
     (both_read : (first second p q : List ℕ) → IsRead (Some texts) first p → IsRead (Some texts) second q → (c : Cause)
-    → ReadFails (Some texts) (Unit {0}) ⊥ (first ∷ second ∷ []) c → ⊥)
+    → ReadFails (Some texts) AnyName NoName (first ∷ second ∷ []) c → ⊥)
     (one_program : (text : List ℕ) (p q : ProgramTree) → IsProgramText text p → IsProgramText text q → p ≡ q)
     (one_fault : (text : List ℕ) (f g : Fault) → IsProgramFault text f → IsProgramFault text g → f ≡ g)
     (no_fault : (text : List ℕ) (tree : ProgramTree) (f : Fault) → IsFaultless text tree → IsProgramFault text f → ⊥)
@@ -28,7 +28,7 @@ module _ (texts : Texts) (one_read : (name a b : List ℕ) → IsRead (Some text
   Asks = SessionAsks (Some texts) session
 
   abbrev Fails : Cause → Type 0
-  Fails = SessionFails (Some texts) (Unit {0}) ⊥ session
+  Fails = SessionFails (Some texts) AnyName NoName session
 
   -- the queries are those of the same text, over the same program
   queries-once : (queries others : List QueryLine) → Asks queries → Asks others → queries ≡ others
@@ -51,7 +51,7 @@ module _ (texts : Texts) (one_read : (name a b : List ℕ) → IsRead (Some text
   asks-or-fails queries _ a (faulty_program p q f h k t) = no_fault a.program a.tree f a.faultless
       (subst (λ x. IsProgramFault x f) (one_read session.program p a.program h a.program_read) t)
 
-  pub sessions-one : (s t : ℕ) (u v : List ℕ) → SessionComesTo (Some texts) (Unit {0}) ⊥ session s u → SessionComesTo (Some texts) (Unit {0}) ⊥ session t v
+  pub sessions-one : (s t : ℕ) (u v : List ℕ) → SessionComesTo (Some texts) AnyName NoName session s u → SessionComesTo (Some texts) AnyName NoName session t v
       → (s ≡ t) × (u ≡ v)
   sessions-one s t u v (replied queries a e f) (replied others b g h) =
       (e ∙ sym g, f ∙ (ap (replies_text session.proofs session.queries) (queries-once queries others a b) ∙ sym h))

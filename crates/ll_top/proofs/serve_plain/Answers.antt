@@ -9,6 +9,7 @@ use Rattle.ll_words.specs.Words.{IsCommand, IsBounded, shown_check, shown_conver
 use Rattle.ll_words.specs.CommandKinds.{command_kind, has_team}
 use Rattle.ll_lists.proofs.CallerLemmas.{none_not_some}
 use Rattle.ll_words.proofs.CallerLemmas.{asked-workers, asked-alone, asked-in-form, workers-in-form, bad-not-in-form}
+use Rattle.ll_edge.proofs.CallerLemmas.{kept_none}
 use Rattle.ll_top.proofs.outcomes.CallLemmas.{print-call, check-call, convert-call, make-call, usage-call, usage-misused}
 use Rattle.ll_top.proofs.serve_plain.Goals as goal
 
@@ -38,19 +39,14 @@ returns-in-Print-clause-untouched g c = λ e. absurd (none_not_some _ (sym e))
 pub returns-in-Print-clause-outcome : goal.returns-in-Print-clause-outcome
 returns-in-Print-clause-outcome g c =
     let words = word_texts c.args.words.now in
-    print-call words _ _ _ _ _ _ _ c.in-Print.name.now (subst (IsCommand words) c.in-Print.is c.in-Ok.ensures.command) c.serve_print.ensures.ends
+    λ told fits. print-call words told _ _ _ _ _ _ c.in-Print.name.now (subst (IsCommand words) c.in-Print.is c.in-Ok.ensures.command)
+    (c.serve_print.ensures.ends told fits)
 
 pub returns-in-Print-clause-misused : goal.returns-in-Print-clause-misused
 returns-in-Print-clause-misused g c = λ h. absurd (h (asked-in-form (word_texts c.args.words.now) c.in-Ok.command c.in-Ok.ensures.command))
 
-pub returns-in-Print-clause-same_texts : goal.returns-in-Print-clause-same_texts
-returns-in-Print-clause-same_texts g c = c.serve_print.ensures.same_texts
-
-pub returns-in-Print-clause-shelf_faults_kept : goal.returns-in-Print-clause-shelf_faults_kept
-returns-in-Print-clause-shelf_faults_kept g c = c.serve_print.ensures.shelf_faults_kept
-
-pub returns-in-Print-clause-absences_kept : goal.returns-in-Print-clause-absences_kept
-returns-in-Print-clause-absences_kept g c = c.serve_print.ensures.absences_kept
+pub returns-in-Print-clause-kept : goal.returns-in-Print-clause-kept
+returns-in-Print-clause-kept g c = c.serve_print.ensures.kept
 
 pub returns-in-Print-clause-sink_faults_kept : goal.returns-in-Print-clause-sink_faults_kept
 returns-in-Print-clause-sink_faults_kept g c = c.serve_print.ensures.sink_faults_kept
@@ -68,19 +64,14 @@ returns-in-Check-clause-untouched g c = λ e. absurd (none_not_some _ (sym e))
 pub returns-in-Check-clause-outcome : goal.returns-in-Check-clause-outcome
 returns-in-Check-clause-outcome g c =
     let words = word_texts c.args.words.now in
-    check-call words _ _ _ _ _ _ _ (shown_check c.in-Check.check) (subst (IsCommand words) c.in-Check.is c.in-Ok.ensures.command) c.serve_check.ensures.ends
+    λ told fits. check-call words told _ _ _ _ _ _ (shown_check c.in-Check.check) (subst (IsCommand words) c.in-Check.is c.in-Ok.ensures.command)
+    (c.serve_check.ensures.ends told fits)
 
 pub returns-in-Check-clause-misused : goal.returns-in-Check-clause-misused
 returns-in-Check-clause-misused g c = λ h. absurd (h (asked-in-form (word_texts c.args.words.now) c.in-Ok.command c.in-Ok.ensures.command))
 
-pub returns-in-Check-clause-same_texts : goal.returns-in-Check-clause-same_texts
-returns-in-Check-clause-same_texts g c = c.serve_check.ensures.same_texts
-
-pub returns-in-Check-clause-shelf_faults_kept : goal.returns-in-Check-clause-shelf_faults_kept
-returns-in-Check-clause-shelf_faults_kept g c = c.serve_check.ensures.shelf_faults_kept
-
-pub returns-in-Check-clause-absences_kept : goal.returns-in-Check-clause-absences_kept
-returns-in-Check-clause-absences_kept g c = c.serve_check.ensures.absences_kept
+pub returns-in-Check-clause-kept : goal.returns-in-Check-clause-kept
+returns-in-Check-clause-kept g c = c.serve_check.ensures.kept
 
 pub returns-in-Check-clause-sink_faults_kept : goal.returns-in-Check-clause-sink_faults_kept
 returns-in-Check-clause-sink_faults_kept g c = c.serve_check.ensures.sink_faults_kept
@@ -98,20 +89,14 @@ returns-in-Convert-clause-untouched g c = λ e. absurd (none_not_some _ (sym e))
 pub returns-in-Convert-clause-outcome : goal.returns-in-Convert-clause-outcome
 returns-in-Convert-clause-outcome g c =
     let words = word_texts c.args.words.now in
-    convert-call words _ _ _ _ _ _ _ (shown_convert c.in-Convert.convert)
-    (subst (IsCommand words) c.in-Convert.is c.in-Ok.ensures.command) c.serve_convert.ensures.ends
+    λ told fits. convert-call words told _ _ _ _ _ _ (shown_convert c.in-Convert.convert)
+    (subst (IsCommand words) c.in-Convert.is c.in-Ok.ensures.command) (c.serve_convert.ensures.ends told fits)
 
 pub returns-in-Convert-clause-misused : goal.returns-in-Convert-clause-misused
 returns-in-Convert-clause-misused g c = λ h. absurd (h (asked-in-form (word_texts c.args.words.now) c.in-Ok.command c.in-Ok.ensures.command))
 
-pub returns-in-Convert-clause-same_texts : goal.returns-in-Convert-clause-same_texts
-returns-in-Convert-clause-same_texts g c = c.serve_convert.ensures.same_texts
-
-pub returns-in-Convert-clause-shelf_faults_kept : goal.returns-in-Convert-clause-shelf_faults_kept
-returns-in-Convert-clause-shelf_faults_kept g c = c.serve_convert.ensures.shelf_faults_kept
-
-pub returns-in-Convert-clause-absences_kept : goal.returns-in-Convert-clause-absences_kept
-returns-in-Convert-clause-absences_kept g c = c.serve_convert.ensures.absences_kept
+pub returns-in-Convert-clause-kept : goal.returns-in-Convert-clause-kept
+returns-in-Convert-clause-kept g c = c.serve_convert.ensures.kept
 
 pub returns-in-Convert-clause-sink_faults_kept : goal.returns-in-Convert-clause-sink_faults_kept
 returns-in-Convert-clause-sink_faults_kept g c = c.serve_convert.ensures.sink_faults_kept
@@ -129,19 +114,14 @@ returns-in-Make-clause-untouched g c = λ e. absurd (none_not_some _ (sym e))
 pub returns-in-Make-clause-outcome : goal.returns-in-Make-clause-outcome
 returns-in-Make-clause-outcome g c =
     let words = word_texts c.args.words.now in
-    make-call words _ _ _ _ _ _ _ (shown_make c.in-Make.make) (subst (IsCommand words) c.in-Make.is c.in-Ok.ensures.command) c.serve_make.ensures.ends
+    λ told fits. make-call words told _ _ _ _ _ _ (shown_make c.in-Make.make) (subst (IsCommand words) c.in-Make.is c.in-Ok.ensures.command)
+    c.serve_make.ensures.ends
 
 pub returns-in-Make-clause-misused : goal.returns-in-Make-clause-misused
 returns-in-Make-clause-misused g c = λ h. absurd (h (asked-in-form (word_texts c.args.words.now) c.in-Ok.command c.in-Ok.ensures.command))
 
-pub returns-in-Make-clause-same_texts : goal.returns-in-Make-clause-same_texts
-returns-in-Make-clause-same_texts g c = refl
-
-pub returns-in-Make-clause-shelf_faults_kept : goal.returns-in-Make-clause-shelf_faults_kept
-returns-in-Make-clause-shelf_faults_kept g c = le_refl _
-
-pub returns-in-Make-clause-absences_kept : goal.returns-in-Make-clause-absences_kept
-returns-in-Make-clause-absences_kept g c = le_refl _
+pub returns-in-Make-clause-kept : goal.returns-in-Make-clause-kept
+returns-in-Make-clause-kept g c = kept_none
 
 pub returns-in-Make-clause-sink_faults_kept : goal.returns-in-Make-clause-sink_faults_kept
 returns-in-Make-clause-sink_faults_kept g c = c.serve_make.ensures.faults_kept
@@ -162,14 +142,8 @@ returns-in_default-clause-outcome g c = tt
 pub returns-in_default-clause-misused : goal.returns-in_default-clause-misused
 returns-in_default-clause-misused g c = λ h. absurd (h (asked-in-form (word_texts c.args.words.now) c.in-Ok.command c.in-Ok.ensures.command))
 
-pub returns-in_default-clause-same_texts : goal.returns-in_default-clause-same_texts
-returns-in_default-clause-same_texts g c = refl
-
-pub returns-in_default-clause-shelf_faults_kept : goal.returns-in_default-clause-shelf_faults_kept
-returns-in_default-clause-shelf_faults_kept g c = le_refl _
-
-pub returns-in_default-clause-absences_kept : goal.returns-in_default-clause-absences_kept
-returns-in_default-clause-absences_kept g c = le_refl _
+pub returns-in_default-clause-kept : goal.returns-in_default-clause-kept
+returns-in_default-clause-kept g c = kept_none
 
 pub returns-in_default-clause-sink_faults_kept : goal.returns-in_default-clause-sink_faults_kept
 returns-in_default-clause-sink_faults_kept g c = le_refl _
@@ -179,7 +153,8 @@ returns-in-Err-clause-workers g c =
     let words = word_texts c.args.words.now in (λ e. cc, λ f. absurd (bad-not-in-form words c.in-Err.number c.in-Err.ensures.command (workers-in-form words f)))
 
 pub returns-in-Err-clause-outcome : goal.returns-in-Err-clause-outcome
-returns-in-Err-clause-outcome g c = usage-call (word_texts c.args.words.now) _ _ _ _ _ _ _ c.in-Err.number c.in-Err.ensures.command c.refuse.ensures.refuses
+returns-in-Err-clause-outcome g c = λ told fits.
+    usage-call (word_texts c.args.words.now) told _ _ _ _ _ _ c.in-Err.number c.in-Err.ensures.command c.refuse.ensures.refuses
 
 pub returns-in-Err-clause-untouched : goal.returns-in-Err-clause-untouched
 returns-in-Err-clause-untouched g c = λ e. absurd (none_not_some _ (sym e))
@@ -187,14 +162,8 @@ returns-in-Err-clause-untouched g c = λ e. absurd (none_not_some _ (sym e))
 pub returns-in-Err-clause-misused : goal.returns-in-Err-clause-misused
 returns-in-Err-clause-misused g c = λ h. usage-misused c.in-Err.number _ _ _ _ c.refuse.ensures.refuses
 
-pub returns-in-Err-clause-same_texts : goal.returns-in-Err-clause-same_texts
-returns-in-Err-clause-same_texts g c = refl
-
-pub returns-in-Err-clause-shelf_faults_kept : goal.returns-in-Err-clause-shelf_faults_kept
-returns-in-Err-clause-shelf_faults_kept g c = le_refl _
-
-pub returns-in-Err-clause-absences_kept : goal.returns-in-Err-clause-absences_kept
-returns-in-Err-clause-absences_kept g c = le_refl _
+pub returns-in-Err-clause-kept : goal.returns-in-Err-clause-kept
+returns-in-Err-clause-kept g c = kept_none
 
 pub returns-in-Err-clause-sink_faults_kept : goal.returns-in-Err-clause-sink_faults_kept
 returns-in-Err-clause-sink_faults_kept g c = c.refuse.ensures.faults_kept

@@ -1,77 +1,67 @@
-use Rattle.std.proofs.Common.{le_trans, ◌∙◌}
+use Rattle.std.proofs.Common.{None}
 use Rattle.std.proofs.lemmas.Result.{err_from_is_err_and}
-use Rattle.ll_edge.proofs.CallerLemmas.{Rose-later}
 use Rattle.ll_judge.specs.declared.judge.Role.TheVariants.{Program, Query, Proof}
 use Rattle.ll_words.specs.Words.{shown_check}
 use Rattle.ll_judge.specs.Outcome.{first, later}
-use Rattle.ll_judge.proofs.CallerLemmas.{not-read-later}
+use Rattle.ll_judge.proofs.CallerLemmas.{not-read-after}
+use Rattle.ll_edge.proofs.CallerLemmas.{kept_trans, fits_first, fits_second}
 use Rattle.ll_check.proofs.CheckLemmas.{text-refused, texts-judged}
 use Rattle.ll_check.proofs.checking.found.Goals as goal
 
 pub returns-in_err-program-clause-finds : goal.returns-in_err-program-clause-finds
 returns-in_err-program-clause-finds g c =
     let p = err_from_is_err_and c.from_residual.result c.from_residual.ensures.1 in
-    rw (p.1, p.2) (text-refused _ _ _ (shown_check c.args.command.now) Program _ first c.in_err-program.ensures.refused)
+    λ told fits. rw (p.1, p.2) (text-refused told _ _ (shown_check c.args.command.now) Program _ first (c.in_err-program.ensures.refused told fits))
 
 pub returns-in_err-query-clause-finds : goal.returns-in_err-query-clause-finds
 returns-in_err-query-clause-finds g c =
     let p = err_from_is_err_and c.from_residual-in_err-query.result c.from_residual-in_err-query.ensures.1 in
-    rw (p.1, p.2) (text-refused _ _ _ (shown_check c.args.command.now) Query _ (later _ c.in_ok-program.ensures.read first)
-    (not-read-later _ _ _ _ _ _ _ _ (Rose-later _ _ _ c.in_ok-program.ensures.absences_kept) (Rose-later _ _ _ c.in_ok-program.ensures.faults_kept)
-    (rw c.in_ok-program.ensures.same_texts at c.in_err-query.ensures.refused)))
+    let one = c.in_ok-program.ensures.kept in
+    λ told fits. rw (p.1, p.2) (text-refused told _ _ (shown_check c.args.command.now) Query _
+    (later _ (c.in_ok-program.ensures.read told (fits_first told _ _ _ c.in_err-query.ensures.kept.grew fits)) first)
+    (not-read-after _ told _ _ _ one
+    (c.in_err-query.ensures.refused told (fits_second told _ _ _ one.grew fits))))
 
 pub returns-in_err-proof-clause-finds : goal.returns-in_err-proof-clause-finds
 returns-in_err-proof-clause-finds g c =
     let p = err_from_is_err_and c.from_residual-in_err-proof.result c.from_residual-in_err-proof.ensures.1 in
-    let query_read = rw c.in_ok-program.ensures.same_texts at c.in_ok-query.ensures.read in
-    rw (p.1, p.2) (text-refused _ _ _ (shown_check c.args.command.now) Proof _ (later _ c.in_ok-program.ensures.read (later _ query_read first))
-    (not-read-later _ _ _ _ _ _ _ _ (λ h. Rose-later _ _ _ c.in_ok-program.ensures.absences_kept (Rose-later _ _ _ c.in_ok-query.ensures.absences_kept h))
-    (λ h. Rose-later _ _ _ c.in_ok-program.ensures.faults_kept (Rose-later _ _ _ c.in_ok-query.ensures.faults_kept h))
-    (rw (c.in_ok-query.ensures.same_texts, c.in_ok-program.ensures.same_texts) at c.in_err-proof.ensures.refused)))
+    let one = c.in_ok-program.ensures.kept in
+    let two = kept_trans one c.in_ok-query.ensures.kept in
+    λ told fits. let both = fits_first told _ _ _ c.in_err-proof.ensures.kept.grew fits in
+    rw (p.1, p.2) (text-refused told _ _ (shown_check c.args.command.now) Proof _
+    (later _ (c.in_ok-program.ensures.read told (fits_first told _ _ _ c.in_ok-query.ensures.kept.grew both))
+    (later _ (c.in_ok-query.ensures.read told (fits_second told _ _ _ one.grew both)) first))
+    (not-read-after _ told _ _ _ two
+    (c.in_err-proof.ensures.refused told (fits_second told _ _ _ two.grew fits))))
 
 pub returns-clause-finds : goal.returns-clause-finds
 returns-clause-finds g c =
-    texts-judged _ _ _ (shown_check c.args.command.now) c.in_ok-program.program.items c.in_ok-query.query.items c.in_ok-proof.proof.items
-    c.in_ok-program.ensures.read
-    (rw c.in_ok-program.ensures.same_texts at c.in_ok-query.ensures.read)
-    (rw (c.in_ok-query.ensures.same_texts, c.in_ok-program.ensures.same_texts) at c.in_ok-proof.ensures.read) _
+    let one = c.in_ok-program.ensures.kept in
+    let two = kept_trans one c.in_ok-query.ensures.kept in
+    λ told fits. let both = fits_first told _ _ _ c.in_ok-proof.ensures.kept.grew fits in
+    texts-judged told _ _ (shown_check c.args.command.now) c.in_ok-program.program.items c.in_ok-query.query.items c.in_ok-proof.proof.items
+    (c.in_ok-program.ensures.read told (fits_first told _ _ _ c.in_ok-query.ensures.kept.grew both))
+    (c.in_ok-query.ensures.read told (fits_second told _ _ _ one.grew both))
+    (c.in_ok-proof.ensures.read told (fits_second told _ _ _ two.grew fits)) _
     (rw (c.deref.ensures.value, c.deref-2.ensures.value, c.deref-3.ensures.value) at c.finding_of.ensures)
 
-pub returns-in_err-program-clause-same_texts : goal.returns-in_err-program-clause-same_texts
-returns-in_err-program-clause-same_texts g c = c.in_err-program.ensures.same_texts
+pub returns-in_err-program-clause-kept : goal.returns-in_err-program-clause-kept
+returns-in_err-program-clause-kept g c = c.in_err-program.ensures.kept
 
-pub returns-in_err-query-clause-same_texts : goal.returns-in_err-query-clause-same_texts
-returns-in_err-query-clause-same_texts g c = c.in_err-query.ensures.same_texts ∙ c.in_ok-program.ensures.same_texts
+pub returns-in_err-query-clause-kept : goal.returns-in_err-query-clause-kept
+returns-in_err-query-clause-kept g c = kept_trans c.in_ok-program.ensures.kept c.in_err-query.ensures.kept
 
-pub returns-in_err-proof-clause-same_texts : goal.returns-in_err-proof-clause-same_texts
-returns-in_err-proof-clause-same_texts g c = c.in_err-proof.ensures.same_texts ∙ c.in_ok-query.ensures.same_texts ∙ c.in_ok-program.ensures.same_texts
+pub returns-in_err-proof-clause-kept : goal.returns-in_err-proof-clause-kept
+returns-in_err-proof-clause-kept g c = kept_trans (kept_trans c.in_ok-program.ensures.kept c.in_ok-query.ensures.kept) c.in_err-proof.ensures.kept
 
-pub returns-clause-same_texts : goal.returns-clause-same_texts
-returns-clause-same_texts g c = c.in_ok-proof.ensures.same_texts ∙ c.in_ok-query.ensures.same_texts ∙ c.in_ok-program.ensures.same_texts
+pub returns-clause-kept : goal.returns-clause-kept
+returns-clause-kept g c = kept_trans (kept_trans c.in_ok-program.ensures.kept c.in_ok-query.ensures.kept) c.in_ok-proof.ensures.kept
 
-pub returns-in_err-program-clause-faults_kept : goal.returns-in_err-program-clause-faults_kept
-returns-in_err-program-clause-faults_kept g c = c.in_err-program.ensures.faults_kept
+pub finding_of-requires-clause-program : goal.finding_of-requires-clause-program
+finding_of-requires-clause-program g c = rw c.deref.ensures.value (c.in_ok-program.ensures.read None tt).within
 
-pub returns-in_err-query-clause-faults_kept : goal.returns-in_err-query-clause-faults_kept
-returns-in_err-query-clause-faults_kept g c = le_trans c.in_ok-program.ensures.faults_kept c.in_err-query.ensures.faults_kept
+pub finding_of-requires-clause-query : goal.finding_of-requires-clause-query
+finding_of-requires-clause-query g c = rw c.deref-2.ensures.value (c.in_ok-query.ensures.read None tt).within
 
-pub returns-in_err-proof-clause-faults_kept : goal.returns-in_err-proof-clause-faults_kept
-returns-in_err-proof-clause-faults_kept g c =
-    le_trans (le_trans c.in_ok-program.ensures.faults_kept c.in_ok-query.ensures.faults_kept) c.in_err-proof.ensures.faults_kept
-
-pub returns-clause-faults_kept : goal.returns-clause-faults_kept
-returns-clause-faults_kept g c = le_trans (le_trans c.in_ok-program.ensures.faults_kept c.in_ok-query.ensures.faults_kept) c.in_ok-proof.ensures.faults_kept
-
-pub returns-in_err-program-clause-absences_kept : goal.returns-in_err-program-clause-absences_kept
-returns-in_err-program-clause-absences_kept g c = c.in_err-program.ensures.absences_kept
-
-pub returns-in_err-query-clause-absences_kept : goal.returns-in_err-query-clause-absences_kept
-returns-in_err-query-clause-absences_kept g c = le_trans c.in_ok-program.ensures.absences_kept c.in_err-query.ensures.absences_kept
-
-pub returns-in_err-proof-clause-absences_kept : goal.returns-in_err-proof-clause-absences_kept
-returns-in_err-proof-clause-absences_kept g c =
-    le_trans (le_trans c.in_ok-program.ensures.absences_kept c.in_ok-query.ensures.absences_kept) c.in_err-proof.ensures.absences_kept
-
-pub returns-clause-absences_kept : goal.returns-clause-absences_kept
-returns-clause-absences_kept g c =
-    le_trans (le_trans c.in_ok-program.ensures.absences_kept c.in_ok-query.ensures.absences_kept) c.in_ok-proof.ensures.absences_kept
+pub finding_of-requires-clause-proof : goal.finding_of-requires-clause-proof
+finding_of-requires-clause-proof g c = rw c.deref-3.ensures.value (c.in_ok-proof.ensures.read None tt).within

@@ -1,5 +1,6 @@
 use Rattle.std.proofs.lemmas.Result.{IfOk-from_err}
-use Rattle.std.proofs.Common.{arith, le_trans}
+use Rattle.std.proofs.Common.{arith, le_trans, ap, Some}
+use Rattle.ll_edge.proofs.CallerLemmas.{taken_front}
 use Rattle.ll_lists.proofs.CallerLemmas.{OnErr-always}
 use Rattle.ll_judge.proofs.PartsLemmas.{one-written, part-cut}
 use Rattle.ll_judge.proofs.fault.write_parts.Goals as goal
@@ -7,12 +8,12 @@ use Rattle.ll_judge.proofs.fault.write_parts.Goals as goal
 pub returns-in_err-write_all-clause-prefix : goal.returns-in_err-write_all-clause-prefix
 returns-in_err-write_all-clause-prefix g c =
     OnErr-always _ (part-cut c.args.parts.now c.loop-part.part-index _ c.loop-part-test.true _ _ _ c.loop-part.invariant.parts
-    (rw c.as_bytes.ensures.value at c.in_err-write_all.ensures.prefix))
+    (taken_front (rw c.as_bytes.ensures.value at c.in_err-write_all.ensures.takes_front)))
 
 pub loop-part-preserved : goal.loop-part-preserved
 loop-part-preserved g c = record {
   parts = one-written c.args.parts.now c.loop-part.part-index _ c.loop-part-test.true _ _ _ c.loop-part.invariant.parts
-      (rw c.as_bytes.ensures.value at c.in_ok-write_all.ensures.appends);
+      (ap Some (rw c.as_bytes.ensures.value at c.in_ok-write_all.ensures.takes));
   faults = let h = c.loop-part.invariant.faults in let k = c.in_ok-write_all.ensures.faults_kept in omega arith;
 }
 

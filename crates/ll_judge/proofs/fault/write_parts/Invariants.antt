@@ -1,10 +1,10 @@
-use Rattle.std.proofs.Common.{◌≤◌}
+use Rattle.std.proofs.Common.{◌≤◌, Some}
 use Rattle.ll_judge.proofs.PartsLemmas.{AreWritten}
 use Rattle.ll_judge.proofs.fault.write_parts.Given as goal
 
 abbrev pub invariant-loop-part : goal.invariant-loop-part
 invariant-loop-part g l =
     record {
-      parts : AreWritten (g.O.Sink.written l.initial.sink) (g.O.Sink.written l.sink) l.parts l.part-index;
+      parts : AreWritten (Some (g.O.Sink.taken l.initial.sink)) (Some (g.O.Sink.taken l.sink)) l.parts l.part-index;
       faults : g.O.Sink.faults l.initial.sink ≤ g.O.Sink.faults l.sink;
     }

@@ -5,61 +5,38 @@ use Rattle.ll_judge.proofs.OutcomeLemmas.{printed-ends, print-cut-ends, refuses-
 use Rattle.ll_judge.proofs.printing.serve_print.Goals as goal
 
 pub returns-in-Ok-clause-ends : goal.returns-in-Ok-clause-ends
-returns-in-Ok-clause-ends g c = printed-ends _ _ _ c.args.name.now _ _ _ c.in-Ok.field-0 c.in-Ok.ensures.ends
+returns-in-Ok-clause-ends g c = λ told fits. printed-ends told _ _ c.args.name.now _ _ _ c.in-Ok.field-0 (c.in-Ok.ensures.ends told fits)
 
 pub returns-in-Err-Unwritable-clause-ends : goal.returns-in-Err-Unwritable-clause-ends
-returns-in-Err-Unwritable-clause-ends g c = print-cut-ends _ _ _ c.args.name.now _ _ _ (rw c.in-Err-Unwritable.field-0-is at c.in-Err-Unwritable.ensures.ends)
+returns-in-Err-Unwritable-clause-ends g c = λ told fits.
+    print-cut-ends told _ _ c.args.name.now _ _ _ (rw c.in-Err-Unwritable.field-0-is at (c.in-Err-Unwritable.ensures.ends told fits))
 
 pub returns-in-Err-Text-clause-ends : goal.returns-in-Err-Text-clause-ends
 returns-in-Err-Text-clause-ends g c =
-    let h = rw c.in-Err-Text.field-0-is at c.in-Err-Text.ensures.ends in
-    print-refusal-ends _ _ _ c.args.name.now _ _ _ _ (cause_of c.args.name.now c.in-Err-Text.refusal) _ h.0 h.1
+    λ told fits. let h = rw c.in-Err-Text.field-0-is at (c.in-Err-Text.ensures.ends told fits) in
+    print-refusal-ends told _ _ c.args.name.now _ _ _ _ (cause_of c.args.name.now c.in-Err-Text.refusal) _ h.0 h.1
     (refuses-later _ _ _ _ _ _ (Rose-later _ _ _ c.in-Err-Text.ensures.sink_faults_kept) (rw c.cause.ensures at c.refuse.ensures.refuses))
 
-pub returns-in-Ok-clause-same_texts : goal.returns-in-Ok-clause-same_texts
-returns-in-Ok-clause-same_texts g c = c.in-Ok.ensures.same_texts
-
-pub returns-in-Ok-clause-shelf_faults_kept : goal.returns-in-Ok-clause-shelf_faults_kept
-returns-in-Ok-clause-shelf_faults_kept g c = c.in-Ok.ensures.shelf_faults_kept
-
-pub returns-in-Ok-clause-absences_kept : goal.returns-in-Ok-clause-absences_kept
-returns-in-Ok-clause-absences_kept g c = c.in-Ok.ensures.absences_kept
+pub returns-in-Ok-clause-kept : goal.returns-in-Ok-clause-kept
+returns-in-Ok-clause-kept g c = c.in-Ok.ensures.kept
 
 pub returns-in-Ok-clause-sink_faults_kept : goal.returns-in-Ok-clause-sink_faults_kept
 returns-in-Ok-clause-sink_faults_kept g c = c.in-Ok.ensures.sink_faults_kept
 
-pub returns-in-Err-Text-clause-same_texts : goal.returns-in-Err-Text-clause-same_texts
-returns-in-Err-Text-clause-same_texts g c = c.in-Err-Text.ensures.same_texts
-
-pub returns-in-Err-Text-clause-shelf_faults_kept : goal.returns-in-Err-Text-clause-shelf_faults_kept
-returns-in-Err-Text-clause-shelf_faults_kept g c = c.in-Err-Text.ensures.shelf_faults_kept
-
-pub returns-in-Err-Text-clause-absences_kept : goal.returns-in-Err-Text-clause-absences_kept
-returns-in-Err-Text-clause-absences_kept g c = c.in-Err-Text.ensures.absences_kept
+pub returns-in-Err-Text-clause-kept : goal.returns-in-Err-Text-clause-kept
+returns-in-Err-Text-clause-kept g c = c.in-Err-Text.ensures.kept
 
 pub returns-in-Err-Text-clause-sink_faults_kept : goal.returns-in-Err-Text-clause-sink_faults_kept
 returns-in-Err-Text-clause-sink_faults_kept g c = le_trans c.in-Err-Text.ensures.sink_faults_kept c.refuse.ensures.faults_kept
 
-pub returns-in-Err-Unwritable-clause-same_texts : goal.returns-in-Err-Unwritable-clause-same_texts
-returns-in-Err-Unwritable-clause-same_texts g c = c.in-Err-Unwritable.ensures.same_texts
-
-pub returns-in-Err-Unwritable-clause-shelf_faults_kept : goal.returns-in-Err-Unwritable-clause-shelf_faults_kept
-returns-in-Err-Unwritable-clause-shelf_faults_kept g c = c.in-Err-Unwritable.ensures.shelf_faults_kept
-
-pub returns-in-Err-Unwritable-clause-absences_kept : goal.returns-in-Err-Unwritable-clause-absences_kept
-returns-in-Err-Unwritable-clause-absences_kept g c = c.in-Err-Unwritable.ensures.absences_kept
+pub returns-in-Err-Unwritable-clause-kept : goal.returns-in-Err-Unwritable-clause-kept
+returns-in-Err-Unwritable-clause-kept g c = c.in-Err-Unwritable.ensures.kept
 
 pub returns-in-Err-Unwritable-clause-sink_faults_kept : goal.returns-in-Err-Unwritable-clause-sink_faults_kept
 returns-in-Err-Unwritable-clause-sink_faults_kept g c = c.in-Err-Unwritable.ensures.sink_faults_kept
 
-pub returns-in-Err-OutOfMemory-clause-same_texts : goal.returns-in-Err-OutOfMemory-clause-same_texts
-returns-in-Err-OutOfMemory-clause-same_texts g c = c.in-Err-OutOfMemory.ensures.same_texts
-
-pub returns-in-Err-OutOfMemory-clause-shelf_faults_kept : goal.returns-in-Err-OutOfMemory-clause-shelf_faults_kept
-returns-in-Err-OutOfMemory-clause-shelf_faults_kept g c = c.in-Err-OutOfMemory.ensures.shelf_faults_kept
-
-pub returns-in-Err-OutOfMemory-clause-absences_kept : goal.returns-in-Err-OutOfMemory-clause-absences_kept
-returns-in-Err-OutOfMemory-clause-absences_kept g c = c.in-Err-OutOfMemory.ensures.absences_kept
+pub returns-in-Err-OutOfMemory-clause-kept : goal.returns-in-Err-OutOfMemory-clause-kept
+returns-in-Err-OutOfMemory-clause-kept g c = c.in-Err-OutOfMemory.ensures.kept
 
 pub returns-in-Err-OutOfMemory-clause-sink_faults_kept : goal.returns-in-Err-OutOfMemory-clause-sink_faults_kept
 returns-in-Err-OutOfMemory-clause-sink_faults_kept g c = c.in-Err-OutOfMemory.ensures.sink_faults_kept

@@ -1,4 +1,5 @@
-use Rattle.std.proofs.Common.{le_refl}
+use Rattle.std.proofs.Common.{le_refl, ap, Some}
+use Rattle.ll_edge.proofs.CallerLemmas.{taken_front}
 use Rattle.ll_outlet.proofs.outlet.write_waiting.Goals as goal
 
 pub returns-then-is_empty-clause-cut : goal.returns-then-is_empty-clause-cut
@@ -26,7 +27,7 @@ pub returns-in-Err-clause-faults_kept : goal.returns-in-Err-clause-faults_kept
 returns-in-Err-clause-faults_kept g c = c.write_all-written.ensures.faults_kept
 
 pub returns-in-Ok-clause-written : goal.returns-in-Ok-clause-written
-returns-in-Ok-clause-written g c = rw c.deref.ensures.value at c.in-Ok.ensures.appends
+returns-in-Ok-clause-written g c = ap Some (rw c.deref.ensures.value at c.in-Ok.ensures.takes)
 
 pub returns-in-Err-clause-write : goal.returns-in-Err-clause-write
 returns-in-Err-clause-write g c = c.in-Err.ensures.failed

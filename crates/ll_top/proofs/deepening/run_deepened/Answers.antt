@@ -1,3 +1,4 @@
+use Rattle.std.specs.Prelude.{Some}
 use Rattle.std.proofs.Common.{refl, le_refl, le_trans}
 use Rattle.std.proofs.lemmas.Result.{err_from_is_err_and}
 use Rattle.ll_judge.specs.CallEnds.{nothing}
@@ -12,7 +13,8 @@ returns-in_err-write_heading-clause-ends g c =
 
 pub returns-clause-ends : goal.returns-clause-ends
 returns-clause-ends g c =
-    run-deepened c.args.proofs c.args.series.now c.args.problem.now _ c.in_ok-bound.bound _ _ _ _ _ _ _ c.in_ok-bound.ensures.decides
+    run-deepened c.args.proofs c.args.series.now c.args.problem.now _ c.in_ok-bound.bound _ _ _ (Some (g.O.Sink.taken c.args.sink.now)) _ _ _
+    c.in_ok-bound.ensures.decides
     c.in_ok-bound.ensures.problem c.in_ok-write_heading.ensures.faults_kept
     c.in_ok-write_heading.ensures.line c.run.ensures.found c.run.ensures.text c.run.ensures.refused c.run.ensures.prefix
 

@@ -28,15 +28,15 @@ returns-in-Ok-clause-none g c =
 pub returns-in-Ok-clause-same_reference : goal.returns-in-Ok-clause-same_reference
 returns-in-Ok-clause-same_reference g c =
     (first-same
-    (λ w. told_with w.out.problem.now w.out.proofs w.out.answers (g.O.Sink.written w.out.sink.now) (g.O.Sink.faults w.out.sink.now)
+    (λ w. told_with w.out.problem.now w.out.proofs w.out.answers (Some (g.O.Sink.taken w.out.sink.now)) (g.O.Sink.faults w.out.sink.now)
     w.out.sink.ghost_name w.out.waiting.now.items)
     (λ w. w.limit) (λ w. w.answers) _ _ _ c.in-Ok.ensures.given).lent
 
 pub returns-in-Ok-clause-lines : goal.returns-in-Ok-clause-lines
 returns-in-Ok-clause-lines g c =
-    shown_all _ _ _ _ _ c.requires.ready.none (returns-in-Ok-clause-none g c)
+    shown_all (Some (g.O.Sink.taken c.args.out.now.out.sink.now)) _ _ _ _ c.requires.ready.none (returns-in-Ok-clause-none g c)
     (first-written
-    (λ w. told_with w.out.problem.now w.out.proofs w.out.answers (g.O.Sink.written w.out.sink.now) (g.O.Sink.faults w.out.sink.now)
+    (λ w. told_with w.out.problem.now w.out.proofs w.out.answers (Some (g.O.Sink.taken w.out.sink.now)) (g.O.Sink.faults w.out.sink.now)
     w.out.sink.ghost_name w.out.waiting.now.items)
     (λ w. w.limit) (λ w. w.answers) _ _ _ _ c.requires.problem c.requires.answers.1 c.in-Ok.ensures.given)
 
@@ -52,7 +52,7 @@ returns-in-Err-Write-clause-none g c =
 pub returns-in-Err-Write-clause-same_reference : goal.returns-in-Err-Write-clause-same_reference
 returns-in-Err-Write-clause-same_reference g c =
     (prefix-same _ _
-    (λ w. told_with w.out.problem.now w.out.proofs w.out.answers (g.O.Sink.written w.out.sink.now) (g.O.Sink.faults w.out.sink.now)
+    (λ w. told_with w.out.problem.now w.out.proofs w.out.answers (Some (g.O.Sink.taken w.out.sink.now)) (g.O.Sink.faults w.out.sink.now)
     w.out.sink.ghost_name w.out.waiting.now.items)
     (λ x e y h. h.0) (λ x e y h. h.0) _ _ _ c.in-Err-Write.ensures.refused).lent
 
@@ -60,7 +60,7 @@ pub returns-in-Err-Write-clause-prefix : goal.returns-in-Err-Write-clause-prefix
 returns-in-Err-Write-clause-prefix g c =
     shown_front _ _ _ _ _ c.requires.ready.none (returns-in-Err-Write-clause-none g c)
     (lines-begun _ _
-    (λ w. told_with w.out.problem.now w.out.proofs w.out.answers (g.O.Sink.written w.out.sink.now) (g.O.Sink.faults w.out.sink.now)
+    (λ w. told_with w.out.problem.now w.out.proofs w.out.answers (Some (g.O.Sink.taken w.out.sink.now)) (g.O.Sink.faults w.out.sink.now)
     w.out.sink.ghost_name w.out.waiting.now.items)
     (λ x e y h. h.0) (λ x e y h. h.0) _ _ c.args.problem.now (first_of (problem_events c.args.problem.now) c.args.out.now.limit)
     (end_of_run (Some c.args.out.now.limit) c.args.problem.now) (text_of_run (Some c.args.out.now.limit) c.args.out.now.out.proofs c.args.problem.now)
@@ -78,7 +78,7 @@ returns-in-Err-OutOfMemory-clause-none g c =
 pub returns-in-Err-OutOfMemory-clause-same_reference : goal.returns-in-Err-OutOfMemory-clause-same_reference
 returns-in-Err-OutOfMemory-clause-same_reference g c =
     (prefix-same _ _
-    (λ w. told_with w.out.problem.now w.out.proofs w.out.answers (g.O.Sink.written w.out.sink.now) (g.O.Sink.faults w.out.sink.now)
+    (λ w. told_with w.out.problem.now w.out.proofs w.out.answers (Some (g.O.Sink.taken w.out.sink.now)) (g.O.Sink.faults w.out.sink.now)
     w.out.sink.ghost_name w.out.waiting.now.items)
     (λ x e y h. h.0) (λ x e y h. h.0) _ _ _ c.in-Err-OutOfMemory.ensures.refused).lent
 
@@ -86,7 +86,7 @@ pub returns-in-Err-OutOfMemory-clause-prefix : goal.returns-in-Err-OutOfMemory-c
 returns-in-Err-OutOfMemory-clause-prefix g c =
     shown_front _ _ _ _ _ c.requires.ready.none (returns-in-Err-OutOfMemory-clause-none g c)
     (lines-begun _ _
-    (λ w. told_with w.out.problem.now w.out.proofs w.out.answers (g.O.Sink.written w.out.sink.now) (g.O.Sink.faults w.out.sink.now)
+    (λ w. told_with w.out.problem.now w.out.proofs w.out.answers (Some (g.O.Sink.taken w.out.sink.now)) (g.O.Sink.faults w.out.sink.now)
     w.out.sink.ghost_name w.out.waiting.now.items)
     (λ x e y h. h.0) (λ x e y h. h.0) _ _ c.args.problem.now (first_of (problem_events c.args.problem.now) c.args.out.now.limit)
     (end_of_run (Some c.args.out.now.limit) c.args.problem.now) (text_of_run (Some c.args.out.now.limit) c.args.out.now.out.proofs c.args.problem.now)

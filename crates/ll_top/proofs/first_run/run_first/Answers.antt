@@ -1,3 +1,4 @@
+use Rattle.std.specs.Prelude.{Some}
 use Rattle.std.proofs.Common.{◌≡◌, ◌∙◌, sym, subst, IfOk, le_trans}
 use Rattle.std.specs.Prelude.{count_by}
 use Rattle.std.proofs.lemmas.Result.{IfOk-from_err, err_from_is_err_and}
@@ -26,7 +27,8 @@ returns-in-Some-clause-text g c =
     c.in_ok-counts.ensures.stops in
     let all = rw c.in-Some.is at c.in_ok-counts.ensures.counts in
     on_ok_map c.write_summary.result _ _ c.write_summary.ensures.text
-    (λ w. text-ended c.args.problem.now c.args.wanted c.args.proofs _ _ _ _ (whole-end c.args.problem.now c.args.wanted c.in-Some.counts few all)
+    (λ w. text-ended c.args.problem.now c.args.wanted c.args.proofs (Some (g.O.Sink.taken c.args.sink.now)) _ _ _
+    (whole-end c.args.problem.now c.args.wanted c.in-Some.counts few all)
     c.in_ok-counts.ensures.lines w)
 
 pub returns-in-Some-clause-prefix : goal.returns-in-Some-clause-prefix
@@ -50,7 +52,8 @@ returns-clause-found g c = let stops = c.in_ok-counts.ensures.stops in sym (stop
 pub returns-clause-text : goal.returns-clause-text
 returns-clause-text g c =
     let stops = c.in_ok-counts.ensures.stops in
-    text-ended c.args.problem.now c.args.wanted c.args.proofs _ _ _ _ (stop-end c.args.problem.now c.args.wanted (stops.0 c.in-None.is))
+    text-ended c.args.problem.now c.args.wanted c.args.proofs (Some (g.O.Sink.taken c.args.sink.now)) _ _ _ (stop-end c.args.problem.now c.args.wanted
+    (stops.0 c.in-None.is))
     c.in_ok-counts.ensures.lines c.in_ok-write_stop-in-None.ensures.line
 
 pub returns-in_err-counts-clause-faults_kept : goal.returns-in_err-counts-clause-faults_kept

@@ -1,3 +1,4 @@
+use Rattle.std.specs.Prelude.{Some}
 use Rattle.std.proofs.Common.{subst, sym}
 use Rattle.ll_laws.specs.Sound.{Every}
 use Rattle.ll_laws.specs.Problem.{problem_events}
@@ -23,15 +24,15 @@ returns-in-Ok-clause-none g c =
 pub returns-in-Ok-clause-same_reference : goal.returns-in-Ok-clause-same_reference
 returns-in-Ok-clause-same_reference g c =
     (events-same _ _
-    (λ w. told_with w.problem.now w.proofs w.answers (g.O.Sink.written w.sink.now) (g.O.Sink.faults w.sink.now)
+    (λ w. told_with w.problem.now w.proofs w.answers (Some (g.O.Sink.taken w.sink.now)) (g.O.Sink.faults w.sink.now)
     w.sink.ghost_name w.waiting.now.items)
     (λ x e y h. h) (λ x e y h. h) _ _ _ c.in-Ok.ensures.given).lent
 
 pub returns-in-Ok-clause-lines : goal.returns-in-Ok-clause-lines
 returns-in-Ok-clause-lines g c =
-    shown_all _ _ _ _ _ c.requires.ready.none (returns-in-Ok-clause-none g c)
+    shown_all (Some (g.O.Sink.taken c.args.out.now.sink.now)) _ _ _ _ c.requires.ready.none (returns-in-Ok-clause-none g c)
     (lines-written _ _
-    (λ w. told_with w.problem.now w.proofs w.answers (g.O.Sink.written w.sink.now) (g.O.Sink.faults w.sink.now)
+    (λ w. told_with w.problem.now w.proofs w.answers (Some (g.O.Sink.taken w.sink.now)) (g.O.Sink.faults w.sink.now)
     w.sink.ghost_name w.waiting.now.items)
     (λ x e y h. h) (λ x e y h. h) _ _ _ _ c.requires.problem c.requires.answers c.in-Ok.ensures.given)
 
@@ -46,7 +47,7 @@ returns-in-Err-Write-clause-none g c =
 pub returns-in-Err-Write-clause-same_reference : goal.returns-in-Err-Write-clause-same_reference
 returns-in-Err-Write-clause-same_reference g c =
     (prefix-same _ _
-    (λ w. told_with w.problem.now w.proofs w.answers (g.O.Sink.written w.sink.now) (g.O.Sink.faults w.sink.now)
+    (λ w. told_with w.problem.now w.proofs w.answers (Some (g.O.Sink.taken w.sink.now)) (g.O.Sink.faults w.sink.now)
     w.sink.ghost_name w.waiting.now.items)
     (λ x e y h. h) (λ x e y h. h) _ _ _ c.in-Err-Write.ensures.refused).lent
 
@@ -54,7 +55,7 @@ pub returns-in-Err-Write-clause-prefix : goal.returns-in-Err-Write-clause-prefix
 returns-in-Err-Write-clause-prefix g c =
     shown_front _ _ _ _ _ c.requires.ready.none (returns-in-Err-Write-clause-none g c)
     (text-begun _ _
-    (λ w. told_with w.problem.now w.proofs w.answers (g.O.Sink.written w.sink.now) (g.O.Sink.faults w.sink.now)
+    (λ w. told_with w.problem.now w.proofs w.answers (Some (g.O.Sink.taken w.sink.now)) (g.O.Sink.faults w.sink.now)
     w.sink.ghost_name w.waiting.now.items)
     (λ x e y h. h) (λ x e y h. h) _ _ _ c.requires.problem c.requires.answers c.in-Err-Write.ensures.refused)
 
@@ -69,7 +70,7 @@ returns-in-Err-OutOfMemory-clause-none g c =
 pub returns-in-Err-OutOfMemory-clause-same_reference : goal.returns-in-Err-OutOfMemory-clause-same_reference
 returns-in-Err-OutOfMemory-clause-same_reference g c =
     (prefix-same _ _
-    (λ w. told_with w.problem.now w.proofs w.answers (g.O.Sink.written w.sink.now) (g.O.Sink.faults w.sink.now)
+    (λ w. told_with w.problem.now w.proofs w.answers (Some (g.O.Sink.taken w.sink.now)) (g.O.Sink.faults w.sink.now)
     w.sink.ghost_name w.waiting.now.items)
     (λ x e y h. h) (λ x e y h. h) _ _ _ c.in-Err-OutOfMemory.ensures.refused).lent
 
@@ -77,6 +78,6 @@ pub returns-in-Err-OutOfMemory-clause-prefix : goal.returns-in-Err-OutOfMemory-c
 returns-in-Err-OutOfMemory-clause-prefix g c =
     shown_front _ _ _ _ _ c.requires.ready.none (returns-in-Err-OutOfMemory-clause-none g c)
     (text-begun _ _
-    (λ w. told_with w.problem.now w.proofs w.answers (g.O.Sink.written w.sink.now) (g.O.Sink.faults w.sink.now)
+    (λ w. told_with w.problem.now w.proofs w.answers (Some (g.O.Sink.taken w.sink.now)) (g.O.Sink.faults w.sink.now)
     w.sink.ghost_name w.waiting.now.items)
     (λ x e y h. h) (λ x e y h. h) _ _ _ c.requires.problem c.requires.answers c.in-Err-OutOfMemory.ensures.refused)

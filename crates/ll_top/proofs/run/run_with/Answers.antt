@@ -1,3 +1,4 @@
+use Rattle.std.specs.Prelude.{Some}
 use Rattle.std.proofs.Common.{◌≡◌, subst, IfOk, le_trans}
 use Rattle.std.proofs.lemmas.Result.{IfOk-from_err, err_from_is_err_and}
 use Rattle.ll_lists.proofs.CallerLemmas.{OnErr-always as on_err}
@@ -14,7 +15,8 @@ returns-clause-found g c = subst (λ n. IfOk c.write_summary.result (λ found. s
 pub returns-clause-text : goal.returns-clause-text
 returns-clause-text g c =
     on_ok_map c.write_summary.result _ _ c.write_summary.ensures.text
-    (λ w. whole-written _ _ c.in_ok-counts.counts _ _ _ c.in_ok-counts.ensures.counts c.in_ok-counts.ensures.lines w)
+    (λ w. whole-written c.args.proofs c.args.problem.now c.in_ok-counts.counts (Some (g.O.Sink.taken c.args.sink.now)) _ _
+    c.in_ok-counts.ensures.counts c.in_ok-counts.ensures.lines w)
 
 pub returns-clause-prefix : goal.returns-clause-prefix
 returns-clause-prefix g c =

@@ -1,3 +1,4 @@
+use Rattle.std.specs.Prelude.{Some}
 use Rattle.std.proofs.Common.{refl, sym, subst, ◌∙◌}
 use Rattle.std.specs.Prelude.{Ok, Err}
 use Rattle.ll_lists.proofs.CallerLemmas.{OnOk-weaker as on-ok, OnErr-weaker as on-err}
@@ -24,13 +25,13 @@ returns-in-Ok-clause-replies g c =
     on-ok
     {Q = (program : ProgramTree) → IsProgramOf program c.args.loaded.now
     → Replies (WritesReply s.proofs s.queries.now) (CutsReply s.proofs s.queries.now) program s.bound c.args.number c.args.line.now
-    (g.O.Sink.written c.args.sink.now) (g.O.Sink.written c.reply_with_run-reply.new.sink)}
+    (Some (g.O.Sink.taken c.args.sink.now)) (Some (g.O.Sink.taken c.reply_with_run-reply.new.sink))}
     c.reply_with_run-reply.result
     (λ taken program is. record {
       what = Ok c.in-Ok.problem;
       asks =
           (c.in-Ok.ensures.asks program (subst (IsProgramOf program) (sym c.in_ok-part.ensures) is)).0;
-      taken = taken;
+      taken = (taken, (c.in-Ok.ensures.asks program (subst (IsProgramOf program) (sym c.in_ok-part.ensures) is)).1);
     }) c.reply_with_run-reply.ensures.text
 
 pub returns-in-Ok-clause-cut : goal.returns-in-Ok-clause-cut
@@ -39,7 +40,7 @@ returns-in-Ok-clause-cut g c =
     on-err
     {Q = (program : ProgramTree) → IsProgramOf program c.args.loaded.now
     → RefusesLine (WritesReply s.proofs s.queries.now) (CutsReply s.proofs s.queries.now) program s.bound c.args.number c.args.line.now
-    (g.O.Sink.written c.args.sink.now) (g.O.Sink.written c.reply_with_run-reply.new.sink)}
+    (Some (g.O.Sink.taken c.args.sink.now)) (Some (g.O.Sink.taken c.reply_with_run-reply.new.sink))}
     c.reply_with_run-reply.result
     (λ broke program is. line_refused (Ok c.in-Ok.problem) (c.in-Ok.ensures.asks program (subst (IsProgramOf program) (sym c.in_ok-part.ensures) is)).0 broke)
     c.reply_with_run-reply.ensures.prefix
@@ -52,13 +53,13 @@ returns-in-Err-Text-clause-replies g c =
     on-ok
     {Q = (program : ProgramTree) → IsProgramOf program c.args.loaded.now
     → Replies (WritesReply s.proofs s.queries.now) (CutsReply s.proofs s.queries.now) program s.bound c.args.number c.args.line.now
-    (g.O.Sink.written c.args.sink.now) (g.O.Sink.written c.reply_with_fault.new.sink)}
+    (Some (g.O.Sink.taken c.args.sink.now)) (Some (g.O.Sink.taken c.reply_with_fault.new.sink))}
     c.reply_with_fault.result
     (λ taken program is. record {
       what = Err (on_line c.args.number c.in-Err-Text.fault);
       asks =
           (c.in-Err-Text.fault, cause program (c.in_ok-part.ensures ∙ is.is), refl);
-      taken = taken;
+      taken = (taken, tt);
     }) asked
 
 pub returns-in-Err-Text-clause-cut : goal.returns-in-Err-Text-clause-cut
@@ -69,7 +70,7 @@ returns-in-Err-Text-clause-cut g c =
     on-err
     {Q = (program : ProgramTree) → IsProgramOf program c.args.loaded.now
     → RefusesLine (WritesReply s.proofs s.queries.now) (CutsReply s.proofs s.queries.now) program s.bound c.args.number c.args.line.now
-    (g.O.Sink.written c.args.sink.now) (g.O.Sink.written c.reply_with_fault.new.sink)}
+    (Some (g.O.Sink.taken c.args.sink.now)) (Some (g.O.Sink.taken c.reply_with_fault.new.sink))}
     c.reply_with_fault.result
     (λ broke program is. line_refused (Err (on_line c.args.number c.in-Err-Text.fault)) (
       c.in-Err-Text.fault,

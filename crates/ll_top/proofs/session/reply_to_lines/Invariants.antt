@@ -1,3 +1,4 @@
+use Rattle.std.specs.Prelude.{Some}
 use Rattle.std.proofs.Common.{ℕ, ◌≤◌, ◌+◌, length}
 use Rattle.ll_parser.specs.Raw.{ProgramTree}
 use Rattle.ll_session.specs.Queries.{IsProgramOf}
@@ -9,7 +10,7 @@ abbrev pub invariant-loop-rest : goal.invariant-loop-rest
 invariant-loop-rest g l = record {
   answered : (program : ProgramTree) → IsProgramOf program l.loaded
       → (count : ℕ) × IsAnsweredTo (WritesReply l.session.proofs l.session.queries.now) (CutsReply l.session.proofs l.session.queries.now) program l.text
-      l.session.bound (g.O.Sink.written l.initial.sink) l.number count l.rest (g.O.Sink.written l.sink);
+      l.session.bound (Some (g.O.Sink.taken l.initial.sink)) l.number count l.rest (Some (g.O.Sink.taken l.sink));
   faults_kept : g.O.Sink.faults l.initial.sink ≤ g.O.Sink.faults l.sink;
   few : l.number + length l.rest ≤ 16777216;
 }

@@ -1,3 +1,4 @@
+use Rattle.std.specs.Prelude.{Some}
 use Rattle.std.proofs.Common.{le_trans}
 use Rattle.std.proofs.lemmas.Result.{IfOk-from_err, err_from_is_err_and}
 use Rattle.std.specs.Prelude.{codes, decimal, ◌++◌}
@@ -25,7 +26,7 @@ returns-in_err-run_with-clause-prefix g c =
 
 pub returns-clause-text : goal.returns-clause-text
 returns-clause-text g c =
-    both-written _ _ _ (line (codes "query " ++ decimal c.args.number)) (whole_text c.args.session.now.proofs c.args.problem.now)
+    both-written (Some (g.O.Sink.taken c.args.sink.now)) _ _ (line (codes "query " ++ decimal c.args.number)) (whole_text c.args.session.now.proofs c.args.problem.now)
     c.in_ok-write_heading.ensures.line c.in_ok-run_with.ensures.text
 
 pub returns-in_err-write_heading-clause-faults_kept : goal.returns-in_err-write_heading-clause-faults_kept

@@ -1,5 +1,5 @@
 use Rattle.std.proofs.Common.{refl}
-use Rattle.ll_edge.proofs.Counting.{counts_failed, counts_absent, counts_no_fault, counts_no_absence, IfBytes-always}
+use Rattle.ll_edge.proofs.Counting.{counts_failed, counts_absent, counts_no_fault, counts_no_absence}
 use Rattle.ll_edge.proofs.real.FileShelfShelf.TheImpl.Goals as goal
 
 pub read-tells : goal.read-tells
@@ -7,11 +7,10 @@ read-tells g c = record {
   same_texts = refl;
   faults_kept = c.ensures.faults_kept;
   absences_kept = c.ensures.absences_kept;
-  failed = counts_failed c.args.self.now c.new.self.now c.result c.ensures.counts;
-  absent = counts_absent c.args.self.now c.new.self.now c.result c.ensures.counts;
-  no_fault = counts_no_fault c.args.self.now c.new.self.now c.result c.ensures.counts;
-  no_absence = counts_no_absence c.args.self.now c.new.self.now c.result c.ensures.counts;
+  failed = counts_failed c.args.self.now.counts c.new.self.now.counts c.result c.ensures.counts;
+  absent = counts_absent c.args.self.now.counts c.new.self.now.counts c.result c.ensures.counts;
+  no_fault = counts_no_fault c.args.self.now.counts c.new.self.now.counts c.result c.ensures.counts;
+  no_absence = counts_no_absence c.args.self.now.counts c.new.self.now.counts c.result c.ensures.counts;
   fits = c.ensures.fits;
-  told_absent = λ _. tt;
-  told_bytes = IfBytes-always _ (λ _. tt) c.result;
+  logs = c.ensures.logs;
 }

@@ -1,5 +1,5 @@
 use Rattle.std.proofs.Common.{◌≡◌, ◌++◌, length, vec_len, ◌∙◌, ap, sym, refl, subst, arith, le_trans, le_refl}
-use Rattle.std.specs.Prelude.{map}
+use Rattle.std.specs.Prelude.{Some, map}
 use Rattle.std.specs.Bool.{◌==◌}
 use Rattle.std.proofs.lemmas.List.{length-map}
 use Rattle.ll_edge.specs.Pieces.{AppendsFront}
@@ -92,7 +92,8 @@ returns-in-Err-clause-refused g c =
       same = record { problem = refl; proofs = refl; lent = refl; faults = c.put.ensures.faults_kept };
       none = c.in-Err.ensures.none;
       written =
-          subst (λ l. AppendsFront (g.O.Sink.written c.loop-event.self.sink.now) (c.loop-event.self.waiting.now.items ++ l) (g.O.Sink.written c.put.new.sink))
+          subst (λ l. AppendsFront (Some (g.O.Sink.taken c.loop-event.self.sink.now)) (c.loop-event.self.waiting.now.items ++ l) (Some
+          (g.O.Sink.taken c.put.new.sink)))
           shown c.in-Err.ensures.cut;
     })
 

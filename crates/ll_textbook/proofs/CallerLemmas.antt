@@ -1,0 +1,6 @@
+-- What the crates above may cite of what follows, beside the public contracts.
+
+-- an attempt takes one step more
+pub use Rattle.ll_textbook.proofs.Steps.{attempt_steps}
+-- settling takes none
+pub use Rattle.ll_textbook.proofs.Steps.{settle_steps}

@@ -1,13 +1,12 @@
 #!/usr/bin/env python3
-"""Proves the crates that the program stands on, side by side, and builds it: `./lolli` calls this where there is something to build.
+"""build.py ROOM KEPT: proves the crates of a room, side by side, and builds the program in it, as ROOM/lolli. `./lolli` and `./prove` call it.
 
-A line on standard error tells of each crate that is proved. A library that was proved is kept in the user's cache folder, under the sum of all
-that it was made from, so a build that was broken off goes on where it stopped. Status 0: the program is built. 125: it can't be built, and the
-lines before say why. 130: the build was told to stop.
+A line on standard error tells of each crate that is proved. A library that was proved is kept in the user's cache folder, or else in the folder KEPT,
+under the sum of all that it was made from, so a build that was broken off goes on where it stopped. Status 0: the program is built. 125: it can't be
+built, and the lines before say why. 130: the build was told to stop.
 """
 
 import hashlib
-import math
 import os
 import re
 import shutil
@@ -19,17 +18,12 @@ import time
 from dataclasses import dataclass
 from pathlib import Path
 
-ROOT = Path(__file__).resolve().parent
 PROGRAM = "lolli"
-# Where `./lolli` looks for the program.
-OUT = ROOT / "crates" / PROGRAM / "out"
 TARGET = "x86_64-unknown-linux-gnu"
 # Those of the kit, which each program is linked with.
 C_LIBRARIES = ("libos_c.a", "liblibc_c.a")
 # How many processes may share the proof of one crate. More make it dearer, and hardly sooner done.
 MOST_JOBS = 4
-# So many times the processor time does a proof take by several processes.
-DEARER = 1.2
 # In KiB. A check takes up to 3 GB, most of them half as much.
 MEMORY_OF_A_JOB = 2_200_000
 # The prover's allocator keeps the memory that it has, which it would give back to the kernel and then ask for again.
@@ -37,8 +31,8 @@ ALLOCATOR = {"MIMALLOC_PURGE_DELAY": "-1"}
 # How many states of a library are kept.
 MOST_KEPT = 2
 A_DAY = 24 * 60 * 60
-# What the proof of a crate takes, in processor seconds (2026-11-29, four processors). They tell the order alone, so numbers that are out of date cost
-# little. A crate that is not among them counts by its lines.
+# What the proof of a crate takes, in processor seconds (2026-11-29, four processors). They tell the order and the time that is left, so numbers that are
+# out of date cost little. A crate that is not among them counts by its lines.
 SECONDS = {
     "ll_edge": 60, "ll_bank": 106, "ll_terms": 89, "ll_lexer": 38, "ll_parser": 195, "ll_laws": 40, "ll_polarity": 188, "ll_bindings": 11,
     "ll_equate": 81, "ll_copy": 51, "ll_store": 64, "ll_close": 72, "ll_bind": 25, "ll_modules": 26, "ll_sequent": 168, "ll_resources": 85,
@@ -46,6 +40,8 @@ SECONDS = {
     "ll_index": 51, "ll_session": 39, "ll_freeze": 91, "ll_engine": 263, "ll_job": 116, "ll_crew": 297, "ll_trace": 102, "ll_deepen": 12,
     "ll_make": 10, "ll_words": 59, "ll_made": 25, "ll_cover": 51, "ll_outlet": 45, "ll_judge": 72, "ll_check": 53, "ll_top": 146, "lolli": 95,
 }
+# So many of these seconds count as proved in their time before the first crate is.
+SECONDS_BEFORE = 300
 
 
 def say(text):
@@ -73,10 +69,9 @@ def sum_of(*texts):
 
 @dataclass
 class Crate:
-    """A crate of the repository, with its line in crates.txt, the crates that this names, and the libraries of the kit."""
+    """A crate, with the crates of the repository that its line in crates.txt names, and the libraries of the kit."""
 
     name: str
-    line: str
     uses: list
     of_kit: list
     folder: Path
@@ -87,10 +82,10 @@ class Crate:
         return SECONDS.get(self.name, 10 + lines // 10)
 
 
-def copy_crates(room):
-    """Copies the crates that the program stands on to a room, so that edits beside the build don't matter, and gives them, lowest first."""
-    lines = {line.split(":")[0].split()[0]: line for line in (ROOT / "crates.txt").read_text().splitlines() if re.match(r"\w.*:", line)}
-    stands_on = {name: line.partition(":")[2].split() for name, line in lines.items()}
+def read_crates(room):
+    """The crates that the program stands on, lowest first, and itself."""
+    lines = [line.partition(":") for line in (room / "crates.txt").read_text().splitlines() if re.match(r"\w.*:", line)]
+    stands_on = {name.split()[0]: below.split() for name, _, below in lines}
     found = {}
 
     def need(name):
@@ -102,10 +97,9 @@ def copy_crates(room):
         for library in uses:
             need(library)
         folder = room / "crates" / name
-        if not (ROOT / "crates" / name / "src").is_dir():
+        if not (folder / "src").is_dir():
             raise BuildError(f"crates.txt names {name}, and there is no such crate")
-        shutil.copytree(ROOT / "crates" / name, folder, ignore=shutil.ignore_patterns("out", "must-fail"))
-        found[name] = Crate(name, lines[name], uses, [library for library in stands_on[name] if library not in uses], folder)
+        found[name] = Crate(name, uses, [library for library in stands_on[name] if library not in uses], folder)
 
     need(PROGRAM)
     return list(found.values())
@@ -143,53 +137,18 @@ class Kit:
         return [self.at / "bin" / "rattle-link", *toolchain, "-o", program, made, *(self.at / "c" / name for name in C_LIBRARIES)]
 
 
-def is_proving(session):
-    """Whether a prover works on a crate in a session of processes."""
-    for process in Path("/proc").glob("[0-9]*"):
-        try:
-            name, rest = re.fullmatch(r"\d+ \((.*)\) (.*)", (process / "stat").read_text(), re.DOTALL).groups()
-            words = (process / "cmdline").read_bytes().split(b"\0")
-        except (OSError, AttributeError):
-            continue
-        if name == "rattle" and rest.split()[3] == str(session) and b"--crate-name" in words:
-            return True
-    return False
-
-
-def take_from_gate(kit, crates, room):
-    """The program as a gate built it of the same texts on this machine, in whatever checkout: `rt ci` keeps that beside the kit, and has nothing to
-    prove then. None where it would have to."""
-    if not any((kit.at.parent / "rattle-kept").glob(f"proof-{PROGRAM}-*")):
-        return None
-    for crate in crates:
-        shutil.copytree(crate.folder, room / "crates" / crate.name)
-    shutil.copy(ROOT / "HANDLES", room)
-    (room / "crates.txt").write_text("".join(f"{crate.line}\n" for crate in crates))
-    log = room / "log"
-    how = {"stdin": subprocess.DEVNULL, "stdout": log.open("wb"), "stderr": subprocess.STDOUT, "start_new_session": True}
-    with subprocess.Popen([kit.at / "bin" / "rt", "ci"], cwd=room, **how) as gate:
-        try:
-            while gate.poll() is None and not is_proving(gate.pid) and b"; waiting for it" not in log.read_bytes():
-                time.sleep(0.1)
-        finally:
-            if gate.poll() is None:
-                os.killpg(gate.pid, signal.SIGTERM)
-    program = room / "crates" / PROGRAM / "out" / PROGRAM
-    return program if gate.returncode == 0 and program.is_file() else None
-
-
 class Store:
     """The libraries that were proved. An entry's name has the sum of all that it was made from, so it never goes stale. An entry is made apart and then
     renamed, so that no other build meets half of it."""
 
-    def __init__(self, kit):
+    def __init__(self, kit, instead):
         self.kit = kit
         try:
             self.at = Path(os.environ.get("XDG_CACHE_HOME") or Path.home() / ".cache") / PROGRAM
             self.at.mkdir(mode=0o700, parents=True, exist_ok=True)
             tempfile.TemporaryFile(dir=self.at).close()
         except (OSError, RuntimeError):
-            self.at = OUT / "kept"
+            self.at = instead
             self.at.mkdir(parents=True, exist_ok=True)
 
     def place(self, crate, libraries):
@@ -230,105 +189,106 @@ class Store:
 
 @dataclass
 class Check:
-    """The proof of a crate under way, and for how many processors it counts: what it makes it makes in a room, and a library that is proved is to stand at
-    a place."""
+    """The proof of a crate under way, by so many processes: what it makes it makes in a room, and a library that is proved is to stand at a place."""
 
     crate: Crate
     process: subprocess.Popen
-    processors: int
+    jobs: int
+    began: float
     log: Path
     room: Path
     place: Path
 
 
-class Plan:
-    """In which order crates are proved, and by how many processes each."""
+def processors():
+    """How many processes may run: as many as there are processors and memory for, or as RT_JOBS says."""
+    given = os.environ.get("RT_JOBS", "")
+    memory = re.search(r"MemAvailable:\s+(\d+)", Path("/proc/meminfo").read_text())
+    most = int(memory[1]) // MEMORY_OF_A_JOB if memory else 1
+    return int(given) if given.isdigit() and int(given) else max(1, min(len(os.sched_getaffinity(0)), most))
 
-    def __init__(self, crates):
-        self.crates = crates
+
+class Clock:
+    """What has passed, and how long what is left takes, by what crates took before and by how fast this machine has been."""
+
+    def __init__(self, crates, many):
+        self.began, self.many = time.time(), many
         self.seconds = {crate.name: crate.seconds() for crate in crates}
-        given = os.environ.get("RT_JOBS", "")
-        rooms = self.rooms()
-        self.processors = int(given) if given.isdigit() and int(given) else max(1, min(len(os.sched_getaffinity(0)), rooms))
-        # Whether more processes than processors may run. On two or three there is enough to do beside each crate.
-        self.may_share = self.processors > 3 and rooms >= 2 * self.processors
-        # The names of all crates that each one stands on, how long the longest way from it to the program is, and how long what comes after it on such a
-        # way takes by as many processes as may be.
-        self.below, self.ways, self.rests = {}, {}, {}
-        for crate in crates:
-            self.below[crate.name] = {name for used in crate.uses for name in (used, *self.below[used])}
-        most = min(MOST_JOBS, self.processors)
-        dearer = DEARER / most if most > 1 else 1
-        for crate in reversed(crates):
-            above = [other for other in crates if crate.name in other.uses]
-            self.ways[crate.name] = self.seconds[crate.name] + max((self.ways[other.name] for other in above), default=0)
-            self.rests[crate.name] = max((self.seconds[other.name] * dearer + self.rests[other.name] for other in above), default=0)
+        self.spent, self.proved = SECONDS_BEFORE, SECONDS_BEFORE
 
-    @staticmethod
-    def rooms():
-        """For how many processes there is memory."""
-        found = re.search(r"MemAvailable:\s+(\d+)", Path("/proc/meminfo").read_text())
-        return int(found[1]) // MEMORY_OF_A_JOB if found else 1
+    def count(self, check):
+        """Counts a proof that has ended."""
+        self.spent += (time.time() - check.began) * check.jobs
+        self.proved += self.seconds[check.crate.name]
 
-    def jobs(self, crate, unproved, idle):
-        """How many processes are to prove a crate: as many as would else be idle for a quarter of the time or more, since there is too little that need not
-        wait for it. Two, though only one processor is idle, where it and what waits for it would else take longer than all that is left takes on all
-        processors: those beside it are a little slower then, and what waits for it begins sooner."""
-        beside = [other for other in unproved if other is not crate and crate.name not in self.below[other.name]]
-        wanted = self.processors - sum(self.seconds[other.name] for other in beside) / self.seconds[crate.name]
-        share = sum(self.seconds[other.name] for other in unproved) / self.processors
-        is_late = self.may_share and self.seconds[crate.name] + self.rests[crate.name] > share
-        return max(2 if is_late else 1, min(MOST_JOBS, self.processors, max(math.floor(wanted + 0.75), idle)))
+    def passed(self):
+        return int(time.time() - self.began)
 
-
-def install(made, started):
-    """Puts the program where `./lolli` looks for it, as old as the texts that it was made of."""
-    OUT.mkdir(exist_ok=True)
-    os.utime(made, (started, started))
-    shutil.move(str(made), str(OUT / PROGRAM))
+    def left(self, left, running):
+        """The minutes that are left for these crates and for the rest of those that are being proved."""
+        rate = self.spent / self.proved
+        work = sum(self.seconds[crate.name] for crate in left) * rate
+        work += sum(max(0, self.seconds[check.crate.name] * rate - (time.time() - check.began) * check.jobs) for check in running)
+        return round(work / self.many / 60 + 0.5)
 
 
 class Build:
     """What is proved, what is under way, and what is left."""
 
-    def __init__(self, kit, store, plan, room, started):
-        self.kit, self.store, self.plan, self.room, self.started = kit, store, plan, room, started
-        self.left = list(plan.crates)
+    def __init__(self, kit, store, crates, room):
+        self.kit, self.store, self.crates, self.room = kit, store, crates, room
+        self.left = list(crates)
         self.libraries, self.running, self.has_failed = {}, {}, False
         # Those whose check was killed, most likely for memory: they are tried once more, alone.
         self.killed = set()
+        self.clock = Clock(crates, processors())
+        # The names of all crates that each one stands on, and how long the longest way from it to the program is.
+        self.below, self.ways = {}, {}
+        for crate in crates:
+            self.below[crate.name] = {name for used in crate.uses for name in (used, *self.below[used])}
+        for crate in reversed(crates):
+            above = [self.ways[other.name] for other in crates if crate.name in other.uses]
+            self.ways[crate.name] = self.clock.seconds[crate.name] + max(above, default=0)
 
-    def ready(self):
-        """The crates that can be proved now, first those with the longest way to the program."""
-        found = [crate for crate in self.left if all(name in self.libraries for name in crate.uses)]
-        return sorted(found, key=lambda crate: -self.plan.ways[crate.name])
+    def libraries_of(self, crate):
+        return {name: self.libraries[name] for name in self.below[crate.name]}
+
+    def take_kept(self):
+        """Takes the libraries that were proved of the same texts."""
+        for crate in self.crates:
+            if crate in self.left and crate.name != PROGRAM and all(name in self.libraries for name in crate.uses):
+                place = self.store.place(crate, self.libraries_of(crate))
+                if self.store.take(place):
+                    self.left.remove(crate)
+                    self.libraries[crate.name] = place / f"{crate.name}.rlib"
 
     def start_ready(self):
-        """Starts as many proofs as there are processors for."""
-        while ready := self.ready():
-            running = [check.crate for check in self.running.values()]
-            idle = self.plan.processors - sum(check.processors for check in self.running.values())
-            crate = next((crate for crate in ready if crate.name not in self.killed or not running), None)
-            if idle <= 0 or not crate or any(other.name in self.killed for other in running):
+        """Starts as many proofs as there are processors for, first those with the longest way to the program. One that would leave processors idle
+        gets more processes."""
+        self.take_kept()
+        while True:
+            ready = [crate for crate in self.left if all(name in self.libraries for name in crate.uses)]
+            idle = self.clock.many - sum(check.jobs for check in self.running.values())
+            if not ready or idle <= 0 or any(check.crate.name in self.killed for check in self.running.values()):
                 return
-            jobs = self.plan.jobs(crate, [*self.left, *running], idle - len(ready) + 1)
-            self.start(crate, 1 if crate.name in self.killed else jobs, idle)
+            ready.sort(key=lambda crate: (crate.name in self.killed, -self.ways[crate.name]))
+            crate = ready[0]
+            if crate.name in self.killed and self.running:
+                return
+            self.start(crate, 1 if crate.name in self.killed else max(1, min(MOST_JOBS, idle // len(ready))))
 
-    def start(self, crate, jobs, idle):
-        """Takes the library that was proved of the same texts, or starts the proof, which counts for no more than the processors that are idle."""
+    def start(self, crate, jobs):
+        """Starts a proof."""
         self.left.remove(crate)
-        libraries = {name: self.libraries[name] for name in self.plan.below[crate.name]}
+        libraries = self.libraries_of(crate)
         place = self.store.place(crate, libraries)
-        if self.store.take(place):
-            self.libraries[crate.name] = place / f"{crate.name}.rlib"
-            return
         room, log = self.store.room(crate), self.room / f"{crate.name}.log"
         made = room / (f"{PROGRAM}.o" if crate.name == PROGRAM else f"{crate.name}.rlib")
         with log.open("wb") as out:
             words = self.kit.prove(crate, libraries, jobs, made)
             how = {"stdin": subprocess.DEVNULL, "stdout": out, "stderr": subprocess.STDOUT, "start_new_session": True}
             process = subprocess.Popen(words, cwd=crate.folder, env={**ALLOCATOR, **os.environ}, **how)
-        self.running[process.pid] = Check(crate, process, min(jobs, idle), log, room, place)
+        self.running[process.pid] = Check(crate, process, jobs, time.time(), log, room, place)
 
     def end(self, check, status):
         """Keeps what a proof made, or tells what the prover said."""
@@ -339,8 +299,8 @@ class Build:
             if crate.name != PROGRAM:
                 self.store.put(check.room, check.place, crate)
             self.libraries[crate.name] = check.place / f"{crate.name}.rlib"
-            passed = int(time.time() - self.started)
-            say(f"{len(self.libraries)} of {len(self.plan.crates)}: {crate.name} ({passed // 60} min {passed % 60} s)")
+            self.clock.count(check)
+            self.tell(crate)
             return
         shutil.rmtree(check.room, ignore_errors=True)
         if status == -signal.SIGKILL and crate.name not in self.killed:
@@ -349,27 +309,35 @@ class Build:
         else:
             self.has_failed = True
             say(f"{PROGRAM}: {crate.name} is not proved")
-            said = check.log.read_text(errors="replace").replace(f"{self.room}/texts/", f"{ROOT}/").splitlines()
+            said = check.log.read_text(errors="replace").replace(f"{self.room}/", "").splitlines()
             say("\n".join(line for line in said if not re.search(r"^statements |: proved$", line)))
+
+    def tell(self, crate):
+        """Says that a crate is proved, and how long the rest takes."""
+        passed = self.clock.passed()
+        left = f", some {self.clock.left(self.left, self.running.values())} min left" if self.left or self.running else ""
+        say(f"{len(self.libraries)} of {len(self.crates)}: {crate.name} ({passed // 60} min {passed % 60} s{left})")
 
     def link(self, check):
         """Links the program."""
-        made = check.room / PROGRAM
         with check.log.open("ab") as out:
-            status = subprocess.run(self.kit.link(check.room / f"{PROGRAM}.o", made), stdout=out, stderr=out, check=False).returncode
+            words = self.kit.link(check.room / f"{PROGRAM}.o", self.room / PROGRAM)
+            status = subprocess.run(words, stdout=out, stderr=out, check=False).returncode
         if not status:
-            install(made, self.started)
             shutil.rmtree(check.room, ignore_errors=True)
         return status
 
     def run(self):
         """Proves all. Where a crate is not proved, those beside it go on to their end, since what they make is kept, and no other starts."""
+        self.take_kept()
+        left = self.clock.left(self.left, [])
+        say(f"{len(self.crates)} crates, {len(self.libraries)} of them proved before; some {left} min left by {self.clock.many} processes")
         self.start_ready()
         while self.running:
             pid, status = os.wait()
             check = self.running.pop(pid, None)
             if check:
-                check.process.returncode = -os.WTERMSIG(status) if os.WIFSIGNALED(status) else os.WEXITSTATUS(status)
+                check.process.returncode = os.waitstatus_to_exitcode(status)
                 self.end(check, check.process.returncode)
             if not self.has_failed:
                 self.start_ready()
@@ -391,19 +359,11 @@ def interrupted(*_):
     raise KeyboardInterrupt
 
 
-def build(room):
+def build(room, kept):
     """Builds the program in a room, and says whether it could."""
-    if OUT.parent.is_dir():
-        # Before the build counts as started: the crate's own folder changes by it, and is not to be newer than the program.
-        OUT.mkdir(exist_ok=True)
-    started, kit = time.time(), Kit()
-    crates = copy_crates(room / "texts")
-    made = take_from_gate(kit, crates, room / "gate")
-    if made:
-        install(made, started)
-        return True
-    store = Store(kit)
-    whole = Build(kit, store, Plan(crates), room, started)
+    kit, crates = Kit(), read_crates(room)
+    store = Store(kit, kept)
+    whole = Build(kit, store, crates, room)
     try:
         is_built = whole.run()
     finally:
@@ -417,8 +377,7 @@ def main():
     for it in (signal.SIGTERM, signal.SIGINT):
         signal.signal(it, interrupted)
     try:
-        with tempfile.TemporaryDirectory(prefix="lolli-build-") as room:
-            return 0 if build(Path(room)) else 125
+        return 0 if build(Path(sys.argv[1]), Path(sys.argv[2])) else 125
     except (BuildError, OSError) as error:
         say(f"{PROGRAM}: {error}")
         return 125

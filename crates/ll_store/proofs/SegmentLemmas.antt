@@ -4,7 +4,7 @@ use Rattle.std.proofs.Common.{false, append_assoc, length-append}
 use Rattle.std.specs.Prelude.{nat_lt, None, slice_index_or, slice_get, Some}
 use Rattle.std.proofs.lemmas.Bool.{ltb-true, ltb-false, lt-ltb, le-ltb}
 use Rattle.std.proofs.lemmas.List.{length-map, map-append, take-map, drop-map, take_more, drop-append-le, take-append-le, take-append-drop, take-take}
-use Rattle.std.proofs.lemmas.List.{length-take, length-take-le, take_all}
+use Rattle.std.proofs.lemmas.List.{length-take, length-take-le, take_all, drop_all}
 use Rattle.ll_bank.specs.declared.BankSize.{BankSize}
 use Rattle.ll_bank.specs.Nodes.{Nodes, front, HasSize, IsNotPast, Extends, size_of}
 use Rattle.ll_bank.specs.Tail.{Tail, IsTailOf, with_nodes}
@@ -356,3 +356,29 @@ continues slots mid last more ys entries noted rs xs count s t x y m l n v w = r
       ∙ ((λ i. (m ∙ ap (λ zs. renew (map renewed_of zs) (map cell_of slots)) x) i ++ map cell_of (y i)) ∙ (λ i. cells_after (v i) (w i).cells)));
   changes = n ∙ (ap (λ zs. map change_of entries ++ map (λ (r : Renewed). r.change) (map renewed_of zs)) x ∙ (λ i. (w i).changes ++ changes_in (v i)));
 }
+
+renew-length : (rs : List Renewed) (cells : List Cell) → length (renew rs cells) ≡ length cells
+renew-length [] cells = refl
+renew-length (r ∷ rs) cells =
+    renew-length rs (update (changed_in r.change) (λ c. r.cell) cells) ∙ update-length cells (changed_in r.change) (λ c. r.cell)
+
+-- where the cells behind are not added, taking the noted changes back gives the cells and changes from before
+pub given-back : (s : CellSight) (old now new : Trailed) (count changes : ℕ) → BeginsCells s old.cells → count ≡ s.count → changes ≡ length old.changes
+    → now.cells ≡ renew s.renewed old.cells → now.changes ≡ old.changes ++ changes_in s
+    → new.cells ≡ take count (before (drop changes now.changes) now.cells) → new.changes ≡ take changes now.changes → new ≡ old
+given-back s old now new count changes b k n c d e f =
+    let cs = changes_in s in let fits : length old.changes ≤ length old.changes = omega arith in
+    let behind : drop changes now.changes ≡ cs =
+    (λ i. drop (n i) (d i)) ∙ (drop-append-le (length old.changes) old.changes cs fits
+    ∙ ap (λ xs. xs ++ cs) (drop_all (length old.changes) old.changes fits)) in
+    let front : take changes now.changes ≡ old.changes =
+    (λ i. take (n i) (d i)) ∙ (take-append-le (length old.changes) old.changes cs fits ∙ take_all (length old.changes) old.changes fits) in
+    let renewed = renew s.renewed old.cells in
+    let few : s.count ≤ length renewed = let l = renew-length s.renewed old.cells in let m = b.count in omega (arith, l, m) in
+    let cells : take count (before (drop changes now.changes) now.cells) ≡ old.cells =
+    (λ i. take (k i) (before (behind i) (c i)))
+    ∙ (before-take s.count cs renewed
+    ∙ (ap (before cs) (sym (take-append-le s.count renewed s.more few))
+    ∙ (sym (before-take s.count cs (renewed ++ s.more)) ∙ b.back))) in
+    let x = e ∙ cells in let y = f ∙ front in
+    λ i. record { cells = x i; changes = y i }

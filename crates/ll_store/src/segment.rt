@@ -1,5 +1,6 @@
 //! What leads from one state of a store to a later one, for stores that stand in the first.
-ghost use Rattle.std.specs.Prelude.{◌≡◌, ◌≤◌, nat_lt, [], ◌++◌, length, map, take, drop, IfOk, OnOk, IsTrue};
+ghost use Rattle.std.specs.Prelude.{◌≡◌, ◌≤◌, nat_lt, [], ◌++◌, length, map, take, drop, IfOk, OnOk, OnErr, IsTrue};
+ghost use Rattle.ll_bank.specs.Nodes.{Extends};
 ghost use Rattle.ll_store.specs.Cells.{update, before};
 ghost use Rattle.ll_store.specs.Packed.{cell_of, change_of};
 ghost use Rattle.ll_store.specs.Stored.{stored, state_of, state_at, IsGood, IsBefore, KeepsMarks};
@@ -79,14 +80,22 @@ impl Cells {
         })
     }
 
-    /// Goes on to the cells to which the segment leads. After a refusal nothing is said of them.
+    /// Goes on to the cells to which the segment leads. After a refusal they are as before.
     pub fn extend(&mut self, segment: &CellSegment) -> Result<(), OutOfMemory>
         requires { BeginsCells segment.now self.old.cells }
-        ensures { OnOk result (Continues segment.now self.old self.new) }
+        ensures continues { OnOk result (Continues segment.now self.old self.new) }
+        ensures refused { OnErr result (self.new ≡ self.old) }
     {
-        renew(&mut self.slots, &mut self.trail, &segment.renewed)?;
-        self.slots.extend_from_slice(&segment.more)?;
-        Ok(())
+        let changes = self.trail.len();
+        note_changes(&mut self.trail, &segment.renewed)?;
+        renew(&mut self.slots, &segment.renewed);
+        match self.slots.extend_from_slice(&segment.more) {
+            Ok(()) => Ok(()),
+            Err(refused) => {
+                self.cut(segment.count, changes);
+                Err(refused)
+            }
+        }
     }
 }
 
@@ -139,20 +148,25 @@ fn behind(alloc: Global, cells: &[Slot], count: usize) -> Result<Vec<Slot>, OutO
     Ok(more)
 }
 
-// Makes cells what they are in the end, and notes the changes.
-fn renew(
-    cells: &mut Vec<Slot>,
-    trail: &mut Vec<Entry>,
-    renewed: &[Renewal],
-) -> Result<(), OutOfMemory>
-    ensures cells { OnOk result (map cell_of cells.new.items ≡ renew (map renewed_of renewed.now) (map cell_of cells.old.items)) }
-    ensures trail { OnOk result (map change_of trail.new.items ≡ map change_of trail.old.items ++ map (λ r. r.change) (map renewed_of renewed.now)) }
+// Notes the changes. After a refusal the trail is as before.
+fn note_changes(trail: &mut Vec<Entry>, renewed: &[Renewal]) -> Result<(), OutOfMemory>
+    ensures noted { OnOk result (map change_of trail.new.items ≡ map change_of trail.old.items ++ map (λ r. r.change) (map renewed_of renewed.now)) }
+    ensures refused { OnErr result (map change_of trail.new.items ≡ map change_of trail.old.items) }
 {
+    trail.reserve(renewed.len())?;
     for renewal in renewed {
-        trail.push(renewal.entry)?;
-        set_slot(cells, renewal.entry.var(), renewal.slot);
+        trail.push_reserved(renewal.entry);
     }
     Ok(())
+}
+
+// Makes cells what they are in the end.
+fn renew(cells: &mut Vec<Slot>, renewed: &[Renewal])
+    ensures { map cell_of cells.new.items ≡ renew (map renewed_of renewed.now) (map cell_of cells.old.items) }
+{
+    for renewal in renewed {
+        set_slot(cells, renewal.entry.var(), renewal.slot);
+    }
 }
 
 // Makes a cell what it is in the end, if there is one.
@@ -212,15 +226,34 @@ impl Store {
         Ok(Segment { cells, nodes })
     }
 
-    /// Goes on from the first state of the segment to the second. Each good mark stays good, with its state. After a refusal nothing is said
-    /// of the store.
+    /// Goes on from the first state of the segment to the second. Each good mark stays good, with its state. After a refusal the store is as
+    /// before.
     pub fn apply_segment(&mut self, segment: &Segment) -> Result<(), OutOfMemory>
         requires { Begins segment.now (state_of (stored self.old)) }
         ensures state { OnOk result (Leads segment.now (state_of (stored self.old)) (state_of (stored self.new))) }
         ensures marks { OnOk result (KeepsMarks (stored self.old) (stored self.new)) }
+        ensures refused { OnErr result (stored self.new ≡ stored self.old) }
     {
-        self.cells.extend(&segment.cells)?;
+        let size = self.bank.size();
+        match self.take_over(segment) {
+            Ok(()) => Ok(()),
+            Err(refused) => {
+                self.bank.cut(size);
+                Err(refused)
+            }
+        }
+    }
+
+    // The same, but after a refusal the bank may have some of the nodes.
+    fn take_over(&mut self, segment: &Segment) -> Result<(), OutOfMemory>
+        requires { Begins segment.now (state_of (stored self.old)) }
+        ensures state { OnOk result (Leads segment.now (state_of (stored self.old)) (state_of (stored self.new))) }
+        ensures marks { OnOk result (KeepsMarks (stored self.old) (stored self.new)) }
+        ensures bank { Extends self.old.bank self.new.bank }
+        ensures cells { OnErr result (self.new.cells ≡ self.old.cells) }
+    {
         self.bank.extend(&segment.nodes)?;
+        self.cells.extend(&segment.cells)?;
         Ok(())
     }
 }

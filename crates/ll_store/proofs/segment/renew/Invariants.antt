@@ -1,9 +1,7 @@
-use Rattle.std.proofs.Common.{◌≡◌, ◌++◌, map, take}
-use Rattle.ll_store.specs.Packed.{cell_of, change_of}
-use Rattle.ll_store.specs.Segments.{Renewed, renewed_of, renew}
+use Rattle.std.proofs.Common.{◌≡◌, map, take}
+use Rattle.ll_store.specs.Packed.{cell_of}
+use Rattle.ll_store.specs.Segments.{renewed_of, renew}
 use Rattle.ll_store.proofs.segment.renew.Given as goal
 
 abbrev pub invariant-loop-renewal : goal.invariant-loop-renewal
-invariant-loop-renewal l =
-    (map cell_of l.cells.items ≡ renew (map renewed_of (take l.renewal-index l.renewed)) (map cell_of l.fn.cells.items))
-    × (map change_of l.trail.items ≡ map change_of l.fn.trail.items ++ map (λ (r : Renewed). r.change) (map renewed_of (take l.renewal-index l.renewed)))
+invariant-loop-renewal l = map cell_of l.cells.items ≡ renew (map renewed_of (take l.renewal-index l.renewed)) (map cell_of l.fn.cells.items)

@@ -1,6 +1,7 @@
 -- The candidates that can match.
 pub mod CandidateLemmas
 pub mod Finding
+pub mod KeyedLemmas
 pub mod LeafLemmas
 pub mod MatchLemmas
 pub mod ProgramLemmas

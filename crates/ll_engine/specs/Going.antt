@@ -9,6 +9,7 @@ use Rattle.ll_laws.specs.Consistent.{ends_fit}
 use Rattle.ll_laws.specs.Valid.{IsFormula, ClauseSide}
 use Rattle.ll_agenda.specs.Frames.{HasTop}
 use Rattle.ll_resources.specs.Resources.{Resources, saved_at}
+use Rattle.ll_freeze.specs.Keyed.{AreKeyed}
 use Rattle.ll_freeze.specs.Parts.{Parts}
 use Rattle.ll_freeze.specs.declared.machine.Item.{Item}
 use Rattle.ll_freeze.specs.declared.machine.Item.TheVariants.{Goal, LolliEnd, ImpEnd, Mid, WithEnd, BangEnd}
@@ -49,6 +50,7 @@ pub record Reaches (o m : Parts) : Type 0 where
   pub clauses : All (λ e. HasForm o.bank e.clause.0) m.resources.entries
   pub sorted_clauses : All (λ e. IsFormula (allowed o) ClauseSide [] (form_tree o.bank e.clause.0)) m.resources.entries
   pub sorted_goals : All (IsGoalIn (allowed o) o.bank) (items_of m)
+  pub keyed : AreKeyed o.bank (length o.problem.clauses) m.resources
 
 -- and the ends that are left belong to its entries
 pub record Going (o m : Parts) : Type 0 where

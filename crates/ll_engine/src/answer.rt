@@ -11,7 +11,6 @@ use ll_bank::{At, Bank, FormAt, OutOfMemory};
 use ll_copy::{Carrier, read_into};
 use ll_freeze::Machine;
 use ll_laws::{Branch, Step};
-use ll_resources::Context;
 use std::alloc::Global;
 use std::marker::Model;
 
@@ -28,7 +27,7 @@ pub fn answers(machine: &Machine<'_>) -> bool
     requires fits { Fits (parts_of machine.now) }
     ensures { result ≡ answers (state_of (parts_of machine.now)) }
 {
-    machine.context.flag() || !has_live(&machine.context)
+    machine.context.flag() || !machine.context.any_live()
 }
 
 /// What branches are made with. It is kept, so that many branches take memory for it once. Contracts see nothing of it.
@@ -110,16 +109,4 @@ fn clear(alloc: Global, bank: &mut Bank)
 {
     let nothing = Bank::new(alloc);
     bank.cut(nothing.size());
-}
-
-// Whether an entry is live.
-fn has_live(context: &Context<FormAt>) -> bool
-    ensures { result ≡ has_live context.now.present.entries }
-{
-    for i in 0..context.len() {
-        if context.entry(i).live {
-            return true;
-        }
-    }
-    false
 }

@@ -1,5 +1,5 @@
 //! The candidates for a goal.
-ghost use Rattle.std.specs.Prelude.{◌≡◌, ◌+◌, ◌^◌, ◌≤◌, ◌<◌, ◌++◌, [], Some, length, All, IfOk, OnOk, map, flat_map, take, drop};
+ghost use Rattle.std.specs.Prelude.{◌≡◌, ℕ, ◌+◌, ◌-◌, ◌^◌, ◌≤◌, ◌<◌, ◌++◌, [], Some, length, All, IfOk, OnOk, map, flat_map, take, drop, MatchResult};
 ghost use Rattle.ll_bank.specs.declared.Head.TheVariants.{Name};
 ghost use Rattle.ll_bank.specs.Nodes.{form_tree, HasForm};
 ghost use Rattle.ll_bank.specs.Term.{Term, head_of, arity};
@@ -14,12 +14,14 @@ ghost use Rattle.ll_freeze.specs.Parts.{parts_of};
 ghost use Rattle.ll_freeze.specs.Shown.{state_of};
 ghost use Rattle.ll_freeze.specs.Fits.{Fits};
 ghost use Rattle.ll_freeze.specs.Indexed.{IsIndexOf};
+ghost use Rattle.ll_freeze.specs.Keyed.{AreKeyed};
 ghost use Rattle.ll_engine.specs.Front.{HasAtom};
 ghost use Rattle.ll_engine.specs.Leaves.{heads, head_tries, open_tries, standing_entry};
 ghost use Rattle.ll_engine.specs.Matches.{matches, head_fits, HeadsHaveCells, all_found, shown_context};
 
 use crate::found::Found;
 use crate::heads::{Asked, asked_by, can_match, in_32_bits};
+use crate::keys::head_key;
 use ll_bank::{At, Bank, FormAt, FormNode, Head, OutOfMemory};
 use ll_freeze::{Item, Machine};
 use ll_index::Index;
@@ -30,7 +32,7 @@ use std::alloc::{AllocError, Global};
 
 /// The candidates for the goal in front that can match, in the order in which they are tried; none where no goal is in front.
 ///
-/// Those of loaded entries are found by a walk, those of the program's clauses by the index. A single one takes no memory.
+/// Those of loaded entries are found by their keys, those of the program's clauses by the index. A single one takes no memory.
 pub fn candidates(machine: &Machine<'_>, index: &Index, alloc: Global) -> Result<Found, OutOfMemory>
     requires fits { Fits (parts_of machine.now) }
     requires index { IsIndexOf machine.now.problem.now index.now }
@@ -71,40 +73,33 @@ fn atom_candidates(
     };
     let problem = machine.problem;
     let loaded = machine.context.len() - problem.clauses.len();
-    add_loaded(
-        alloc,
-        &machine.store,
-        &machine.context,
-        asked,
-        loaded,
-        &mut found,
-    )?;
+    add_loaded(alloc, &machine.store, &machine.context, asked, &mut found)?;
     if let Head::Name(name) = asked.predicate.head {
         add_program(machine, index, loaded, name, asked, &mut found)?;
     }
     Ok(found)
 }
 
-/// Adds the candidates among the first entries of a context.
+/// Adds the candidates among the loaded entries of a context.
 fn add_loaded(
     alloc: Global,
     store: &Store,
     context: &Context<FormAt>,
     asked: Asked,
-    count: usize,
     found: &mut Found,
 ) -> Result<(), OutOfMemory>
     requires table { IsTable store.now.bank (table_of store.now.cells.cells) }
-    requires count { count ≤ length context.now.present.entries }
     requires inside { All (λ e. HasForm store.now.bank e.clause.0) context.now.present.entries }
     requires cells { All (λ e. HeadsHaveCells store.now e.clause) context.now.present.entries }
-    ensures { OnOk result (all_found found.new ≡ all_found found.old
-        ++ flat_map (open_tries (head_fits store.now asked)) (map (standing_entry store.now.bank) (take count context.now.present.entries))) }
+    ensures { (count : ℕ) → AreKeyed store.now.bank count context.now.present → OnOk result (all_found found.new ≡ all_found found.old
+        ++ flat_map (open_tries (head_fits store.now asked))
+        (map (standing_entry store.now.bank) (take (length context.now.present.entries - count) context.now.present.entries))) }
 {
     let mut waiting = Vec::new(alloc);
-    for from_front in 0..count {
-        let entry = context.entry(from_front);
+    let mut keyed = context.keyed(head_key(asked.predicate.head));
+    while let Some((entry, older)) = context.next_keyed(keyed) {
         add_entry(store, asked, entry, &mut waiting, found)?;
+        keyed = older;
     }
     Ok(())
 }
@@ -222,7 +217,7 @@ fn add_program(
 
 /// The number after that of a leaf. No clause of a problem has so many leaves that there is none.
 fn next_leaf(leaf: u32) -> Result<u32, OutOfMemory>
-    ensures { IfOk result (λ next. next ≡ leaf + 1) }
+    ensures { MatchResult result (λ next. next ≡ leaf + 1) (λ _. 4294967295 ≤ leaf) }
 {
     match leaf.checked_add(1) {
         Some(next) => Ok(next),

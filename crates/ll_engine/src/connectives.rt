@@ -9,6 +9,7 @@ ghost use Rattle.ll_engine.specs.Attempts.{Attempts};
 ghost use Rattle.ll_engine.specs.Front.{IsFront};
 
 use crate::attempt::go_on;
+use crate::keys::key_of;
 use ll_agenda::Top;
 use ll_bank::{FormAt, FormNode, OutOfMemory};
 use ll_freeze::{Item, Machine};
@@ -132,7 +133,8 @@ pub fn take_lolli(
     ensures later { IfOk result (λ _. Later machine.old machine.new) }
 {
     let flag = machine.context.flag();
-    machine.context.load(Kind::Linear, clause)?;
+    let key = key_of(&machine.store.bank, clause);
+    machine.context.load_keyed(Kind::Linear, clause, key)?;
     let items = [Item::Goal(body), Item::LolliEnd(flag)];
     go_on(machine, &items, rest, Step::Plain)?;
     Ok(true)
@@ -151,7 +153,8 @@ pub fn take_imp(
     ensures attempts { (candidate : Candidate) → IfOk result (Attempts (parts_of machine.old) candidate (parts_of machine.new)) }
     ensures later { IfOk result (λ _. Later machine.old machine.new) }
 {
-    machine.context.load(Kind::Unbounded, clause)?;
+    let key = key_of(&machine.store.bank, clause);
+    machine.context.load_keyed(Kind::Unbounded, clause, key)?;
     go_on(
         machine,
         &[Item::Goal(body), Item::ImpEnd],

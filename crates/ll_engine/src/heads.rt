@@ -1,5 +1,5 @@
 //! Heads of clauses, and what an atom asks of them.
-ghost use Rattle.std.specs.Prelude.{◌≡◌, true, IfOk};
+ghost use Rattle.std.specs.Prelude.{◌≡◌, true, IfOk, MatchResult, ◌≤◌};
 ghost use Rattle.ll_bank.specs.Nodes.{term_tree, HasTerm};
 ghost use Rattle.ll_bank.specs.Term.{is_spine};
 ghost use Rattle.ll_bindings.specs.Bindings.{IsTable, IsPlaceOf};
@@ -142,9 +142,9 @@ fn clash(first: First, other: First) -> bool
     }
 }
 
-/// A number as 32 bits hold it. No term of a search has so many arguments that they don't.
+/// A number as 32 bits hold it, where they do. No term of a search has so many arguments that they don't.
 pub fn in_32_bits(number: usize) -> Result<u32, OutOfMemory>
-    ensures { IfOk result (λ same. same ≡ number) }
+    ensures { MatchResult result (λ same. same ≡ number) (λ _. 4294967296 ≤ number) }
 {
     match u32::try_from(number) {
         Ok(number) => Ok(number),

@@ -9,6 +9,7 @@ mod connectives;
 mod engine;
 mod found;
 mod heads;
+mod keys;
 mod numbers;
 mod open;
 mod quantifiers;

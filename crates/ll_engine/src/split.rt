@@ -10,11 +10,11 @@ ghost use Rattle.ll_engine.specs.Turned.{has_none};
 ghost use Rattle.ll_engine.specs.Splits.{TakesOldest};
 
 use crate::ancestor::Ancestor;
+use crate::heads::in_32_bits;
 use crate::spine::{Kept, Spine};
 use ll_bank::OutOfMemory;
 use ll_freeze::{Frozen, Machine};
 use ll_index::Index;
-use std::alloc::AllocError;
 use std::sync::Arc;
 
 // With how many batches one may share.
@@ -69,9 +69,7 @@ fn frozen<'p>(
     ensures { IfOk result (λ f. f ≡ sight_of (parts_at kept.mark machine.entry.now) (reverse kept.untried.items) false f.depth) }
 {
     let mut untried = kept.untried;
-    if u32::try_from(untried.len()).is_err() {
-        return Err(AllocError);
-    }
+    in_32_bits(untried.len())?;
     untried.reverse();
     if let Some(ancestor) = ancestor {
         if ancestor.batch.depth() < MOST_SHARED {

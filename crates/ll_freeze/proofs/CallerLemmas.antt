@@ -31,6 +31,27 @@ use Rattle.ll_freeze.specs.Shown.{shown_item, shown_entry, items_of, state_of}
 use Rattle.ll_freeze.specs.Fits.{Fits, HasItem, IsGoalIn, allowed, setting}
 use Rattle.ll_freeze.specs.Calls.{SameTerms}
 use Rattle.ll_freeze.specs.Resting.{RestsOn}
+use Rattle.ll_freeze.specs.Keyed.{AreKeyed}
+-- ---- the keys of entries
+
+-- with the same clauses and keys entries are still keyed
+pub use Rattle.ll_freeze.proofs.KeyLemmas.{keyed-alike}
+-- the clauses of entries
+pub use Rattle.ll_freeze.proofs.KeyLemmas.{clauses_of}
+-- other live marks leave the clauses
+pub use Rattle.ll_freeze.proofs.KeyLemmas.{clauses-remark}
+-- so does taking them away
+pub use Rattle.ll_freeze.proofs.KeyLemmas.{clauses-unlive}
+-- and picking
+pub use Rattle.ll_freeze.proofs.KeyLemmas.{clauses-picked}
+-- entries are keyed in a bank with more places too
+pub use Rattle.ll_freeze.proofs.KeyLemmas.{keyed-later}
+-- so they are with a clause that is loaded under its key
+pub use Rattle.ll_freeze.proofs.KeyLemmas.{keyed-loaded}
+-- and when the newest entry goes
+pub use Rattle.ll_freeze.proofs.KeyLemmas.{keyed-tail}
+-- and when all stay
+pub use Rattle.ll_freeze.proofs.KeyLemmas.{keyed-stay}
 -- ---- the program's entries, which a search leaves where they are
 
 -- a state that rests on a program has it
@@ -95,8 +116,8 @@ pub fits_kept : (m n : Parts) → SameTerms m n → Fits m → IsConsistent (set
     → All (λ e. HasForm m.bank e.clause.0) n.resources.entries
     → All (λ e. IsFormula (allowed m) ClauseSide [] (form_tree m.bank e.clause.0)) n.resources.entries
     → HasTop n.agenda n.top → All (HasItem m.bank (length n.resources.kept)) (items_of n) → All (IsGoalIn (allowed m) m.bank) (items_of n)
-    → n.resources.next + n.left ≤ 2 ^ 25 → n.eigens + n.left ≤ 2 ^ 20 → Fits n
-fits_kept m n s f h y x c d t i g l e =
+    → n.resources.next + n.left ≤ 2 ^ 25 → n.eigens + n.left ≤ 2 ^ 20 → AreKeyed m.bank (length m.problem.clauses) n.resources → Fits n
+fits_kept m n s f h y x c d t i g l e q =
     let a : allowed m ≡ allowed n = sym (same_allowed m n s x) in
     record {
       valid = rw s.problem f.valid;
@@ -116,6 +137,7 @@ fits_kept m n s f h y x c d t i g l e =
       items = rw s.bank i;
       labels = l;
       eigens = e;
+      keyed = rw (s.bank, s.problem) q;
     }
 
 -- more was kept

@@ -19,5 +19,5 @@ image_of m n s r i e l st f =
       left = l;
       fits = fits_kept m n s f (rw a f.consistent) (rw a f.rests) e (rw r f.clauses) (rw r f.sorted_clauses) i.inside (rw (r, i.list) f.items)
           (rw i.list f.sorted_goals) (rw (r, l) f.labels)
-          (rw (e, l) f.eigens);
+          (rw (e, l) f.eigens) (rw r f.keyed);
     }

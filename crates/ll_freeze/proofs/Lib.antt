@@ -5,3 +5,4 @@ mod Imaging
 mod Starting
 pub mod Freezing
 pub mod Going
+pub mod KeyLemmas

@@ -36,6 +36,7 @@ use Rattle.ll_freeze.specs.Fits.{HasItem, IsGoalIn, allowed, setting}
 use Rattle.ll_freeze.specs.Calls.{IsStart}
 use Rattle.ll_freeze.specs.Resting.{RestsOn}
 use Rattle.ll_freeze.proofs.Resting.{start_rests}
+use Rattle.ll_freeze.proofs.KeyLemmas.{keys-started}
 use Rattle.ll_freeze.proofs.CallerLemmas.{form_same, state_is, clauses_later, modules_later, modules_has, vars_more, trees_read}
 
 -- clauses as a context takes them
@@ -215,6 +216,10 @@ starts p m goal cs n v ep eg hg ec hc en eb el ex it left eigens inside vars es 
         items = rw it.list (All-cons (HasItem bank (length m.resources.kept)) (Goal goal) [] hg (All-nil (HasItem bank (length m.resources.kept))));
         labels = let c : length p.clauses ≤ 16777216 = v.clause_count in let b = v.bound in omega (arith, label, left, c, b);
         eigens = let b = v.bound in omega (arith, eigens, left, b);
+        keyed = rw r (record {
+          keys = sym (keys-started bank (length m.problem.clauses) 0 xs
+              (let w = ap (λ (q : ProblemTree). length q.clauses) ep in omega (arith, w, many)));
+        });
       };
     }
 

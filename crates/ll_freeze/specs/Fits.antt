@@ -15,6 +15,7 @@ use Rattle.ll_freeze.specs.declared.machine.Item.TheVariants.{Goal, LolliEnd, Im
 use Rattle.ll_freeze.specs.Reading.{HasValue}
 use Rattle.ll_freeze.specs.Shown.{items_of, state_of}
 use Rattle.ll_freeze.specs.Resting.{RestsOn}
+use Rattle.ll_freeze.specs.Keyed.{AreKeyed}
 
 -- what the search of a machine's problem looks at beside its state
 abbrev pub setting : Parts → Setting
@@ -61,6 +62,8 @@ pub record Fits (m : Parts) : Type 0 where
   -- clauses and goals are well sorted as they stand, whatever stands for their variables
   pub sorted_clauses : All (λ e. IsFormula (allowed m) ClauseSide [] (form_tree m.bank e.clause.0)) m.resources.entries
   pub sorted_goals : All (IsGoalIn (allowed m) m.bank) (items_of m)
+  -- clauses are found by their keys
+  pub keyed : AreKeyed m.bank (length m.problem.clauses) m.resources
   -- the modules are those of the problem, in the machine's bank
   pub has_modules : HasModules m.bank m.modules
   pub modules : map (module_tree m.bank) m.modules ≡ m.problem.modules

@@ -9,3 +9,4 @@ pub mod Frozen
 pub mod Onward
 pub mod Indexed
 pub mod Codes
+pub mod Keyed

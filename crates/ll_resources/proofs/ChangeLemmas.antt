@@ -5,8 +5,7 @@ use Rattle.std.proofs.Math.Nat.{le_trans}
 use Rattle.std.proofs.lemmas.Bool.{cases_lt}
 use Rattle.std.proofs.lemmas.List.{length-map, drop_all, drop_more, drop-append-le, take-append-drop, length-take-le, get_or-take, get_or_push}
 use Rattle.std.proofs.Math.Seq.{take-append_seam, drop-append_seam, take-length}
-use Rattle.std.specs.Prelude.{Option}
-use Rattle.std.specs.Vec.{vec_capacity}
+use Rattle.std.specs.Prelude.{Option, Some, reverse}
 use Rattle.ll_laws.specs.declared.Kind.{Kind}
 use Rattle.ll_laws.specs.Attempt.{is_linear}
 use Rattle.ll_resources.specs.declared.context.Saved.{Saved as Handle}
@@ -18,17 +17,24 @@ use Rattle.ll_resources.specs.declared.state.State.{State}
 use Rattle.ll_resources.specs.declared.state.Stored.{Stored}
 use Rattle.ll_resources.specs.Saves.{block_of, kept_marks}
 use Rattle.ll_resources.specs.Resources.{Resources, saved_at, KeepsSaved, Fits, after_save, after_with_mid}
-use Rattle.ll_resources.specs.Raw.{Raw, raw, shown, front, stored, raw_loaded, raw_picked, raw_closed, raw_kept, kept_now, raw_remarked, kept_under}
-use Rattle.ll_resources.specs.Raw.{block_later, IsSound, HasNoLess}
+use Rattle.ll_resources.specs.Raw.{Raw, raw, shown, front, chained, raw_loaded, raw_picked, raw_closed, raw_kept, kept_now}
+use Rattle.ll_resources.specs.Raw.{raw_remarked, kept_under, with_top, tops_under, top_of}
+use Rattle.ll_resources.specs.Raw.{block_later, with_skips}
+use Rattle.ll_resources.specs.Chains.{Room, room_of, IsSound, IsNoLess, HasNoLess}
 use Rattle.ll_resources.specs.History.{History, begun, HasMark, state_at, KeepsMarks, KeepsMarksTo}
 use Rattle.ll_resources.specs.Changes.{with_last, without_last, taken_back, before, states_before, history, AreSound, Leads}
-use Rattle.ll_resources.proofs.SeenLemmas.{front-push, front-last}
+use Rattle.ll_resources.proofs.SeenLemmas.{front-push, front-last, reverse-push, reverse-front}
+use Rattle.ll_resources.proofs.ChainLemmas.{top-back, top-restored, top-listed}
 use Rattle.ll_resources.proofs.KeptLemmas.{saved-cut}
-use Rattle.ll_resources.proofs.RawLemmas.{HasWithin, entries-count, shown-kept, shown-mid}
+use Rattle.ll_resources.proofs.RawLemmas.{HasWithin, IsWell, entries-count, shown-kept, shown-mid}
 
 -- a range of no marks
 pub none_kept : KeptRange
-none_kept = record { count = 0; from = 0; to = 0; flag = false }
+none_kept = record { count = 0; next = 0; from = 0; to = 0; flag = false; skips = false }
+
+-- room that is no less than room that is no less
+pub room-trans : {a b c : Room} → IsNoLess a b → IsNoLess b c → IsNoLess a c
+room-trans h k = record { entries = le_trans h.entries k.entries; live = le_trans h.live k.live; keys = le_trans h.keys k.keys }
 
 module _ {C : Type 0} where
   -- later changes are taken back first
@@ -85,98 +91,103 @@ module _ {C : Type 0} where
 
   -- room that is no less than room that is no less
   pub less-trans : (r s t : State C) → HasNoLess r s → HasNoLess s t → HasNoLess r t
-  less-trans r s t a b = record { entries = le_trans a.entries b.entries; live = le_trans a.live b.live }
+  less-trans r s t a b = room-trans a b
 
   -- ---- sound states
 
   -- with more room
-  pub sound-wider : (r : Raw C) (n m k l : ℕ) → n ≤ k → m ≤ l → IsSound n m r → IsSound k l r
-  sound-wider r n m k l a b s = record {
-    entries_fit = (let e = s.entries_fit in omega arith);
-    live_fit = (let e = s.live_fit in omega arith);
-    within =
-        s.within;
+  pub sound-wider : (r : Raw C) (a b : Room) → IsNoLess a b → IsSound a r → IsSound b r
+  sound-wider r a b h s = record {
+    entries_fit = (let e = s.entries_fit in let l = h.entries in omega arith);
+    live_fit = (let e = s.live_fit in let l = h.live in omega arith);
+    keys_fit = (λ key i e. let f = s.keys_fit key i e in let l = h.keys in omega arith);
+    within = s.within;
+    chained =
+        s.chained;
   }
 
   -- before the last change but those that were taken back already
-  pub sound-next : (cs : List (Change C)) (m n : ℕ) (x : Change C) (r s : Raw C) (i j k l : ℕ) → m < n → n ≤ length cs → x ≡ get_or cs (n - 1) x
-      → s ≡ before (drop n cs) r → i ≤ k → j ≤ l → AreSound cs r i j
-      → IsSound k l (taken_back x s)
-  sound-next cs m n x r s i j k l low w e h a b sound =
-      subst (λ t. IsSound k l t) (sym (back-next cs m n x r s low w e h)) (sound-wider (before (drop (n - 1) cs) r) i j k l a b (sound (n - 1)))
+  pub sound-next : (cs : List (Change C)) (m n : ℕ) (x : Change C) (r s : Raw C) (a b : Room) → m < n → n ≤ length cs → x ≡ get_or cs (n - 1) x
+      → s ≡ before (drop n cs) r → IsNoLess a b → AreSound cs r a
+      → IsSound b (taken_back x s)
+  sound-next cs m n x r s a b low w e h l sound =
+      subst (λ t. IsSound b t) (sym (back-next cs m n x r s low w e h)) (sound-wider (before (drop (n - 1) cs) r) a b l (sound (n - 1)))
+
+  -- after it
+  pub sound-there : (cs : List (Change C)) (n : ℕ) (r s : Raw C) (a b : Room) → s ≡ before (drop n cs) r → IsNoLess a b → AreSound cs r a → IsSound b s
+  sound-there cs n r s a b h l sound = subst (λ t. IsSound b t) (sym h) (sound-wider (before (drop n cs) r) a b l (sound n))
 
   -- with no change, for the state alone
-  pub sound-none : (r : Raw C) (n m : ℕ) → IsSound n m r → AreSound [] r n m
-  sound-none r n m s i = subst (λ ds. IsSound n m (before ds r)) (sym (let e : drop i [] ≡ [] = drop_all i [] (omega arith) in e)) s
+  pub sound-none : (r : Raw C) (a : Room) → IsSound a r → AreSound [] r a
+  sound-none r a s i = subst (λ ds. IsSound a (before ds r)) (sym (let e : drop i [] ≡ [] = drop_all i [] (omega arith) in e)) s
 
   -- the present one
-  pub sound-now : (cs : List (Change C)) (r : Raw C) (n m : ℕ) → AreSound cs r n m → IsSound n m r
-  sound-now cs r n m h = subst (λ ds. IsSound n m (before ds r)) (drop_all (length cs) cs (omega arith)) (h (length cs))
+  pub sound-now : (cs : List (Change C)) (r : Raw C) (a : Room) → AreSound cs r a → IsSound a r
+  sound-now cs r a h = subst (λ ds. IsSound a (before ds r)) (drop_all (length cs) cs (omega arith)) (h (length cs))
 
   -- in more room
-  pub sound-alike : (cs ds : List (Change C)) (r s : Raw C) (n m k l : ℕ) → ds ≡ cs → s ≡ r → n ≤ k → m ≤ l → AreSound cs r n m → AreSound ds s k l
-  sound-alike cs ds r s n m k l e f a b h i = rw (e, f) (sound-wider (before (drop i cs) r) n m k l a b (h i))
+  pub sound-alike : (cs ds : List (Change C)) (r s : Raw C) (a b : Room) → ds ≡ cs → s ≡ r → IsNoLess a b → AreSound cs r a → AreSound ds s b
+  sound-alike cs ds r s a b e f l h i = rw (e, f) (sound-wider (before (drop i cs) r) a b l (h i))
 
   -- in the same room
-  pub sound-same : (cs ds : List (Change C)) (r : Raw C) (n m : ℕ) → ds ≡ cs → AreSound cs r n m → AreSound ds r n m
-  sound-same cs ds r n m e h = subst (λ xs. AreSound xs r n m) (sym e) h
+  pub sound-same : (cs ds : List (Change C)) (r : Raw C) (a : Room) → ds ≡ cs → AreSound cs r a → AreSound ds r a
+  sound-same cs ds r a e h = subst (λ xs. AreSound xs r a) (sym e) h
 
   -- after a change
-  sound-more : (cs ds : List (Change C)) (c : Change C) (r s : Raw C) (n m k l : ℕ) → ds ≡ cs ++ c ∷ [] → taken_back c s ≡ r → n ≤ k → m ≤ l → IsSound k l s
-      → AreSound cs r n m → AreSound ds s k l
-  sound-more cs ds c r s n m k l e f a b now h i = rw e (elim (cases_lt (length cs) i) [
+  sound-more : (cs ds : List (Change C)) (c : Change C) (r s : Raw C) (a b : Room) → ds ≡ cs ++ c ∷ [] → taken_back c s ≡ r → IsNoLess a b → IsSound b s
+      → AreSound cs r a → AreSound ds s b
+  sound-more cs ds c r s a b e f w now h i = rw e (elim (cases_lt (length cs) i) [
     | inl more ↦
         let n = length-append cs (c ∷ []) in
         let all : drop i (cs ++ c ∷ []) ≡ [] = drop_all i (cs ++ c ∷ []) (omega arith) in
-        subst (λ ds. IsSound k l (before ds s)) (sym all) now
+        subst (λ ds. IsSound b (before ds s)) (sym all) now
     | inr within ↦
         let same : before (drop i (cs ++ c ∷ [])) s ≡ before (drop i cs) r =
         ap (λ ds. before ds s) (drop-append-le i cs (c ∷ []) within) ∙ (before-append (drop i cs) (c ∷ []) s ∙ ap (before (drop i cs)) f) in
-        subst (λ (t : Raw C). IsSound k l t) (sym same) (sound-wider (before (drop i cs) r) n m k l a b (h i))
+        subst (λ (t : Raw C). IsSound b t) (sym same) (sound-wider (before (drop i cs) r) a b w (h i))
   ])
 
   -- where the last changes are taken back
-  pub sound-take : (j : ℕ) (cs ds : List (Change C)) (r s : Raw C) (n m k l : ℕ) → j ≤ length cs → ds ≡ take j cs → s ≡ before (drop j cs) r → n ≤ k → m ≤ l
-      → AreSound cs r n m
-      → AreSound ds s k l
-  sound-take j cs ds r s n m k l i0 e f a b h i = rw (e, f) (elim (cases_lt j i) [
+  pub sound-take : (j : ℕ) (cs ds : List (Change C)) (r s : Raw C) (a b : Room) → j ≤ length cs → ds ≡ take j cs → s ≡ before (drop j cs) r → IsNoLess a b
+      → AreSound cs r a
+      → AreSound ds s b
+  sound-take j cs ds r s a b i0 e f w h i = rw (e, f) (elim (cases_lt j i) [
     | inl more ↦
         let t = length-take-le j cs i0 in
         let all : drop i (take j cs) ≡ [] = drop_all i (take j cs) (omega arith) in
-        subst (λ ds. IsSound k l (before ds (before (drop j cs) r))) (sym all) (sound-wider (before (drop j cs) r) n m k l a b (h j))
+        subst (λ ds. IsSound b (before ds (before (drop j cs) r))) (sym all) (sound-wider (before (drop j cs) r) a b w (h j))
     | inr within ↦
         let t = length-take-le j cs i0 in
         let same : before (drop i (take j cs)) (before (drop j cs) r) ≡ before (drop i cs) r =
         sym (before-append (drop i (take j cs)) (drop j cs) r)
         ∙ ap (λ ds. before ds r) (sym (drop-append-le i (take j cs) (drop j cs) (omega arith)) ∙ ap (drop i) (take-append-drop j cs)) in
-        subst (λ (t : Raw C). IsSound k l t) (sym same) (sound-wider (before (drop i cs) r) n m k l a b (h i))
+        subst (λ (t : Raw C). IsSound b t) (sym same) (sound-wider (before (drop i cs) r) a b w (h i))
   ])
 
-  -- a state whose ranges lie among its marks is sound as it lies
-  pub sound-state : (s : State C) → HasWithin (raw s) → IsSound (vec_capacity s.entries) (vec_capacity s.live) (raw s)
+  -- a state whose ranges lie among its marks and whose chains are sound is sound as it lies
+  pub sound-state : (s : State C) → IsWell (raw s) → IsSound (room_of s) (raw s)
   sound-state s w = record {
     entries_fit = omega (arith, s.entries.ok.0, s.entries.ok.1);
     live_fit = omega (arith, s.live.ok.0, s.live.ok.1);
-    within = w;
+    keys_fit = λ key i e. top-listed s.tops.items key i (w.chained.tops key i e);
+    within = w.within;
+    chained = w.chained;
   }
 
   -- all stay sound when a change is noted
-  pub sound-noted : (cs bs ds : List (Change C)) (c : Change C) (old new : State C) → bs ≡ cs → ds ≡ bs ++ c ∷ [] → Leads c old new → HasWithin (raw new)
-      → AreSound cs (raw old) (vec_capacity old.entries) (vec_capacity old.live) → AreSound ds (raw new) (vec_capacity new.entries) (vec_capacity new.live)
+  pub sound-noted : (cs bs ds : List (Change C)) (c : Change C) (old new : State C) → bs ≡ cs → ds ≡ bs ++ c ∷ [] → Leads c old new → IsWell (raw new)
+      → AreSound cs (raw old) (room_of old) → AreSound ds (raw new) (room_of new)
   sound-noted cs bs ds c old new f e l w h =
-      sound-more cs ds c (raw old) (raw new) (vec_capacity old.entries) (vec_capacity old.live) (vec_capacity new.entries) (vec_capacity new.live)
-      (e ∙ ap (λ xs. xs ++ c ∷ []) f) l.back l.room.entries l.room.live (sound-state new w) h
+      sound-more cs ds c (raw old) (raw new) (room_of old) (room_of new) (e ∙ ap (λ xs. xs ++ c ∷ []) f) l.back l.room (sound-state new w) h
 
   -- a state to which changes are taken back in a copy, alone
   pub sound-alone : (j : ℕ) (cs ds : List (Change C)) (old copy new : State C) → ds ≡ [] → raw new ≡ before (drop j cs) (raw old)
       → HasNoLess old copy → HasNoLess copy new
-      → AreSound cs (raw old) (vec_capacity old.entries) (vec_capacity old.live) → AreSound ds (raw new) (vec_capacity new.entries) (vec_capacity new.live)
+      → AreSound cs (raw old) (room_of old) → AreSound ds (raw new) (room_of new)
   sound-alone j cs ds old copy new e f a b h =
-      sound-same [] ds (raw new) (vec_capacity new.entries) (vec_capacity new.live) e
-      (sound-none (raw new) (vec_capacity new.entries) (vec_capacity new.live)
-      (subst (λ (t : Raw C). IsSound (vec_capacity new.entries) (vec_capacity new.live) t) (sym f)
-      (sound-wider (before (drop j cs) (raw old)) (vec_capacity old.entries) (vec_capacity old.live) (vec_capacity new.entries) (vec_capacity new.live)
-      (le_trans a.entries b.entries) (le_trans a.live b.live) (h j))))
+      sound-same [] ds (raw new) (room_of new) e
+      (sound-none (raw new) (room_of new)
+      (sound-there cs j (raw old) (raw new) (room_of old) (room_of new) f (room-trans a b) h))
 
   -- what a copy is taken back to
   pub back-copied : (j : ℕ) (cs ds : List (Change C)) (r s t : Raw C) → ds ≡ cs → s ≡ r → t ≡ before (drop j ds) s → t ≡ before (drop j cs) r
@@ -184,10 +195,15 @@ module _ {C : Type 0} where
 
   -- ---- what each change is taken back to
 
-  pub back-loaded : (kind : Kind) (clause : C) (r : Raw C) → taken_back (Loaded r.next r.flag) (raw_loaded kind clause r) ≡ r
-  back-loaded kind clause r =
-      ap (λ es. let s : Raw C = record r { entries = es; live = front (r.live ++ is_linear kind ∷ []) } in s) (front-push r.entries (stored r.next kind clause))
-      ∙ ap (λ bs. let s : Raw C = record r { live = bs } in s) (front-push r.live (is_linear kind))
+  pub back-loaded : (kind : Kind) (clause : C) (key at : ℕ) (r : Raw C) → taken_back (Loaded r.next r.flag) (raw_loaded kind clause key at r) ≡ r
+  back-loaded kind clause key at r =
+      let e : Stored C = chained r.next kind clause key at (r.tops key) in
+      let over : ℕ → ℕ = with_top (Some key) (suc (length r.entries)) r.tops in
+      let by : List (Stored C) → List (Stored C) → List Bool → Raw C = λ es ss bs. record r { entries = es; tops = tops_under ss over; live = bs } in
+      ap (λ es. by es (reverse (r.entries ++ e ∷ [])) (front (r.live ++ is_linear kind ∷ []))) (front-push r.entries e)
+      ∙ (ap (λ ss. by r.entries ss (front (r.live ++ is_linear kind ∷ []))) (reverse-push r.entries e)
+      ∙ (ap (λ bs. by r.entries (e ∷ reverse r.entries) bs) (front-push r.live (is_linear kind))
+      ∙ (λ i. record r { tops = λ k. top-back r.tops key (suc (length r.entries)) k i })))
 
   pub back-picked : (at : ℕ) (live : Bool) (r : Raw C) → (at < length r.live → live ≡ get_or r.live at false)
       → taken_back (Picked at live) (raw_picked at r) ≡ r
@@ -198,15 +214,23 @@ module _ {C : Type 0} where
       same (x ∷ xs) zero v h = ap (λ y. y ∷ xs) (h (omega arith))
       same (x ∷ xs) (suc i) v h = ap (λ ys. x ∷ ys) (same xs i v (λ l. h (omega (arith, l))))
 
-  pub back-closed : (e : Stored C) (live : Option Bool) (flag : Bool) (r : Raw C) → 0 < length r.entries → e ≡ get_or r.entries (length r.entries - 1) e
-      → with_last (front r.live) live ≡ r.live
-      → taken_back (Closed e live r.flag) (raw_closed flag r) ≡ r
-  back-closed e live flag r l h m =
-      ap (λ x. let s : Raw C = record r { entries = front r.entries ++ x ∷ []; live = with_last (front r.live) live } in s) h
-      ∙ (ap (λ es. let s : Raw C = record r { entries = es; live = with_last (front r.live) live } in s) (front-last r.entries e l)
-      ∙ ap (λ bs. let s : Raw C = record r { live = bs } in s) m)
+  pub back-closed : (e : Stored C) (live : Option Bool) (flag : Bool) (top : ℕ) (r : Raw C) → 0 < length r.entries
+      → e ≡ get_or r.entries (length r.entries - 1) e → with_last (front r.live) live ≡ r.live → top ≡ top_of e.key r.tops
+      → taken_back (Closed e live r.flag top) (raw_closed flag r) ≡ r
+  back-closed e live flag top r l h m t =
+      let last : Stored C = get_or r.entries (length r.entries - 1) e in
+      let by : List (Stored C) → List (Stored C) → ℕ → List Bool → Raw C =
+      λ es ss n bs. record r { entries = es; tops = with_top e.key n (tops_under ss r.tops); live = bs } in
+      let first : reverse r.entries ≡ e ∷ reverse (front r.entries) =
+      reverse-front r.entries e l ∙ ap (λ x. x ∷ reverse (front r.entries)) (sym h) in
+      ap (λ x. by (front r.entries ++ x ∷ []) (reverse r.entries) top (with_last (front r.live) live)) h
+      ∙ (ap (λ es. by es (reverse r.entries) top (with_last (front r.live) live)) (front-last r.entries e l)
+      ∙ (ap (λ ss. by r.entries ss top (with_last (front r.live) live)) first
+      ∙ (ap (λ n. by r.entries (e ∷ reverse (front r.entries)) n (with_last (front r.live) live)) t
+      ∙ (ap (λ bs. by r.entries (e ∷ reverse (front r.entries)) (top_of e.key r.tops) bs) m
+      ∙ (λ i. record r { tops = λ k. top-restored r.tops e.key e.under k i })))))
 
-  pub back-remarked : (live : List Bool) (flag : Bool) (r : Raw C) → taken_back (Remarked (length r.marks) r.flag) (raw_remarked live flag r) ≡ r
+  pub back-remarked : (live : List Bool) (flag : Bool) (r : Raw C) → taken_back (Remarked (length r.marks) r.flag r.skips) (raw_remarked live flag r) ≡ r
   back-remarked live flag r =
       ap (λ bs. let s : Raw C = record r { live = bs; marks = take (length r.marks) (r.marks ++ r.live) } in s) (drop-append_seam r.marks r.live)
       ∙ ap (λ ms. let s : Raw C = record r { marks = ms } in s) (take-append_seam r.marks r.live)
@@ -222,6 +246,7 @@ module _ {C : Type 0} where
       let by : KeptRange → List KeptRange → Raw C = λ k ks. record r {
         live = block_of (r.marks ++ r.live) k;
         flag = k.flag;
+        skips = k.skips;
         marks =
             take k.from (r.marks ++ r.live);
         kept = ks;
@@ -320,11 +345,11 @@ module _ {C : Type 0} where
 
   kept-back : (c : Change C) (r : Raw C) → HasWithin (taken_back c r) → KeptWithin r (taken_back c r)
   kept-back (Loaded label flag) r w h l = (l, refl)
-  kept-back (Closed e live flag) r w h l = (l, refl)
+  kept-back (Closed e live flag top) r w h l = (l, refl)
   kept-back (Picked at live) r w h l = (l, refl)
   kept-back (Erased flag) r w h l = (l, refl)
   kept-back Kept r w h l = kept-last (length r.kept) r refl w h l
-  kept-back (Remarked from flag) r w h l = (l, saved-cut r.marks from r.kept r.kept h none_kept l l refl w)
+  kept-back (Remarked from flag skips) r w h l = (l, saved-cut r.marks from r.kept r.kept h none_kept l l refl w)
 
   kept-before : (cs : List (Change C)) (r : Raw C) → ((i : ℕ) → HasWithin (before (drop i cs) r)) → KeptWithin r (before cs r)
   kept-before [] r w h l = (l, refl)
@@ -339,10 +364,10 @@ module _ {C : Type 0} where
   drop-drop i (suc j) (c ∷ cs) = drop-drop i j cs ∙ ap (λ n. drop n (c ∷ cs)) (let e : suc (j + i) ≡ suc j + i = omega arith in e)
 
   -- what was kept at a mark means the same in the state at it
-  pub saved-marked : (cs : List (Change C)) (r s : Raw C) (n m : ℕ) (h : History C) (mark : ContextMark) → history cs r ≡ h
-      → s ≡ before (drop mark.changes cs) r → AreSound cs r n m
+  pub saved-marked : (cs : List (Change C)) (r s : Raw C) (a : Room) (h : History C) (mark : ContextMark) → history cs r ≡ h
+      → s ≡ before (drop mark.changes cs) r → AreSound cs r a
       → KeepsSaved (length (state_at mark h).kept) h.present (shown s)
-  saved-marked cs r s n m h mark v e sound k l =
+  saved-marked cs r s a h mark v e sound k l =
       let t = before (drop mark.changes cs) r in
       let inside : k.number < length (shown t).kept = subst (λ (x : Resources C). k.number < length x.kept) (state-marked cs r h mark v) l in
       let count = length-map t.kept (kept_marks t.marks) in
@@ -351,12 +376,19 @@ module _ {C : Type 0} where
       ap (λ (x : Raw C). saved_at (shown x).kept k) e
       ∙ ((kept-before (drop mark.changes cs) r within k (omega (arith, count, inside))).1 ∙ ap (λ (q : History C). saved_at q.present.kept k) v)
 
-  -- ranges of a context's own state lie among its marks
-  pub within-now : (cs : List (Change C)) (s : State C) → AreSound cs (raw s) (vec_capacity s.entries) (vec_capacity s.live) → HasWithin (raw s)
-  within-now cs s h = let n = sound-now cs (raw s) (vec_capacity s.entries) (vec_capacity s.live) h in n.within
+  -- a context's own state
+  pub sound-own : (cs : List (Change C)) (s : State C) → AreSound cs (raw s) (room_of s) → IsSound (room_of s) (raw s)
+  sound-own cs s h = sound-now cs (raw s) (room_of s) h
 
-  pub within-along : (r s : Raw C) → s ≡ r → HasWithin r → HasWithin s
-  within-along r s e w = subst (λ (t : Raw C). HasWithin t) (sym e) w
+  pub well-now : (cs : List (Change C)) (s : State C) → AreSound cs (raw s) (room_of s) → IsWell (raw s)
+  well-now cs s h = let n = sound-own cs s h in record { within = n.within; chained = n.chained }
+
+  -- its ranges lie among its marks
+  pub within-now : (cs : List (Change C)) (s : State C) → AreSound cs (raw s) (room_of s) → HasWithin (raw s)
+  within-now cs s h = let n = sound-own cs s h in n.within
+
+  pub well-along : (r s : Raw C) → s ≡ r → IsWell r → IsWell s
+  well-along r s e w = subst (λ (t : Raw C). IsWell t) (sym e) w
 
   -- there is an entry to be let go
   pub entry-there : (cs : List (Change C)) (r : Raw C) (h : History C) → history cs r ≡ h → 0 < length h.present.entries → 0 < length r.entries
@@ -373,6 +405,6 @@ module _ {C : Type 0} where
   seen-saved cs r s h v w e = ap (λ (t : Raw C). shown t) e ∙ (shown-kept r.live r w ∙ ap (λ (k : History C). after_save k.present) v)
 
   pub seen-mid : (saved : Handle) (cs : List (Change C)) (r s : Raw C) (h : History C) → history cs r ≡ h → HasWithin r → Fits saved h.present
-      → s ≡ raw_kept (block_later saved.number r) r → shown s ≡ after_with_mid saved h.present
+      → s ≡ with_skips saved.number r (raw_kept (block_later saved.number r) r) → shown s ≡ after_with_mid saved h.present
   seen-mid saved cs r s h v w f e = ap (λ (t : Raw C). shown t) e
       ∙ (shown-mid saved r w (subst (λ (k : History C). Fits saved k.present) (sym v) f) ∙ ap (λ (k : History C). after_with_mid saved k.present) v)

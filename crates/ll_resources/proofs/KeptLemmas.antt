@@ -35,7 +35,7 @@ kept-behind ms xs (k ∷ ks) h =
     let f = kept-behind ms xs ks (All-tail (IsWithin ms) k ks h) in cc
 
 -- the block of marks behind others
-block-new : (ms xs : List Bool) (k : Kept) → k.from ≡ length ms → k.to ≡ length ms + length xs → block_of (ms ++ xs) k ≡ xs
+pub block-new : (ms xs : List Bool) (k : Kept) → k.from ≡ length ms → k.to ≡ length ms + length xs → block_of (ms ++ xs) k ≡ xs
 block-new ms xs k f t = ap (take (k.to - k.from)) (drop_at ms xs k.from (sym f)) ∙ take_all (k.to - k.from) xs (omega (arith, f, t))
 
 -- what is kept once such marks are kept

@@ -9,3 +9,5 @@ pub mod HistoryLemmas
 pub mod CallerLemmas
 pub mod PlaceLemmas
 pub mod RoomLemmas
+pub mod ChainLemmas
+pub mod ListingLemmas

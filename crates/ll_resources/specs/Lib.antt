@@ -6,3 +6,5 @@ pub mod Changes
 pub mod Seen
 pub mod Ends
 pub mod Places
+pub mod Keys
+pub mod Chains

@@ -1,6 +1,7 @@
 -- A context as contracts see it, and what each of its calls makes of it.
 -- Leftovers are handed on lazily, after the input and output contexts of Hodas and Miller 1994.
-use Rattle.std.specs.Prelude.{ℕ, suc, Bool, true, false, ◌≡◌, ◌<◌, List, [], ◌∷◌, ◌++◌, length, map, slice_index_or, Option, Some, if◌then◌else◌, option_map}
+use Rattle.std.specs.Prelude.{ℕ, suc, ◌-◌, Bool, true, false, ◌≡◌, ◌<◌, List, [], ◌∷◌, ◌++◌, length, map, drop, slice_index_or, Option, Some, None}
+use Rattle.std.specs.Prelude.{if◌then◌else◌, option_map}
 use Rattle.ll_laws.specs.declared.Kind.{Kind}
 use Rattle.ll_laws.specs.Settle.{Entry, Saved, Item, Goal, WithMiddle, LolliEnd, ImpEnd, WithEnd, BangEnd, Front, marks, remark, unlive, settle_front}
 use Rattle.ll_resources.specs.declared.context.Saved.{Saved as Handle}
@@ -16,6 +17,8 @@ pub record Resources (C : Type 0) : Type 0 where
   pub next : ℕ
   -- the live marks and flags that were kept so far, by their numbers
   pub kept : List Saved
+  -- the key under which each entry was loaded; those of the start have none
+  pub keys : List (Option ℕ)
 
 -- the live marks and the flag that a context has
 abbrev pub saved_now : {C : Type 0} → Resources C → Saved
@@ -40,12 +43,21 @@ entries_from n (c ∷ cs) = new_entry n c.0 c.1 ∷ entries_from (suc n) cs
 
 -- the context in which a search over these clauses starts
 abbrev pub started : {C : Type 0} → List (Kind × C) → Resources C
-started cs = record { entries = entries_from 0 cs; flag = false; next = length cs; kept = [] }
+started cs = record { entries = entries_from 0 cs; flag = false; next = length cs; kept = []; keys = map (λ _. None) cs }
 
--- a context with a clause loaded in front under the next label; a linear one clears the flag
+-- a context with a clause loaded in front under the next label and this key; a linear one clears the flag
+abbrev pub after_load_keyed : {C : Type 0} → Kind → C → ℕ → Resources C → Resources C
+after_load_keyed kind clause key r =
+    record r {
+      entries = new_entry r.next kind clause ∷ r.entries;
+      flag = if is_linear kind then false else r.flag;
+      next = suc r.next;
+      keys = Some key ∷ r.keys;
+    }
+
+-- a clause that is loaded without a key has the key 0
 abbrev pub after_load : {C : Type 0} → Kind → C → Resources C → Resources C
-after_load kind clause r =
-    record r { entries = new_entry r.next kind clause ∷ r.entries; flag = if is_linear kind then false else r.flag; next = suc r.next }
+after_load kind clause r = after_load_keyed kind clause 0 r
 
 -- a context in which the entry with this label has lost its live mark
 abbrev pub after_pick : {C : Type 0} → ℕ → Resources C → Resources C
@@ -83,9 +95,9 @@ after_with_mid saved r = record (after_save r) { entries = remark r.entries (sav
 abbrev pub End : Type 0
 End = Item (Unit {0})
 
--- a context with the entries and the flag that settling gave
+-- a context with the entries and the flag that settling gave. Those that are there still have their keys.
 abbrev pub with_front : {C : Type 0} → Resources C → Front (Unit {0}) C → Resources C
-with_front r f = record r { entries = f.context; flag = f.flag }
+with_front r f = record r { entries = f.context; flag = f.flag; keys = drop (length r.entries - length f.context) r.keys }
 
 -- the context after an end is worked off, or none where settling fails
 abbrev pub settled : {C : Type 0} → End → Resources C → Option (Resources C)

@@ -1,12 +1,16 @@
 //! Contexts, and what each call makes of one.
-ghost use Rattle.std.specs.Prelude.{◌≡◌, ◌<◌, ◌≤◌, ◌^◌, Some, length, slice_get, IfOk, OnOk, OnErr};
+ghost use Rattle.std.specs.Prelude.{◌≡◌, ◌<◌, ◌≤◌, ◌^◌, ◌↔◌, [], ◌∷◌, IsNone, IfSome, Some, length, slice_get, IfOk, OnOk, OnErr};
 ghost use Rattle.ll_resources.specs.Resources.{saved_as, saved_at, saved_now, KeepsSaved, SettlesMiddle, started, after_load, CanPick, after_pick};
+ghost use Rattle.ll_resources.specs.Resources.{after_load_keyed};
 ghost use Rattle.ll_resources.specs.Resources.{after_erase, load_end, after_save, after_bang, Fits, settled, bang_end, after_with_mid, with_end};
 ghost use Rattle.ll_resources.specs.History.{begun, HasMark, state_at, KeepsMarks, KeepsMarksTo, IsLastMark, Settles};
 ghost use Rattle.ll_resources.specs.Places.{label_place};
 ghost use Rattle.ll_resources.specs.Seen.{resource};
+ghost use Rattle.ll_resources.specs.Keys.{found_by, to_come};
+ghost use Rattle.ll_laws.specs.Settle.{has_live};
 
 use crate::Entry;
+use crate::keyed::Keyed;
 use crate::state::{Change, State, place_of};
 use ll_bank::OutOfMemory;
 use ll_laws::Kind;
@@ -40,13 +44,13 @@ impl<C: Copy> Model for Context<C> {
 
     ghost Value = { History C };
 
-    ghost use Rattle.std.specs.Vec.{vec_capacity};
     ghost use Rattle.ll_resources.specs.Raw.{raw};
+    ghost use Rattle.ll_resources.specs.Chains.{room_of};
     ghost use Rattle.ll_resources.specs.Changes.{history, AreSound};
 
     ghost view = { λ a. history a.changes.items (raw a.state) };
 
-    ghost invariant = { λ a. AreSound a.changes.items (raw a.state) (vec_capacity a.state.entries) (vec_capacity a.state.live) };
+    ghost invariant = { λ a. AreSound a.changes.items (raw a.state) (room_of a.state) };
 }
 
 /// The live marks and the flag that a context has kept. Contracts see their place among all that it has kept.
@@ -104,11 +108,46 @@ impl<C: Copy> Context<C> {
         ensures marks { KeepsMarks self.old self.new }
         ensures refused { OnErr result (self.new ≡ self.old) }
     {
+        self.load_keyed(kind, clause, 0)
+    }
+
+    /// Loads a clause in front, as `load` does, under a key. Under key 0 it is found by all keys.
+    pub fn load_keyed(&mut self, kind: Kind, clause: C, key: u32) -> Result<u32, OutOfMemory>
+        requires { self.old.present.next < 2 ^ 32 }
+        ensures label { IfOk result (λ label. label ≡ self.old.present.next) }
+        ensures loaded { OnOk result (self.new.present ≡ after_load_keyed kind clause key self.old.present) }
+        ensures marks { KeepsMarks self.old self.new }
+        ensures refused { OnErr result (self.new ≡ self.old) }
+    {
         self.changes.reserve(1)?;
         let label = self.state.next as u32;
-        let change = self.state.load(kind, clause)?;
+        let change = self.state.load(kind, clause, key)?;
         self.changes.push_reserved(change);
         Ok(label)
+    }
+
+    /// The open entries that were loaded under a key or under key 0, the newest first.
+    ///
+    /// Entries that were spent when a newer one of their key was loaded are passed together with it.
+    pub fn keyed(&self, key: u32) -> Keyed
+        ensures { to_come result self.now.present ≡ found_by key self.now.present }
+    {
+        self.state.keyed(key)
+    }
+
+    /// The first of these entries, and those behind it. `None` exactly where none is left.
+    pub fn next_keyed(&self, keyed: Keyed) -> Option<(Entry<C>, Keyed)>
+        ensures none { IsNone result ↔ (to_come keyed self.now.present ≡ []) }
+        ensures some { IfSome result (λ next. to_come keyed self.now.present ≡ resource next.0 ∷ to_come next.1 self.now.present) }
+    {
+        self.state.next_keyed(keyed)
+    }
+
+    /// Whether an entry is live.
+    pub fn any_live(&self) -> bool
+        ensures { result ≡ has_live self.now.present.entries }
+    {
+        self.state.any_live()
     }
 
     /// Uses the entry with this label, which is unbounded or live: a linear one loses its live mark.

@@ -8,12 +8,15 @@
 
 mod context;
 mod ends;
+mod keyed;
 mod marks;
 mod saves;
 mod state;
+mod tops;
 
 pub use context::{Context, ContextMark, Saved};
 pub use ends::settling_ends;
+pub use keyed::Keyed;
 use ll_bank::OutOfMemory;
 use ll_laws::Kind;
 

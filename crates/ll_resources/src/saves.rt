@@ -11,9 +11,19 @@ use std::alloc::Global;
 pub(crate) struct Kept {
     /// The number of entries at that time.
     count: usize,
+    /// The label of the next entry at that time.
+    next: usize,
     from: usize,
     to: usize,
     flag: bool,
+    skips: bool,
+}
+
+/// The number of entries at a time, and the label of the next one.
+#[derive(Clone, Copy)]
+pub(crate) struct Moment {
+    pub(crate) count: usize,
+    pub(crate) next: usize,
 }
 
 /// What a context has kept. It changes at its end alone, so a number means the same as long as it is there.
@@ -55,16 +65,24 @@ impl Saves {
         Ok(from)
     }
 
-    /// Keeps marks of so many entries and a flag.
+    /// Keeps the marks of the entries of a time, and both flags.
     pub(crate) fn keep(
         &mut self,
-        count: usize,
+        moment: Moment,
         live: &[bool],
         flag: bool,
+        skips: bool,
     ) -> Result<(), OutOfMemory>
         ensures marks { OnOk result (self.new.marks.items ≡ self.old.marks.items ++ live.now) }
         ensures kept { OnOk result (let from = length self.old.marks.items in
-            self.new.kept.items ≡ self.old.kept.items ++ record { count = count; from = from; to = from + length live.now; flag = flag } ∷ []) }
+            self.new.kept.items ≡ self.old.kept.items ++ record {
+              count = moment.count;
+              next = moment.next;
+              from = from;
+              to = from + length live.now;
+              flag = flag;
+              skips = skips;
+            } ∷ []) }
         ensures same_marks { OnErr result (self.new.marks.items ≡ self.old.marks.items) }
         ensures same_kept { OnErr result (self.new.kept.items ≡ self.old.kept.items) }
     {
@@ -73,12 +91,35 @@ impl Saves {
         self.marks.extend_from_slice(live)?;
         let to = self.marks.len();
         self.kept.push_reserved(Kept {
-            count,
+            count: moment.count,
+            next: moment.next,
             from,
             to,
             flag,
+            skips,
         });
         Ok(())
+    }
+
+    /// When marks were kept under this number.
+    pub(crate) fn moment(&self, number: usize) -> Moment
+        requires { number < length self.now.kept.items }
+        ensures count { (d : Kept) → result.count ≡ (slice_index_or self.now.kept.items number d).count }
+        ensures next { (d : Kept) → result.next ≡ (slice_index_or self.now.kept.items number d).next }
+    {
+        let kept = self.kept[number];
+        Moment {
+            count: kept.count,
+            next: kept.next,
+        }
+    }
+
+    /// Whether entries were skipped when marks were kept under this number.
+    pub(crate) fn skips(&self, number: usize) -> bool
+        requires { number < length self.now.kept.items }
+        ensures { (d : Kept) → result ≡ (slice_index_or self.now.kept.items number d).skips }
+    {
+        self.kept[number].skips
     }
 
     /// The live marks that were kept under this number, the oldest first.

@@ -1,16 +1,21 @@
 //! A context as it stands, and its changes, each with what takes it back.
-ghost use Rattle.std.specs.Prelude.{◌≡◌, ◌<◌, ◌≤◌, ◌^◌, true, [], length, drop, reverse, IfOk, IfSome, OnOk, OnErr, IsNone, is_some, Some, slice_get};
-ghost use Rattle.std.specs.Vec.{vec_capacity};
+ghost use Rattle.std.specs.Prelude.{◌≡◌, ◌<◌, ◌≤◌, ◌^◌, ◌↔◌, ◌∷◌, true, [], length, drop, reverse, IfOk, IfSome, OnOk, OnErr, IsNone, is_some, Some, slice_get};
+ghost use Rattle.std.specs.Prelude.{if◌then◌else◌};
 ghost use Rattle.ll_laws.specs.Attempt.{is_linear};
+ghost use Rattle.ll_laws.specs.Settle.{has_live};
 ghost use Rattle.ll_resources.specs.Resources.{started};
 ghost use Rattle.ll_resources.specs.Seen.{resource};
-ghost use Rattle.ll_resources.specs.Raw.{raw, shown, raw_loaded, mark_slot, raw_picked, end_fails, Closes, raw_kept, raw_remarked, kept_under, block_later};
-ghost use Rattle.ll_resources.specs.Raw.{Agrees, Joins, first_place, IsSound, HasNoLess};
+ghost use Rattle.ll_resources.specs.Keys.{found_by, to_come};
+ghost use Rattle.ll_resources.specs.Raw.{raw, shown, uncovered, mark_slot, raw_picked, end_fails, Closes, raw_kept, raw_remarked, kept_under, block_later};
+ghost use Rattle.ll_resources.specs.Raw.{is_younger, with_skips, Agrees, Joins, first_place};
+ghost use Rattle.ll_resources.specs.Chains.{open_at, IsChained, IsNewestOpen, Loads, room_of, IsSound, HasNoLess};
 ghost use Rattle.ll_resources.specs.Changes.{taken_back, before, without_last, AreSound, Leads};
 
 use crate::Entry;
+use crate::keyed::Keyed;
 use crate::marks::{agree, keep_both, mark_at, mark_in, push_mark, put_marks, set_mark, slot_of};
-use crate::saves::Saves;
+use crate::saves::{Moment, Saves};
+use crate::tops::{add_key, has_key, set_top, top_of};
 use ll_bank::OutOfMemory;
 use ll_laws::Kind;
 use std::alloc::Global;
@@ -21,6 +26,12 @@ pub(crate) struct Stored<C: Copy> {
     pub(crate) label: u32,
     pub(crate) kind: Kind,
     pub(crate) clause: C,
+    /// Under which it was loaded. Those of the start have none.
+    pub(crate) key: Option<u32>,
+    /// The open entries of its key that are older come before this place, as long as no older marks are given back while it is there.
+    pub(crate) past: usize,
+    /// All entries of its key that are older come before this place.
+    pub(crate) under: usize,
 }
 
 impl<C: Copy> Clone for Stored<C> {
@@ -40,6 +51,10 @@ pub(crate) struct State<C: Copy> {
     /// The label of the next entry.
     pub(crate) next: usize,
     pub(crate) saves: Saves,
+    /// For each key, a place before which all its entries come.
+    pub(crate) tops: Vec<usize>,
+    /// What was spent when an entry was loaded is so as long as it is there.
+    pub(crate) skips: bool,
 }
 
 /// A change of a context, with what taking it back needs.
@@ -50,11 +65,12 @@ pub(crate) enum Change<C: Copy> {
         label: u32,
         flag: bool,
     },
-    /// The front entry went, with its mark. The flag is that from before.
+    /// The front entry went, with its mark. The flag is that from before, and so is the place before which those of its key came.
     Closed {
         entry: Stored<C>,
         live: Option<bool>,
         flag: bool,
+        top: usize,
     },
     /// The mark at this place was taken away.
     Picked {
@@ -71,6 +87,7 @@ pub(crate) enum Change<C: Copy> {
     Remarked {
         from: usize,
         flag: bool,
+        skips: bool,
     },
 }
 
@@ -99,6 +116,9 @@ impl<C: Copy> State<C> {
                 label: at as u32,
                 kind,
                 clause,
+                key: None,
+                past: 0,
+                under: 0,
             })?;
         }
         Ok(State {
@@ -107,6 +127,8 @@ impl<C: Copy> State<C> {
             flag: false,
             next: count,
             saves: Saves::new(alloc),
+            tops: Vec::new(alloc),
+            skips: true,
         })
     }
 
@@ -124,29 +146,123 @@ impl<C: Copy> State<C> {
         }
     }
 
-    /// Loads a clause in front, under the next label.
-    pub(crate) fn load(&mut self, kind: Kind, clause: C) -> Result<Change<C>, OutOfMemory>
-        requires { self.old.next < 2 ^ 32 }
-        ensures loaded { OnOk result (raw self.new ≡ raw_loaded kind clause (raw self.old)) }
+    /// Loads a clause in front, under the next label and this key.
+    pub(crate) fn load(&mut self, kind: Kind, clause: C, key: u32) -> Result<Change<C>, OutOfMemory>
+        requires few { self.old.next < 2 ^ 32 }
+        requires chained { IsChained (raw self.old) }
+        ensures loaded { OnOk result (Loads kind clause key (raw self.old) (raw self.new)) }
         ensures leads { IfOk result (λ change. Leads change self.old self.new) }
         ensures refused { OnErr result (raw self.new ≡ raw self.old) }
         ensures room { HasNoLess self.old self.new }
     {
         self.entries.reserve(1)?;
         self.live.reserve(1)?;
+        add_key(&mut self.tops, key)?;
         let flag = self.flag;
         let label = self.next as u32;
         let linear = is_bounded(kind);
+        let under = top_of(self.tops.as_slice(), Some(key));
+        let past = self.open_before(key, under);
         self.entries.push_reserved(Stored {
             label,
             kind,
             clause,
+            key: Some(key),
+            past,
+            under,
         });
         self.live.push_reserved(linear);
+        set_top(&mut self.tops, Some(key), self.entries.len());
         self.next += 1;
         self.flag = !linear && flag;
         Ok(Change::Loaded { label, flag })
     }
+
+    /// The place behind the newest open entry of this key that comes before a place; 0 where there is none.
+    pub(crate) fn open_before(&self, key: u32, from: usize) -> usize
+        requires { IsChained (raw self.now) }
+        ensures { IsNewestOpen (raw self.now) key from result }
+    {
+        let mut at = from.min(self.entries.len());
+        while at > 0 {
+            let stored = self.entries[at - 1];
+            if has_key(stored.key, key) {
+                if self.is_open(at - 1) {
+                    return at;
+                }
+                at = self.older(stored).min(at - 1);
+            } else {
+                at -= 1;
+            }
+        }
+        0
+    }
+
+    /// The place before which the open entries of its key come that are older than an entry.
+    pub(crate) fn older(&self, stored: Stored<C>) -> usize
+        ensures { result ≡ (if self.now.skips then stored.past else stored.under) }
+    {
+        if self.skips {
+            stored.past
+        } else {
+            stored.under
+        }
+    }
+
+    /// Whether the entry at this place, the oldest being 0, may be picked.
+    fn is_open(&self, at: usize) -> bool
+        requires { at < length self.now.entries.items }
+        ensures { result ≡ open_at (raw self.now) at }
+    {
+        let from_front = self.entries.len() - 1 - at;
+        !is_bounded(self.entries[at].kind) || mark_at(self.live.as_slice(), from_front)
+    }
+
+    /// The open entries of a key and those under key 0.
+    pub(crate) fn keyed(&self, key: u32) -> Keyed
+        requires { IsChained (raw self.now) }
+        ensures { to_come result (shown (raw self.now)) ≡ found_by key (shown (raw self.now)) }
+    {
+        let tops = self.tops.as_slice();
+        Keyed {
+            key,
+            own: top_of(tops, Some(key)),
+            any: top_of(tops, Some(0)),
+        }
+    }
+
+    /// The first of these, and those behind it.
+    pub(crate) fn next_keyed(&self, keyed: Keyed) -> Option<(Entry<C>, Keyed)>
+        requires { IsChained (raw self.now) }
+        ensures none { IsNone result ↔ (to_come keyed (shown (raw self.now)) ≡ []) }
+        ensures some { IfSome result (λ next.
+            to_come keyed (shown (raw self.now)) ≡ resource next.0 ∷ to_come next.1 (shown (raw self.now))) }
+    {
+        let own = self.open_before(keyed.key, keyed.own);
+        let any = self.open_before(0, keyed.any);
+        let at = own.max(any).checked_sub(1)?;
+        let older = self.older(self.entries[at]);
+        let next = Keyed {
+            key: keyed.key,
+            own: if own > at { older.min(at) } else { own },
+            any: if any > at { older.min(at) } else { any },
+        };
+        Some((self.entry(self.entries.len() - 1 - at), next))
+    }
+
+    /// Whether an entry is live.
+    pub(crate) fn any_live(&self) -> bool
+        ensures { result ≡ has_live (shown (raw self.now)).entries }
+    {
+        let count = self.live.len().min(self.entries.len());
+        for from_front in 0..count {
+            if mark_at(self.live.as_slice(), from_front) {
+                return true;
+            }
+        }
+        false
+    }
+
     /// Uses the entry at this place, the newest being 0.
     pub(crate) fn pick(&mut self, from_front: usize) -> Change<C>
         ensures picked { raw self.new ≡ raw_picked (mark_slot (length self.old.live.items) from_front) (raw self.old) }
@@ -170,7 +286,8 @@ impl<C: Copy> State<C> {
 
     /// The end of the goal for which the front entry was loaded. `None` where it fails.
     pub(crate) fn close(&mut self, saved: bool) -> Option<Change<C>>
-        requires { 0 < length self.old.entries.items }
+        requires some { 0 < length self.old.entries.items }
+        requires sound { IsSound (room_of self.old) (raw self.old) }
         ensures closes { IfSome result (λ _. Closes saved (raw self.old) (raw self.new)) }
         ensures leads { IfSome result (λ change. Leads change self.old self.new) }
         ensures fails { IsNone result → end_fails (raw self.old) ≡ true }
@@ -182,10 +299,17 @@ impl<C: Copy> State<C> {
         if linear & mark_at(self.live.as_slice(), 0) & !flag {
             return None;
         }
+        let top = top_of(self.tops.as_slice(), entry.key);
+        set_top(&mut self.tops, entry.key, entry.under);
         self.entries.pop();
         let live = self.live.pop();
         self.flag = (linear & saved) | flag;
-        Some(Change::Closed { entry, live, flag })
+        Some(Change::Closed {
+            entry,
+            live,
+            flag,
+            top,
+        })
     }
 
     /// Keeps the live marks and the flag, and clears the flag.
@@ -196,8 +320,12 @@ impl<C: Copy> State<C> {
         ensures room { HasNoLess self.old self.new }
         ensures refused { OnErr result (raw self.new ≡ raw self.old) }
     {
+        let moment = Moment {
+            count: self.entries.len(),
+            next: self.next,
+        };
         self.saves
-            .keep(self.entries.len(), self.live.as_slice(), self.flag)?;
+            .keep(moment, self.live.as_slice(), self.flag, self.skips)?;
         self.flag = false;
         Ok(Change::Kept)
     }
@@ -214,13 +342,15 @@ impl<C: Copy> State<C> {
         Ok(Change::Remarked {
             from,
             flag: self.flag,
+            skips: self.skips,
         })
     }
 
     /// The end of `{}`, before which live marks and flag were kept under this number.
     pub(crate) fn bang_end(&mut self, number: usize) -> Result<Change<C>, OutOfMemory>
         requires { number < length self.old.saves.kept.items }
-        ensures ended { OnOk result (raw self.new ≡ raw_remarked (block_later number (raw self.old)) (kept_under number (raw self.old)).flag (raw self.old)) }
+        ensures ended { OnOk result (raw self.new ≡ with_skips number (raw self.old)
+            (raw_remarked (block_later number (raw self.old)) (kept_under number (raw self.old)).flag (raw self.old))) }
         ensures leads { IfOk result (λ change. Leads change self.old self.new) }
         ensures room { HasNoLess self.old self.new }
         ensures refused { OnErr result (raw self.new ≡ raw self.old) }
@@ -230,21 +360,36 @@ impl<C: Copy> State<C> {
         put_marks(&mut self.live, self.saves.live(number));
         let flag = self.flag;
         self.flag = self.saves.flag(number);
-        Ok(Change::Remarked { from, flag })
+        let skips = self.skips;
+        self.skips = skips && self.is_younger(number);
+        Ok(Change::Remarked { from, flag, skips })
+    }
+
+    /// What was kept under this number was kept while all of these entries were there.
+    fn is_younger(&self, number: usize) -> bool
+        requires { number < length self.now.saves.kept.items }
+        ensures { result ≡ is_younger number (raw self.now) }
+    {
+        let moment = self.saves.moment(number);
+        let count = self.entries.len();
+        count == 0
+            || (moment.count == count && (self.entries[count - 1].label as usize) < moment.next)
     }
 
     /// The middle of `&`, before which live marks and flag were kept under this number.
     pub(crate) fn with_mid(&mut self, number: usize) -> Result<Change<C>, OutOfMemory>
         requires { number < length self.old.saves.kept.items }
-        ensures middle { OnOk result (raw self.new ≡ raw_kept (block_later number (raw self.old)) (raw self.old)) }
+        ensures middle { OnOk result (raw self.new ≡ with_skips number (raw self.old) (raw_kept (block_later number (raw self.old)) (raw self.old))) }
         ensures change { IfOk result (λ change. change ≡ Change.Kept) }
         ensures leads { IfOk result (λ change. Leads change self.old self.new) }
         ensures room { HasNoLess self.old self.new }
         ensures refused { OnErr result (raw self.new ≡ raw self.old) }
     {
         self.live.reserve(self.saves.size(number))?;
+        let skips = self.skips && self.is_younger(number);
         let change = self.save()?;
         put_marks(&mut self.live, self.saves.live(number));
+        self.skips = skips;
         Ok(change)
     }
 
@@ -273,13 +418,17 @@ impl<C: Copy> State<C> {
         let from = self.saves.note(self.live.as_slice())?;
         keep_both(self.saves.live(half), &mut self.live);
         self.flag = self.saves.flag(number) || (first_flag && flag);
-        Ok(Some(Change::Remarked { from, flag }))
+        Ok(Some(Change::Remarked {
+            from,
+            flag,
+            skips: self.skips,
+        }))
     }
 
     /// Takes back all but the first `from` of changes that were made one after another.
     pub(crate) fn take_back(&mut self, changes: &[Change<C>], from: usize)
         requires from { from ≤ length changes.now }
-        requires sound { AreSound changes.now (raw self.old) (vec_capacity self.old.entries) (vec_capacity self.old.live) }
+        requires sound { AreSound changes.now (raw self.old) (room_of self.old) }
         ensures state { raw self.new ≡ before (drop from changes.now) (raw self.old) }
         ensures room { HasNoLess self.old self.new }
     {
@@ -292,19 +441,26 @@ impl<C: Copy> State<C> {
 
     /// Takes one change back.
     fn take_one_back(&mut self, change: Change<C>)
-        requires { IsSound (vec_capacity self.old.entries) (vec_capacity self.old.live) (taken_back change (raw self.old)) }
+        requires sound { IsSound (room_of self.old) (taken_back change (raw self.old)) }
+        requires now { IsSound (room_of self.old) (raw self.old) }
         ensures state { raw self.new ≡ taken_back change (raw self.old) }
         ensures room { HasNoLess self.old self.new }
     {
         match change {
             Change::Loaded { label, flag } => {
-                self.entries.pop();
+                self.uncover();
                 self.live.pop();
                 self.next = label as usize;
                 self.flag = flag;
             }
-            Change::Closed { entry, live, flag } => {
+            Change::Closed {
+                entry,
+                live,
+                flag,
+                top,
+            } => {
                 self.entries.push_reserved(entry);
+                set_top(&mut self.tops, entry.key, top);
                 if let Some(mark) = live {
                     self.live.push_reserved(mark);
                 }
@@ -313,23 +469,36 @@ impl<C: Copy> State<C> {
             Change::Picked { at, live } => set_mark(&mut self.live, at, live),
             Change::Erased { flag } => self.flag = flag,
             Change::Kept => self.forget_last(),
-            Change::Remarked { from, flag } => {
+            Change::Remarked { from, flag, skips } => {
                 put_marks(&mut self.live, self.saves.from(from));
                 self.saves.cut(from);
                 self.flag = flag;
+                self.skips = skips;
             }
+        }
+    }
+
+    /// Lets the newest entry go, without its mark.
+    fn uncover(&mut self)
+        requires { IsSound (room_of self.old) (raw self.old) }
+        ensures state { raw self.new ≡ uncovered (raw self.old) }
+        ensures room { HasNoLess self.old self.new }
+    {
+        if let Some(entry) = self.entries.pop() {
+            set_top(&mut self.tops, entry.key, entry.under);
         }
     }
 
     /// Gives back what was kept last, and lets go of it.
     fn forget_last(&mut self)
-        requires { IsSound (vec_capacity self.old.entries) (vec_capacity self.old.live) (without_last (length self.old.saves.kept.items) (raw self.old)) }
+        requires { IsSound (room_of self.old) (without_last (length self.old.saves.kept.items) (raw self.old)) }
         ensures state { raw self.new ≡ without_last (length self.old.saves.kept.items) (raw self.old) }
         ensures room { HasNoLess self.old self.new }
     {
         if let Some(last) = self.saves.len().checked_sub(1) {
             put_marks(&mut self.live, self.saves.live(last));
             self.flag = self.saves.flag(last);
+            self.skips = self.saves.skips(last);
             self.saves.forget(last);
         }
     }
@@ -345,12 +514,15 @@ impl<C: Copy> State<C> {
         let mut live = Vec::with_capacity(alloc, self.live.capacity())?;
         live.extend_from_slice(self.live.as_slice())?;
         let saves = self.saves.copy()?;
+        let tops = Vec::from_slice(alloc, self.tops.as_slice())?;
         Ok(State {
             entries,
             live,
             flag: self.flag,
             next: self.next,
             saves,
+            tops,
+            skips: self.skips,
         })
     }
 }

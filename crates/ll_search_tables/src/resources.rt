@@ -360,3 +360,44 @@ fn goes_back_by_steps(rt: HostRuntime) -> Result<(), Fail> {
     assert_state(&rt, &context, &[true], false);
     Ok(())
 }
+
+/// The clauses that are found by a key are these, the newest first.
+fn assert_found(rt: &impl Abort, context: &Context<u32>, key: u32, clauses: &[u32]) {
+    let mut keyed = context.keyed(key);
+    for i in 0..clauses.len() {
+        let Some((entry, older)) = context.next_keyed(keyed) else {
+            panic!(rt; "{i} entries of key {key}");
+        };
+        assert_eq!(rt; entry.clause, clauses[i], "entry {i} of key {key}");
+        keyed = older;
+    }
+    assert!(rt; context.next_keyed(keyed).is_none(), "no more of key {key}");
+}
+
+#[test]
+fn finds_entries_by_their_keys(rt: HostRuntime) -> Result<(), Fail> {
+    let mut context = Context::start(rt.alloc(), &[(Kind::Unbounded, 10)])?;
+    context.load_keyed(Kind::Unbounded, 20, 1)?;
+    context.load(Kind::Linear, 30)?;
+    context.load_keyed(Kind::Linear, 40, 2)?;
+    assert_found(&rt, &context, 1, &[30, 20]);
+    assert_found(&rt, &context, 2, &[40, 30]);
+    assert_found(&rt, &context, 0, &[30]);
+    assert_found(&rt, &context, 9, &[30]);
+    assert!(rt; context.any_live());
+    Ok(())
+}
+
+#[test]
+fn passes_spent_entries(rt: HostRuntime) -> Result<(), Fail> {
+    let mut context = Context::start(rt.alloc(), &[])?;
+    context.load_keyed(Kind::Linear, 20, 1)?;
+    let loaded = context.mark();
+    context.bang()?;
+    assert!(rt; !context.any_live());
+    context.load_keyed(Kind::Linear, 30, 1)?;
+    assert_found(&rt, &context, 1, &[30]);
+    context.undo(loaded);
+    assert_found(&rt, &context, 1, &[20]);
+    Ok(())
+}

@@ -16,8 +16,11 @@ use Rattle.ll_laws.specs.State.{State}
 use Rattle.ll_laws.specs.Attempt.{attempt, attempt_agenda, attempt_goal, take_side, stepped, saved_of}
 use Rattle.ll_laws.specs.Valid.{IsFormula, GoalSide, ClauseSide}
 use Rattle.ll_laws.proofs.CallerLemmas.{Fits as FormFits, fits_of_formula, formula_of_fits, steps_consistent}
+use Rattle.ll_freeze.specs.Keyed.{AreKeyed, clause_key}
+use Rattle.ll_engine.proofs.inferences.AtomLemmas.{splits}
+use Rattle.ll_freeze.proofs.CallerLemmas.{keyed-alike, keyed-loaded, clauses-unlive}
 use Rattle.ll_freeze.proofs.CallerLemmas.{step_rests, state_by, state_is, fits_kept, more_kept, one_more}
-use Rattle.ll_resources.specs.Resources.{Resources, saved_at, saved_now, saved_as, KeepsSaved, after_load, after_erase, after_save, after_bang}
+use Rattle.ll_resources.specs.Resources.{Resources, saved_at, saved_now, saved_as, KeepsSaved, after_load_keyed, after_erase, after_save, after_bang}
 use Rattle.ll_resources.specs.declared.context.Saved.{Saved as Handle}
 use Rattle.ll_freeze.specs.Parts.{Parts}
 use Rattle.ll_freeze.specs.declared.machine.Item.{Item}
@@ -53,8 +56,8 @@ pub row : (old new : Parts) (h : Resources FormAt) (k : Resources FormAt) (g : F
     ≡ Some (state_by old.bank old.bound k (front ++ rest) old.levels old.eigens old.terms (old.steps ++ step ∷ []))
     → All (λ e. HasForm old.bank e.clause.0) k.entries → All (HasItem old.bank (length k.kept)) (front ++ rest)
     → All (λ e. IsFormula (allowed old) ClauseSide [] (form_tree old.bank e.clause.0)) k.entries → All (IsGoalIn (allowed old) old.bank) (front ++ rest)
-    → k.next ≤ suc old.resources.next → Infers old c new
-row old new h k g rest front step c f fits e1 e2 go e4 e3 clauses items sorted goals next =
+    → k.next ≤ suc old.resources.next → AreKeyed old.bank (length old.problem.clauses) k → Infers old c new
+row old new h k g rest front step c f fits e1 e2 go e4 e3 clauses items sorted goals next keyed =
     let s : SameTerms old new =
     record {
       problem = ap (λ (m : Parts). m.problem) go.same;
@@ -79,7 +82,7 @@ row old new h k g rest front step c f fits e1 e2 go e4 e3 clauses items sorted g
           (step_rests (length old.problem.names) old.problem.modules old.problem.clauses fits.valid.clauses (setting old) (state_of old) (state_of new) c a
           fits.rests)
           x (rw r clauses) (rw r sorted) go.top (rw (r, go.items) items) (rw go.items goals) (let b = fits.labels in
-          omega (arith, b, l, n, next)) (let b = fits.eigens in omega (arith, b, l, x));
+          omega (arith, b, l, n, next)) (let b = fits.eigens in omega (arith, b, l, x)) (rw r keyed);
     }
 
 -- items behind a goal are items of the machine
@@ -108,13 +111,13 @@ part m g f rest h e l = let a = goal_inside m g rest h e in omega (arith, a, l)
 pub one : (old new : Parts) (g : FormAt) (rest : List Item) (c : Candidate) → Fits old → items_of old ≡ Goal g ∷ rest → form_tree old.bank g.0 ≡ One
     → GoesOn old [] rest Plain new → Infers old c new
 one old new g rest c f e1 e2 go = row old new old.resources old.resources g rest [] Plain c One f e1 e2 go refl refl f.clauses (rest_items old g rest f e1)
-    f.sorted_clauses (rest_goals old g rest f e1) (omega arith)
+    f.sorted_clauses (rest_goals old g rest f e1) (omega arith) f.keyed
 
 pub top : (old new : Parts) (h : Resources FormAt) (g : FormAt) (rest : List Item) (c : Candidate) → Fits old → items_of old ≡ Goal g ∷ rest
     → form_tree old.bank g.0 ≡ Top
     → h ≡ after_erase old.resources → GoesOn (record old { resources = h }) [] rest Plain new → Infers old c new
 top old new h g rest c f e1 e2 e go = row old new h (after_erase old.resources) g rest [] Plain c Top f e1 e2 go e refl f.clauses (rest_items old g rest f e1)
-    f.sorted_clauses (rest_goals old g rest f e1) (omega arith)
+    f.sorted_clauses (rest_goals old g rest f e1) (omega arith) (keyed-alike old.bank (length old.problem.clauses) old.resources _ refl refl f.keyed)
 
 pub tensor : (old new : Parts) (g a b : FormAt) (rest : List Item) (c : Candidate) → Fits old → items_of old ≡ Goal g ∷ rest
     → form_tree old.bank g.0 ≡ Tensor (form_tree old.bank a.0) (form_tree old.bank b.0) → (a.0 < g.0) × (b.0 < g.0)
@@ -126,7 +129,7 @@ tensor old new g a b rest c f e1 e2 l go =
     (All-cons P (Goal a) (Goal b ∷ rest) (part old g a rest f e1 l.0) (All-cons P (Goal b) rest (part old g b rest f e1 l.1) (rest_items old g rest f e1)))
     f.sorted_clauses
     (All-cons R (Goal a) (Goal b ∷ rest) (formula_of_fits may GoalSide [] _ s.1)
-    (All-cons R (Goal b) rest (formula_of_fits may GoalSide [] _ s.2) (rest_goals old g rest f e1))) (omega arith)
+    (All-cons R (Goal b) rest (formula_of_fits may GoalSide [] _ s.2) (rest_goals old g rest f e1))) (omega arith) f.keyed
 
 pub left : (old new : Parts) (g a b : FormAt) (rest : List Item) (c : Candidate) → Fits old → items_of old ≡ Goal g ∷ rest
     → form_tree old.bank g.0 ≡ Plus (form_tree old.bank a.0) (form_tree old.bank b.0) → (a.0 < g.0) × (b.0 < g.0) → c.leaf ≡ 0
@@ -138,7 +141,7 @@ left old new g a b rest c f e1 e2 l z go =
     (map (shown_item old.bank old.bound old.resources.kept) rest))) z)
     f.clauses (All-cons (HasItem old.bank (length old.resources.kept)) (Goal a) rest (part old g a rest f e1 l.0) (rest_items old g rest f e1))
     f.sorted_clauses (All-cons (IsGoalIn (allowed old) old.bank) (Goal a) rest (formula_of_fits (allowed old) GoalSide [] _ p.1) (rest_goals old g rest f e1))
-    (omega arith)
+    (omega arith) f.keyed
 
 right_side : (k : ℕ) (s : State) (f g : Form) (rest : List (ItemOf Form)) → (k ≡ 0 → ⊥) → take_side k s f g rest ≡ stepped s (GoalOf g ∷ rest) Right
 right_side zero s f g rest n = absurd (n refl)
@@ -153,29 +156,33 @@ right old new g a b rest c f e1 e2 l z go =
     (ap (λ (s : State). Some s) (right_side c.leaf (at_goal old g rest) _ _ _ z))
     f.clauses (All-cons (HasItem old.bank (length old.resources.kept)) (Goal b) rest (part old g b rest f e1 l.1) (rest_items old g rest f e1))
     f.sorted_clauses (All-cons (IsGoalIn (allowed old) old.bank) (Goal b) rest (formula_of_fits (allowed old) GoalSide [] _ p.2) (rest_goals old g rest f e1))
-    (omega arith)
+    (omega arith) f.keyed
 
 pub implies : (old new : Parts) (h : Resources FormAt) (g r b : FormAt) (rest : List Item) (c : Candidate) → Fits old → items_of old ≡ Goal g ∷ rest
     → form_tree old.bank g.0 ≡ Imp (form_tree old.bank r.0) (form_tree old.bank b.0) → (r.0 < g.0) × (b.0 < g.0)
-    → h ≡ after_load Unbounded r old.resources → GoesOn (record old { resources = h }) (Goal b ∷ ImpEnd ∷ []) rest Plain new → Infers old c new
+    → h ≡ after_load_keyed Unbounded r (clause_key (form_tree old.bank r.0)) old.resources → GoesOn (record old { resources = h })
+    (Goal b ∷ ImpEnd ∷ []) rest Plain new → Infers old c new
 implies old new h g r b rest c f e1 e2 l e go =
     let P : Item → Type 0 = HasItem old.bank (length old.resources.kept) in let may = allowed old in let R : Item → Type 0 = IsGoalIn may old.bank in
     let s = goal_fits old g rest _ f e1 e2 in
-    row old new h (after_load Unbounded r old.resources) g rest (Goal b ∷ ImpEnd ∷ []) Plain c _ f e1 e2 go e refl
+    row old new h (after_load_keyed Unbounded r (clause_key (form_tree old.bank r.0)) old.resources) g rest (Goal b ∷ ImpEnd ∷ []) Plain c _ f e1 e2 go e refl
     (All-cons (λ (e : Entry FormAt). HasForm old.bank e.clause.0) _ old.resources.entries (part old g r rest f e1 l.0) f.clauses)
     (All-cons P (Goal b) (ImpEnd ∷ rest) (part old g b rest f e1 l.1) (All-cons P ImpEnd rest tt (rest_items old g rest f e1)))
     (All-cons (λ (e : Entry FormAt). IsFormula may ClauseSide [] (form_tree old.bank e.clause.0)) _ old.resources.entries
     (formula_of_fits may ClauseSide [] _ s.0) f.sorted_clauses)
     (All-cons R (Goal b) (ImpEnd ∷ rest) (formula_of_fits may GoalSide [] _ s.1) (All-cons R ImpEnd rest tt (rest_goals old g rest f e1))) (omega arith)
+    (keyed-loaded old.bank (length old.problem.clauses) Unbounded r old.resources (splits old _ f refl).enough f.keyed)
 
 pub linear : (old new : Parts) (h : Resources FormAt) (g r b : FormAt) (flag : _) (rest : List Item) (c : Candidate) → Fits old → items_of old ≡ Goal g ∷ rest
     → form_tree old.bank g.0 ≡ Lolli (form_tree old.bank r.0) (form_tree old.bank b.0) → (r.0 < g.0) × (b.0 < g.0) → flag ≡ old.resources.flag
-    → h ≡ after_load Linear r old.resources → GoesOn (record old { resources = h }) (Goal b ∷ LolliEnd flag ∷ []) rest Plain new → Infers old c new
+    → h ≡ after_load_keyed Linear r (clause_key (form_tree old.bank r.0)) old.resources → GoesOn (record old { resources = h })
+    (Goal b ∷ LolliEnd flag ∷ []) rest Plain new → Infers old c new
 linear old new h g r b flag rest c f e1 e2 l w e go =
     let P : Item → Type 0 = HasItem old.bank (length old.resources.kept) in let may = allowed old in let R : Item → Type 0 = IsGoalIn may old.bank in
     let s = goal_fits old g rest _ f e1 e2 in
-    row old new h (after_load Linear r old.resources) g rest (Goal b ∷ LolliEnd flag ∷ []) Plain c _ f e1 e2 go e
-    (ap (λ v. Some (state_by old.bank old.bound (after_load Linear r old.resources) (Goal b ∷ LolliEnd v ∷ rest) old.levels old.eigens old.terms
+    row old new h (after_load_keyed Linear r (clause_key (form_tree old.bank r.0)) old.resources) g rest (Goal b ∷ LolliEnd flag ∷ []) Plain c _ f e1 e2 go e
+    (ap (λ v. Some (state_by old.bank old.bound (after_load_keyed Linear r (clause_key (form_tree old.bank r.0)) old.resources)
+    (Goal b ∷ LolliEnd v ∷ rest) old.levels old.eigens old.terms
     (old.steps ++ Plain ∷ []))) (sym w))
     (All-cons (λ (e : Entry FormAt). HasForm old.bank e.clause.0) _ old.resources.entries (part old g r rest f e1 l.0) f.clauses)
     (All-cons P (Goal b) (LolliEnd flag ∷ rest) (part old g b rest f e1 l.1) (All-cons P (LolliEnd flag) rest tt (rest_items old g rest f e1)))
@@ -183,6 +190,7 @@ linear old new h g r b flag rest c f e1 e2 l w e go =
     (formula_of_fits may ClauseSide [] _ s.0) f.sorted_clauses)
     (All-cons R (Goal b) (LolliEnd flag ∷ rest) (formula_of_fits may GoalSide [] _ s.1) (All-cons R (LolliEnd flag) rest tt (rest_goals old g rest f e1)))
     (omega arith)
+    (keyed-loaded old.bank (length old.problem.clauses) Linear r old.resources (splits old _ f refl).enough f.keyed)
 
 -- what was kept stays, so items behind a goal show what they showed
 
@@ -259,7 +267,7 @@ both old new h g a b saved rest c f e1 e2 l n s k e go =
     (All-cons R (Mid saved) (Goal b ∷ WithEnd saved saved ∷ rest) tt
     (All-cons R (Goal b) (WithEnd saved saved ∷ rest) (formula_of_fits may GoalSide [] _ w.1)
     (All-cons R (WithEnd saved saved) rest tt (rest_goals old g rest f e1)))))
-    (omega arith)
+    (omega arith) (keyed-alike old.bank (length old.problem.clauses) old.resources _ refl refl f.keyed)
 
 pub bang : (old new : Parts) (h1 h : Resources FormAt) (g a : FormAt) (saved : Handle) (rest : List Item) (c : Candidate) → Fits old
     → items_of old ≡ Goal g ∷ rest
@@ -302,4 +310,4 @@ bang old new h1 h g a saved rest c f e1 e2 l n s k e0 e go =
     d)))
     (All-map (λ (e : Entry FormAt). IsFormula may ClauseSide [] (form_tree bank e.clause.0)) unlive old.resources.entries f.sorted_clauses)
     (All-cons R (Goal a) (BangEnd saved ∷ rest) (formula_of_fits may GoalSide [] _ w.1) (All-cons R (BangEnd saved) rest tt (rest_goals old g rest f e1)))
-    (omega arith)
+    (omega arith) (keyed-alike old.bank (length old.problem.clauses) old.resources _ (clauses-unlive old.resources.entries) refl f.keyed)

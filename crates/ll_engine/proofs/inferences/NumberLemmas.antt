@@ -25,7 +25,8 @@ use Rattle.ll_laws.specs.Valid.{IsFormula, IsValid, GoalSide, ClauseSide}
 use Rattle.ll_laws.specs.Consistent.{IsConsistent, allowed_in}
 use Rattle.ll_laws.proofs.CallerLemmas.{grows-refl, fit-vars, fits_of_formula, steps_consistent}
 use Rattle.ll_freeze.specs.Resting.{RestsOn}
-use Rattle.ll_freeze.proofs.CallerLemmas.{step_rests, modules_later, modules_has}
+use Rattle.ll_freeze.specs.Keyed.{AreKeyed}
+use Rattle.ll_freeze.proofs.CallerLemmas.{keyed-later, step_rests, modules_later, modules_has}
 use Rattle.ll_agenda.specs.declared.agenda.Top.{Top as AgendaTop}
 use Rattle.ll_agenda.specs.Frames.{HasTop, items_at}
 use Rattle.ll_resources.specs.Resources.{Resources}
@@ -146,6 +147,10 @@ infers old new g rest c f e o gives =
           (subst (λ (r : Resources FormAt). All (HasItem new.bank (length r.kept)) rest) (sym o.resources) inside);
       labels = (let a = next in let b = o.left in let d = f.labels in omega arith);
       eigens = (let a = o.eigens in let b = o.left in let d = f.eigens in omega arith);
+      keyed =
+          subst (λ (r : Resources FormAt). AreKeyed new.bank (length new.problem.clauses) r) (sym o.resources)
+          (subst (λ (p : ProblemTree). AreKeyed new.bank (length p.clauses) old.resources) (sym o.problem)
+          (keyed-later old.bank new.bank (length old.problem.clauses) old.resources o.bank f.clauses f.keyed));
     }
 
 -- with the bindings that were there, the state has lost its goal

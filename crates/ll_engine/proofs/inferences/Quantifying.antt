@@ -26,7 +26,7 @@ use Rattle.ll_laws.specs.Consistent.{IsConsistent, is_made}
 use Rattle.ll_laws.proofs.CallerLemmas.{IsClosing, sub_same, sub_instantiate, Grows, Fit, AllFit, Fits as FormFits, formula_of_fits, fits-more, fits-close}
 use Rattle.ll_laws.proofs.CallerLemmas.{formula-more, steps_consistent}
 use Rattle.ll_freeze.specs.Resting.{RestsOn}
-use Rattle.ll_freeze.proofs.CallerLemmas.{step_rests, trees_read, vars_more, form_same, state_by, state_is, modules_later, modules_has}
+use Rattle.ll_freeze.proofs.CallerLemmas.{keyed-later, step_rests, trees_read, vars_more, form_same, state_by, state_is, modules_later, modules_has}
 use Rattle.ll_resources.specs.Resources.{Resources}
 use Rattle.ll_freeze.specs.Parts.{Parts, table}
 use Rattle.ll_freeze.specs.declared.machine.Item.{Item}
@@ -273,6 +273,7 @@ opened old new g rest c f fits e1 o reads grows count bound ordered terms variab
             (All-weaker (HasItem old.bank k) P (λ i h. item_has old.bank new.bank (allowed old) (allowed new) o.bank grows k i h) rest xs));
         labels = let b = fits.labels in omega (arith, b, l, n);
         eigens = eigens;
+        keyed = rw (r2, o.problem) (keyed-later old.bank new.bank (length old.problem.clauses) r o.bank fits.clauses fits.keyed);
       };
     }
 

@@ -1,4 +1,5 @@
 -- Settling a machine, one end after the other.
+use Rattle.std.proofs.Common.{drop, ◌-◌}
 use Rattle.std.proofs.Common.{◌≡◌, ℕ, suc, ◌<◌, refl, ap, sym, ◌∙◌, subst, Bool, true, false, ◌&&◌, List, [], ◌∷◌, map, length, arith, All}
 use Rattle.std.proofs.lemmas.List.Elements.{All-cons, All-head, All-tail, All-weaker}
 use Rattle.std.proofs.lemmas.List.{length-map}
@@ -15,6 +16,8 @@ use Rattle.ll_laws.specs.State.{State, settle, front_of, with_front}
 use Rattle.ll_laws.specs.Attempt.{is_linear}
 use Rattle.ll_laws.specs.Valid.{IsFormula, ClauseSide}
 use Rattle.ll_laws.specs.Consistent.{ends_fit, marks_fit, may_live, is_of_kind, newest_is, begins_second_side}
+use Rattle.ll_freeze.specs.Keyed.{AreKeyed}
+use Rattle.ll_freeze.proofs.CallerLemmas.{clauses_of, keyed-alike, keyed-tail, keyed-stay, clauses-remark}
 use Rattle.ll_freeze.proofs.CallerLemmas.{settle_rests, state_by, state_is, fits_kept, same_allowed, clauses_moved, goals_moved, one_more, more_kept}
 use Rattle.ll_resources.specs.History.{History, Settles}
 use Rattle.ll_resources.specs.Resources.{Resources, saved_at, saved_as, saved_now, End, settled, load_end, with_end, bang_end, after_with_mid, SettlesMiddle}
@@ -79,6 +82,7 @@ begins o f =
         clauses = f.clauses;
         sorted_clauses = f.sorted_clauses;
         sorted_goals = f.sorted_goals;
+        keyed = f.keyed;
       };
       ends = f.consistent.ends;
     }
@@ -123,7 +127,7 @@ done o m g f e =
       settles = a;
       fits = fits_kept o m s f (settles_consistent (setting o) (state_of o) (state_of m) f.consistent a)
           (settle_rests o.problem.clauses (state_of o) (state_of m) a f.rests) g.eigens g.clauses g.sorted_clauses g.top g.items g.sorted_goals
-          (let b = f.labels in omega (arith, b, l, n)) (let b = f.eigens in omega (arith, b, l, x));
+          (let b = f.labels in omega (arith, b, l, n)) (let b = f.eigens in omega (arith, b, l, x)) g.keyed;
     }
 
 -- settling keeps what was kept, and the next label
@@ -134,15 +138,24 @@ settled_keeps i r h e = go (settle_front (i ∷ []) r.entries r.flag) e
     go None e = cc
     go (Some f) e = let x : front_put r f ≡ h = cc in (ap (λ z. z.kept) (sym x), ap (λ z. z.next) (sym x))
 
+-- the entries that are left keep their keys
+settled_keys : (i : End) (r h : Resources FormAt) → settled i r ≡ Some h → h.keys ≡ drop (length r.entries - length h.entries) r.keys
+settled_keys i r h e = go (settle_front (i ∷ []) r.entries r.flag) e
+  where
+    go : (o : Option (Front (Unit {0}) FormAt)) → option_map (front_put r) o ≡ Some h → h.keys ≡ drop (length r.entries - length h.entries) r.keys
+    go None e = cc
+    go (Some f) e = let x : front_put r f ≡ h = cc in subst (λ z. z.keys ≡ drop (length r.entries - length z.entries) r.keys) x refl
+
 -- one end worked off
 pub off : (o m : Parts) (h : Resources FormAt) (i : Item) (rest : List Item) (top : _) → Going o m → items_of m ≡ i ∷ rest
     → is_end (raw_item m.resources.kept i) ≡ true
     → settled (as_end (raw_item m.resources.kept i)) m.resources ≡ Some h
     → items_of (record m { resources = h; top = top }) ≡ rest → HasTop m.agenda top
     → ((P : FormAt → Type 0) → All (λ (e : Entry FormAt). P e.clause) m.resources.entries → All (λ (e : Entry FormAt). P e.clause) h.entries)
+    → ((bank : Nodes) (n : ℕ) → AreKeyed bank n m.resources → AreKeyed bank n h)
     → ends_fit (map (shown_item o.bank o.bound m.resources.kept) rest) (map (shown_entry o.bank o.bound) h.entries) ≡ true
     → Going o (record m { resources = h; top = top })
-off o m h i rest top g e1 e2 e3 e4 t c w =
+off o m h i rest top g e1 e2 e3 e4 t c q w =
     let r = m.resources in let y = g.reached in
     let k = settled_keeps (as_end (raw_item r.kept i)) r h e3 in
     let a : front_raw r (items_of m) ≡ front_raw h rest =
@@ -172,6 +185,7 @@ off o m h i rest top g e1 e2 e3 e4 t c w =
         clauses = c (λ f. HasForm o.bank f.0) y.clauses;
         sorted_clauses = c (λ f. IsFormula (allowed o) ClauseSide [] (form_tree o.bank f.0)) y.sorted_clauses;
         sorted_goals = rw e4 (All-tail (IsGoalIn (allowed o) o.bank) i rest v);
+        keyed = q o.bank (length o.problem.clauses) y.keyed;
       };
       ends = rw (e4, k.0) w;
     }
@@ -192,6 +206,7 @@ here o m g =
         clauses = rw y.same.bank y.clauses;
         sorted_clauses = clauses_moved (allowed o) (allowed m) o.bank m.bank m.resources.entries a (sym y.same.bank) y.sorted_clauses;
         sorted_goals = goals_moved (allowed o) (allowed m) o.bank m.bank (items_of m) a (sym y.same.bank) y.sorted_goals;
+        keyed = rw (y.same.bank, y.same.problem) y.keyed;
       };
       ends = rw (y.same.bank, y.same.bound) g.ends;
     }
@@ -218,6 +233,7 @@ reach_further o m n g h =
       clauses = rw (sym g.same.bank) h.clauses;
       sorted_clauses = clauses_moved (allowed m) (allowed o) m.bank o.bank n.resources.entries a g.same.bank h.sorted_clauses;
       sorted_goals = goals_moved (allowed m) (allowed o) m.bank o.bank (items_of n) a g.same.bank h.sorted_goals;
+      keyed = rw (sym g.same.bank, sym g.same.problem) h.keyed;
     }
 
 pub further : (o m n : Parts) → Going o m → Going m n → Going o n
@@ -288,7 +304,8 @@ off_lolli m h saved rest top g e1 e3 e4 t =
     let q : settled (EndOfLolli saved) m.resources ≡ Some h =
     ap (λ i. settled i m.resources) (sym (ap (λ es. load_end saved es) w.is ∙ load_is saved w.front w.rest w.kind)) ∙ e3 in
     let k = lolli_entries saved m.resources h w.front w.rest w.is q in (
-      off m m h (LolliEnd saved) rest top g e1 refl q e4 t (tail_keeps m.resources.entries w.front w.rest h.entries w.is k) (rw k w.ends),
+      off m m h (LolliEnd saved) rest top g e1 refl q e4 t (tail_keeps m.resources.entries w.front w.rest h.entries w.is k)
+          (λ bank n. keyed-tail bank n m.resources h w.front w.rest w.is k (settled_keys (EndOfLolli saved) m.resources h q)) (rw k w.ends),
       shorter m (LolliEnd saved) rest (record m { resources = h; top = top }) e1 e4,
     )
 
@@ -300,7 +317,8 @@ off_imp m h rest top g e1 e3 e4 t =
     let q : settled EndOfImp m.resources ≡ Some h =
     ap (λ i. settled i m.resources) (sym (ap (λ es. load_end false es) w.is ∙ free_is false w.front w.rest w.kind)) ∙ e3 in
     let k = imp_entries m.resources h w.front w.rest w.is q in (
-      off m m h ImpEnd rest top g e1 refl q e4 t (tail_keeps m.resources.entries w.front w.rest h.entries w.is k) (rw k w.ends),
+      off m m h ImpEnd rest top g e1 refl q e4 t (tail_keeps m.resources.entries w.front w.rest h.entries w.is k)
+          (λ bank n. keyed-tail bank n m.resources h w.front w.rest w.is k (settled_keys EndOfImp m.resources h q)) (rw k w.ends),
       shorter m ImpEnd rest (record m { resources = h; top = top }) e1 e4,
     )
 
@@ -400,6 +418,7 @@ off_marks : (m : Parts) (h : Resources FormAt) (i : Item) (rest : List Item) (to
     → Going m (record m { resources = h; top = top }) × (length (items_of (record m { resources = h; top = top })) < length (items_of m))
 off_marks m h i rest top bs g e1 e2 e3 q w e4 t = (
   off m m h i rest top g e1 e2 e3 e4 t (marked_keeps m.resources.entries h.entries bs q)
+      (λ bank n. keyed-stay bank n m.resources h (ap (λ es. clauses_of es) q ∙ clauses-remark m.resources.entries bs) (settled_keys _ m.resources h e3))
       (marked_ends m.bank m.bound (map (shown_item m.bank m.bound m.resources.kept) rest) m.resources.entries h.entries bs q w),
   shorter m i rest (record m { resources = h; top = top }) e1 e4,
 )
@@ -522,6 +541,10 @@ middle m h agenda top s before old half g rest go e1 n sm k e e4 t =
         sorted_goals =
             rw e4 (All-cons R (Goal g) (WithEnd before half ∷ rest) (All-head R (Goal g) (WithEnd before old ∷ rest) v1)
             (All-cons R (WithEnd before half) rest tt vr));
+        keyed =
+            keyed-alike m.bank (length m.problem.clauses) r z
+            (ap (λ (x : Resources FormAt). clauses_of x.entries) e ∙ clauses-remark r.entries (saved_at r.kept s).live)
+            (ap (λ (x : Resources FormAt). x.keys) e) y.keyed;
       },
       goal_done (at_second m h agenda top) g (WithEnd before half ∷ rest) e4,
     )

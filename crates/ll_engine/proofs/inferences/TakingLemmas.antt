@@ -31,6 +31,8 @@ use Rattle.ll_laws.proofs.CallerLemmas.{IsClosing, ways-sub, sub_leaf, sub_premi
 use Rattle.ll_laws.proofs.CallerLemmas.{fit-sub, fit-vars, fit-eigens, levels-replicate, level_up_to, new_level, occurs_below, fits_of_formula, fits-more}
 use Rattle.ll_laws.proofs.CallerLemmas.{formula-more, LeafFits, leaf-fits, steps_consistent}
 use Rattle.ll_freeze.specs.Resting.{RestsOn}
+use Rattle.ll_freeze.specs.Keyed.{AreKeyed}
+use Rattle.ll_freeze.proofs.CallerLemmas.{clauses_of, clauses-picked, keyed-alike, keyed-later}
 use Rattle.ll_freeze.proofs.CallerLemmas.{step_rests, modules_has, modules_later}
 use Rattle.ll_agenda.specs.declared.agenda.Top.{Top as AgendaTop}
 use Rattle.ll_resources.specs.Resources.{Resources, after_pick}
@@ -292,6 +294,7 @@ module _ (m : Parts) (f : Fits m) where
         pub flag : new.resources.flag ≡ m.resources.flag
         pub next : new.resources.next ≡ m.resources.next
         pub kept : new.resources.kept ≡ m.resources.kept
+        pub keys : new.resources.keys ≡ m.resources.keys
         pub agenda : new.agenda ≡ now
         pub front : new.top ≡ top
         pub all : new.terms ≡ terms
@@ -449,6 +452,11 @@ module _ (m : Parts) (f : Fits m) where
           items = items_inside;
           labels = (let a = t.next in let b = t.left in let c = f.labels in omega arith);
           eigens = (let a = t.eigens in let b = t.left in let c = f.eigens in omega arith);
+          keyed =
+              subst (λ (p : ProblemTree). AreKeyed new.bank (length p.clauses) new.resources) (sym t.problem)
+              (keyed-alike new.bank (length m.problem.clauses) m.resources new.resources
+              (ap (λ es. clauses_of es) t.entries ∙ clauses-picked label m.resources.entries) t.keys
+              (keyed-later m.bank new.bank (length m.problem.clauses) m.resources whole f.clauses f.keyed));
         }
 
         pub taken : Infers m (record { label = label; leaf = k }) new
@@ -617,6 +625,7 @@ module _ (m : Parts) (f : Fits m) where
               flag = ap (λ (r : Resources FormAt). r.flag) t.resources;
               next = ap (λ (r : Resources FormAt). r.next) t.resources;
               kept = ap (λ (r : Resources FormAt). r.kept) t.resources;
+              keys = ap (λ (r : Resources FormAt). r.keys) t.resources;
               agenda = t.agenda;
               front = t.top_new;
               all = t.terms_new;

@@ -7,4 +7,4 @@ pub returns-then-flag : goal.returns-then-flag
 returns-then-flag c = flagged (parts_of c.args.machine.now) c.flag.result c.flag.ensures (search rules)
 
 pub returns-else-flag : goal.returns-else-flag
-returns-else-flag c = unflagged (parts_of c.args.machine.now) c.flag.result c.has_live.result c.flag.ensures (search rules) c.has_live.ensures
+returns-else-flag c = unflagged (parts_of c.args.machine.now) c.flag.result c.any_live.result c.flag.ensures (search rules) c.any_live.ensures

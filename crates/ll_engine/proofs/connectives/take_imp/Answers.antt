@@ -1,4 +1,7 @@
+use Rattle.std.proofs.Common.{ap, ◌∙◌}
 use Rattle.std.proofs.lemmas.Result.{IfOk-from_err}
+use Rattle.ll_laws.specs.declared.Kind.TheVariants.{Unbounded}
+use Rattle.ll_resources.specs.Resources.{after_load_keyed}
 use Rattle.ll_agenda.specs.Frames.{items_at}
 use Rattle.ll_freeze.specs.Parts.{parts_of}
 use Rattle.ll_freeze.proofs.CallerLemmas.{later_then}
@@ -9,16 +12,19 @@ use Rattle.ll_engine.proofs.connectives.take_imp.Goals as goal
 pub returns-clause-attempts : goal.returns-clause-attempts
 returns-clause-attempts c candidate =
     let m = parts_of c.args.machine.now in let h = c.requires.front in
-    implies m (parts_of c.go_on.new.machine) c.load.new.self.present h.goal c.args.clause c.args.body (items_at m.agenda c.args.rest)
-    candidate c.requires.fits h.list h.seen.tree h.seen.parts c.in_ok-load.ensures.loaded c.in_ok-go_on.ensures.goes
+    let loaded = c.in_ok-load_keyed.ensures.loaded
+    ∙ ap (λ k. after_load_keyed Unbounded c.args.clause k c.args.machine.now.context.present) c.key_of-key.ensures in
+    implies m (parts_of c.go_on.new.machine) c.load_keyed.new.self.present h.goal c.args.clause c.args.body (items_at m.agenda c.args.rest)
+    candidate c.requires.fits h.list h.seen.tree h.seen.parts
+    loaded c.in_ok-go_on.ensures.goes
 
 pub returns-clause-later : goal.returns-clause-later
 returns-clause-later c =
     let m = c.args.machine.now in
-    later_then m _ c.go_on.new.machine (later_context m c.load.new.self c.load.ensures.marks) c.in_ok-go_on.ensures.later
+    later_then m _ c.go_on.new.machine (later_context m c.load_keyed.new.self c.load_keyed.ensures.marks) c.in_ok-go_on.ensures.later
 
-pub returns-in_err-load-clause-later : goal.returns-in_err-load-clause-later
-returns-in_err-load-clause-later c = IfOk-from_err c.from_residual.result _ c.from_residual.ensures.0
+pub returns-in_err-load_keyed-clause-later : goal.returns-in_err-load_keyed-clause-later
+returns-in_err-load_keyed-clause-later c = IfOk-from_err c.from_residual.result _ c.from_residual.ensures.0
 
 pub returns-in_err-go_on-clause-later : goal.returns-in_err-go_on-clause-later
 returns-in_err-go_on-clause-later c = IfOk-from_err c.from_residual-in_err-go_on.result _ c.from_residual-in_err-go_on.ensures.0

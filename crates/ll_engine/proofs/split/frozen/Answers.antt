@@ -46,9 +46,6 @@ returns-then-depth-lt-MOST_SHARED c =
     IfOk-each c.onto.result (λ f. f ≡ sight_of p d.result.now false n) (λ f. f ≡ sight_of p cs false f.depth)
     (λ f e. sight_depth p d.result.now cs n f (d.ensures.value ∙ c.reverse.ensures.items) e) c.onto.ensures
 
-pub returns-then-is_err : goal.returns-then-is_err
-returns-then-is_err c = _
-
 pub onto-requires-clause-good : goal.onto-requires-clause-good
 onto-requires-clause-good c = c.requires.good
 

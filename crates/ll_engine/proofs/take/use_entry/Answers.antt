@@ -15,6 +15,7 @@ returns-else-entry-clause-used c =
       flag = c.args.context.now.present.flag;
       next = c.args.context.now.present.next;
       kept = c.args.context.now.present.kept;
+      keys = c.args.context.now.present.keys;
     }
 
 pub returns-else-entry-clause-marks : goal.returns-else-entry-clause-marks

@@ -3,15 +3,16 @@ use Rattle.std.specs.Prelude.{Some}
 use Rattle.std.proofs.lemmas.Result.{IfOk-from_err}
 use Rattle.ll_lists.proofs.CallerLemmas.{OnErr-always}
 use Rattle.ll_resources.specs.History.{History}
-use Rattle.ll_resources.specs.Raw.{Raw, raw, shown, kept_under, block_later}
+use Rattle.ll_resources.specs.Raw.{Raw, raw, shown, kept_under}
 use Rattle.ll_resources.specs.Resources.{Fits, settled, bang_end}
-use Rattle.ll_resources.proofs.RawLemmas.{number-inside, shown-bang-end, within-remarked}
-use Rattle.ll_resources.proofs.ChangeLemmas.{sound-same, sound-alike, sound-noted, marks-alike, marks-noted, within-now, within-along, history-alike}
+use Rattle.ll_resources.proofs.RawLemmas.{number-inside, shown-bang-end}
+use Rattle.ll_resources.proofs.ChainLemmas.{well-back}
+use Rattle.ll_resources.proofs.ChangeLemmas.{well-now, sound-same, sound-alike, sound-noted, marks-alike, marks-noted, within-now, history-alike}
 use Rattle.ll_resources.proofs.context.Context.bang_end.Goals as goal
 
 pub invariant_of-self : goal.invariant_of-self
 invariant_of-self g c =
-    sound-same c.self.inside.changes.items c.reserve.new.self.items (raw c.self.inside.state) _ _ c.reserve.ensures.items c.self.invariant
+    sound-same c.self.inside.changes.items c.reserve.new.self.items (raw c.self.inside.state) _ c.reserve.ensures.items c.self.invariant
 
 pub returns-in_err-reserve-clause-marks : goal.returns-in_err-reserve-clause-marks
 returns-in_err-reserve-clause-marks g c =
@@ -26,9 +27,9 @@ pub invariant_of-self-2 : goal.invariant_of-self-2
 invariant_of-self-2 g c =
     sound-noted c.self.inside.changes.items _ _ _ c.self.inside.state c.bang_end.new.self c.reserve.ensures.items c.push_reserved.ensures.items
     c.in_ok-change.ensures.leads
-    (within-along _ _ c.in_ok-change.ensures.ended (within-remarked (block_later c.args.saved.number (raw c.self.inside.state))
-    (kept_under c.args.saved.number (raw c.self.inside.state)).flag (raw c.self.inside.state)
-    (within-now c.self.inside.changes.items c.self.inside.state c.self.invariant))) c.self.invariant
+    (well-back c.args.saved.number (kept_under c.args.saved.number (raw c.self.inside.state)).flag _ _
+    (number-inside c.args.saved (raw c.self.inside.state) (subst (λ (h : History g.row.C.Denot). Fits c.args.saved h.present) (sym c.self.view_is) c.requires))
+    c.in_ok-change.ensures.ended (well-now c.self.inside.changes.items c.self.inside.state c.self.invariant)) c.self.invariant
 
 pub returns-clause-marks : goal.returns-clause-marks
 returns-clause-marks g c =
@@ -44,9 +45,9 @@ returns-clause-settles g c =
 
 pub invariant_of-self-in_err-change : goal.invariant_of-self-in_err-change
 invariant_of-self-in_err-change g c =
-    sound-alike c.self.inside.changes.items c.reserve.new.self.items (raw c.self.inside.state) (raw c.bang_end.new.self) _ _ _ _ c.reserve.ensures.items
+    sound-alike c.self.inside.changes.items c.reserve.new.self.items (raw c.self.inside.state) (raw c.bang_end.new.self) _ _ c.reserve.ensures.items
     c.in_err-change.ensures.refused
-    c.in_err-change.ensures.room.entries c.in_err-change.ensures.room.live c.self.invariant
+    c.in_err-change.ensures.room c.self.invariant
 
 pub returns-in_err-change-clause-marks : goal.returns-in_err-change-clause-marks
 returns-in_err-change-clause-marks g c =

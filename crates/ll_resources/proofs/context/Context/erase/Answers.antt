@@ -2,12 +2,13 @@ use Rattle.std.proofs.Common.{refl}
 use Rattle.std.proofs.lemmas.Result.{IfOk-from_err}
 use Rattle.ll_lists.proofs.CallerLemmas.{OnErr-always}
 use Rattle.ll_resources.specs.Raw.{raw}
-use Rattle.ll_resources.proofs.ChangeLemmas.{sound-same, sound-noted, marks-alike, marks-noted, within-now, within-along, history-alike}
+use Rattle.ll_resources.proofs.ChainLemmas.{well-erased}
+use Rattle.ll_resources.proofs.ChangeLemmas.{well-now, sound-same, sound-noted, marks-alike, marks-noted, history-alike}
 use Rattle.ll_resources.proofs.context.Context.erase.Goals as goal
 
 pub invariant_of-self : goal.invariant_of-self
 invariant_of-self g c =
-    sound-same c.self.inside.changes.items c.reserve.new.self.items (raw c.self.inside.state) _ _ c.reserve.ensures.items c.self.invariant
+    sound-same c.self.inside.changes.items c.reserve.new.self.items (raw c.self.inside.state) _ c.reserve.ensures.items c.self.invariant
 
 pub returns-in_err-reserve-clause-marks : goal.returns-in_err-reserve-clause-marks
 returns-in_err-reserve-clause-marks g c =
@@ -18,7 +19,7 @@ pub invariant_of-self-2 : goal.invariant_of-self-2
 invariant_of-self-2 g c =
     sound-noted c.self.inside.changes.items _ _ _ c.self.inside.state c.erase-change.new.self c.reserve.ensures.items c.push_reserved.ensures.items
     c.erase-change.ensures.leads
-    (within-along _ _ c.erase-change.ensures.erased (within-now c.self.inside.changes.items c.self.inside.state c.self.invariant)) c.self.invariant
+    (well-erased _ _ c.erase-change.ensures.erased (well-now c.self.inside.changes.items c.self.inside.state c.self.invariant)) c.self.invariant
 
 pub returns-clause-marks : goal.returns-clause-marks
 returns-clause-marks g c =

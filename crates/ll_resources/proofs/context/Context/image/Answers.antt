@@ -10,8 +10,8 @@ take_back-requires-clause-from g c =
 
 pub take_back-requires-clause-sound : goal.take_back-requires-clause-sound
 take_back-requires-clause-sound g c =
-    sound-alike c.self.inside.changes.items c.as_slice.result.now (raw c.self.inside.state) (raw c.in_ok-state.state) _ _ _ _
-    c.as_slice.ensures.value c.in_ok-state.ensures.state c.in_ok-state.ensures.room.entries c.in_ok-state.ensures.room.live c.self.invariant
+    sound-alike c.self.inside.changes.items c.as_slice.result.now (raw c.self.inside.state) (raw c.in_ok-state.state) _ _
+    c.as_slice.ensures.value c.in_ok-state.ensures.state c.in_ok-state.ensures.room c.self.invariant
 
 pub invariant_of-result : goal.invariant_of-result
 invariant_of-result g c =
@@ -28,7 +28,7 @@ returns-clause-image g c =
 
 pub returns-clause-same : goal.returns-clause-same
 returns-clause-same g c =
-    saved-marked c.self.inside.changes.items (raw c.self.inside.state) (raw c.take_back.new.self) _ _ c.args.self.now c.args.mark c.self.view_is
+    saved-marked c.self.inside.changes.items (raw c.self.inside.state) (raw c.take_back.new.self) _ c.args.self.now c.args.mark c.self.view_is
     (back-copied c.args.mark.changes c.self.inside.changes.items c.as_slice.result.now (raw c.self.inside.state) (raw c.in_ok-state.state)
     (raw c.take_back.new.self) c.as_slice.ensures.value c.in_ok-state.ensures.state c.take_back.ensures.state)
     c.self.invariant

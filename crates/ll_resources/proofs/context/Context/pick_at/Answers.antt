@@ -8,12 +8,13 @@ use Rattle.ll_resources.specs.Places.{label_place}
 use Rattle.ll_resources.specs.Raw.{Raw, raw, shown, raw_picked, mark_slot}
 use Rattle.ll_resources.proofs.RawLemmas.{shown-picked}
 use Rattle.ll_resources.proofs.PlaceLemmas.{place-seen}
-use Rattle.ll_resources.proofs.ChangeLemmas.{sound-same, sound-noted, marks-alike, marks-noted, within-now, within-along, history-alike}
+use Rattle.ll_resources.proofs.ChainLemmas.{well-picked}
+use Rattle.ll_resources.proofs.ChangeLemmas.{well-now, sound-same, sound-noted, marks-alike, marks-noted, history-alike}
 use Rattle.ll_resources.proofs.context.Context.pick_at.Goals as goal
 
 pub invariant_of-self : goal.invariant_of-self
 invariant_of-self g c =
-    sound-same c.self.inside.changes.items c.reserve.new.self.items (raw c.self.inside.state) _ _ c.reserve.ensures.items c.self.invariant
+    sound-same c.self.inside.changes.items c.reserve.new.self.items (raw c.self.inside.state) _ c.reserve.ensures.items c.self.invariant
 
 pub returns-in_err-reserve-clause-marks : goal.returns-in_err-reserve-clause-marks
 returns-in_err-reserve-clause-marks g c =
@@ -24,7 +25,8 @@ pub invariant_of-self-2 : goal.invariant_of-self-2
 invariant_of-self-2 g c =
     sound-noted c.self.inside.changes.items _ _ _ c.self.inside.state c.pick-change.new.self c.reserve.ensures.items c.push_reserved.ensures.items
     c.pick-change.ensures.leads
-    (within-along _ _ c.pick-change.ensures.picked (within-now c.self.inside.changes.items c.self.inside.state c.self.invariant)) c.self.invariant
+    (well-picked c.args.from_front _ _ c.pick-change.ensures.picked
+    (well-now c.self.inside.changes.items c.self.inside.state c.self.invariant)) c.self.invariant
 
 pub returns-clause-marks : goal.returns-clause-marks
 returns-clause-marks g c =

@@ -3,14 +3,15 @@ use Rattle.std.proofs.lemmas.Result.{IfOk-from_err}
 use Rattle.ll_lists.proofs.CallerLemmas.{OnErr-always}
 use Rattle.ll_resources.specs.Raw.{raw, shown}
 use Rattle.ll_resources.specs.Resources.{saved_as}
-use Rattle.ll_resources.proofs.RawLemmas.{within-kept, save-keeps, save-last}
-use Rattle.ll_resources.proofs.ChangeLemmas.{sound-same, sound-alike, sound-noted, marks-alike, marks-noted, within-now, within-along, number-kept, seen-saved}
+use Rattle.ll_resources.proofs.RawLemmas.{save-keeps, save-last}
+use Rattle.ll_resources.proofs.ChainLemmas.{well-kept}
+use Rattle.ll_resources.proofs.ChangeLemmas.{well-now, sound-same, sound-alike, sound-noted, marks-alike, marks-noted, within-now, number-kept, seen-saved}
 use Rattle.ll_resources.proofs.ChangeLemmas.{history-alike}
 use Rattle.ll_resources.proofs.context.Context.save.Goals as goal
 
 pub invariant_of-self : goal.invariant_of-self
 invariant_of-self g c =
-    sound-same c.self.inside.changes.items c.reserve.new.self.items (raw c.self.inside.state) _ _ c.reserve.ensures.items c.self.invariant
+    sound-same c.self.inside.changes.items c.reserve.new.self.items (raw c.self.inside.state) _ c.reserve.ensures.items c.self.invariant
 
 pub returns-in_err-reserve-clause-marks : goal.returns-in_err-reserve-clause-marks
 returns-in_err-reserve-clause-marks g c =
@@ -21,8 +22,7 @@ pub invariant_of-self-2 : goal.invariant_of-self-2
 invariant_of-self-2 g c =
     sound-noted c.self.inside.changes.items _ _ _ c.self.inside.state c.save.new.self c.reserve.ensures.items c.push_reserved.ensures.items
     c.in_ok-change.ensures.leads
-    (within-along _ _ c.in_ok-change.ensures.saved (within-kept c.self.inside.state.live.items (raw c.self.inside.state)
-    (within-now c.self.inside.changes.items c.self.inside.state c.self.invariant))) c.self.invariant
+    (well-kept _ _ c.in_ok-change.ensures.saved (well-now c.self.inside.changes.items c.self.inside.state c.self.invariant)) c.self.invariant
 
 pub returns-clause-marks : goal.returns-clause-marks
 returns-clause-marks g c =
@@ -53,8 +53,8 @@ returns-clause-same g c =
 
 pub invariant_of-self-in_err-change : goal.invariant_of-self-in_err-change
 invariant_of-self-in_err-change g c =
-    sound-alike c.self.inside.changes.items c.reserve.new.self.items (raw c.self.inside.state) (raw c.save.new.self) _ _ _ _ c.reserve.ensures.items
-    c.in_err-change.ensures.refused c.in_err-change.ensures.room.entries c.in_err-change.ensures.room.live c.self.invariant
+    sound-alike c.self.inside.changes.items c.reserve.new.self.items (raw c.self.inside.state) (raw c.save.new.self) _ _ c.reserve.ensures.items
+    c.in_err-change.ensures.refused c.in_err-change.ensures.room c.self.invariant
 
 pub returns-in_err-change-clause-marks : goal.returns-in_err-change-clause-marks
 returns-in_err-change-clause-marks g c =

@@ -11,15 +11,15 @@ take_back-requires-clause-from g c =
 
 pub take_back-requires-clause-sound : goal.take_back-requires-clause-sound
 take_back-requires-clause-sound g c =
-    sound-same c.self.inside.changes.items c.as_slice.result.now (raw c.self.inside.state) _ _ c.as_slice.ensures.value c.self.invariant
+    sound-same c.self.inside.changes.items c.as_slice.result.now (raw c.self.inside.state) _ c.as_slice.ensures.value c.self.invariant
 
 pub invariant_of-self : goal.invariant_of-self
 invariant_of-self g c =
-    sound-take c.args.mark.changes c.self.inside.changes.items _ (raw c.self.inside.state) _ _ _ _ _
+    sound-take c.args.mark.changes c.self.inside.changes.items _ (raw c.self.inside.state) _ _ _
     (mark-within c.self.inside.changes.items (raw c.self.inside.state) c.args.self.now c.args.mark c.self.view_is c.requires)
     c.truncate.ensures.items
     (c.take_back.ensures.state ∙ ap (λ cs. before (drop c.args.mark.changes cs) (raw c.self.inside.state)) c.as_slice.ensures.value)
-    c.take_back.ensures.room.entries c.take_back.ensures.room.live c.self.invariant
+    c.take_back.ensures.room c.self.invariant
 
 pub returns-clause-state : goal.returns-clause-state
 returns-clause-state g c =
@@ -34,5 +34,5 @@ returns-clause-marks g c =
 
 pub returns-clause-same : goal.returns-clause-same
 returns-clause-same g c =
-    saved-marked c.self.inside.changes.items (raw c.self.inside.state) (raw c.take_back.new.self) _ _ c.args.self.now c.args.mark c.self.view_is
+    saved-marked c.self.inside.changes.items (raw c.self.inside.state) (raw c.take_back.new.self) _ c.args.self.now c.args.mark c.self.view_is
     (c.take_back.ensures.state ∙ ap (λ cs. before (drop c.args.mark.changes cs) (raw c.self.inside.state)) c.as_slice.ensures.value) c.self.invariant

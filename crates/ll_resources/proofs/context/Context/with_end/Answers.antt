@@ -1,19 +1,20 @@
-use Rattle.std.proofs.Common.{◌≡◌, ◌||◌, ◌&&◌, refl, ap, sym, subst, ◌∙◌, IfSome}
+use Rattle.std.proofs.Common.{◌≡◌, refl, ap, sym, subst, ◌∙◌, IfSome}
 use Rattle.std.specs.Prelude.{is_some, true, false, IsNone}
 use Rattle.std.proofs.lemmas.Result.{IfOk-from_err}
 use Rattle.ll_lists.proofs.CallerLemmas.{OnErr-always}
 use Rattle.ll_resources.specs.History.{History}
 use Rattle.ll_resources.specs.Resources.{settled, with_end, Fits}
-use Rattle.ll_resources.specs.Raw.{raw, Agrees, Joins, kept_under}
+use Rattle.ll_resources.specs.Raw.{raw, Agrees, Joins}
 use Rattle.ll_resources.specs.Changes.{Leads, history}
 use Rattle.ll_resources.specs.declared.state.State.{State}
-use Rattle.ll_resources.proofs.RawLemmas.{number-inside, shown-joined, shown-apart, within-remarked}
-use Rattle.ll_resources.proofs.ChangeLemmas.{sound-same, sound-alike, sound-noted, marks-alike, marks-noted, within-now, within-along, history-alike}
+use Rattle.ll_resources.proofs.RawLemmas.{number-inside, shown-joined, shown-apart}
+use Rattle.ll_resources.proofs.ChainLemmas.{well-joined}
+use Rattle.ll_resources.proofs.ChangeLemmas.{well-now, sound-same, sound-alike, sound-noted, marks-alike, marks-noted, within-now, history-alike}
 use Rattle.ll_resources.proofs.context.Context.with_end.Goals as goal
 
 pub invariant_of-self : goal.invariant_of-self
 invariant_of-self g c =
-    sound-same c.self.inside.changes.items c.reserve.new.self.items (raw c.self.inside.state) _ _ c.reserve.ensures.items c.self.invariant
+    sound-same c.self.inside.changes.items c.reserve.new.self.items (raw c.self.inside.state) _ c.reserve.ensures.items c.self.invariant
 
 pub returns-in_err-reserve-clause-marks : goal.returns-in_err-reserve-clause-marks
 returns-in_err-reserve-clause-marks g c =
@@ -35,10 +36,7 @@ invariant_of-self-2 g c =
     c.in_ok-change.ensures.joins in
     sound-noted c.self.inside.changes.items _ _ _ c.self.inside.state c.with_end.new.self c.reserve.ensures.items c.push_reserved.ensures.items
     (subst (λ done. IfSome done (λ change. Leads change c.self.inside.state c.with_end.new.self)) c.in-Some.is c.in_ok-change.ensures.leads)
-    (within-along _ _ j.state (within-remarked c.with_end.new.self.live.items
-    ((kept_under c.args.saved.number (raw c.self.inside.state)).flag
-    || ((kept_under c.args.half.number (raw c.self.inside.state)).flag && c.self.inside.state.flag)) (raw c.self.inside.state)
-    (within-now c.self.inside.changes.items c.self.inside.state c.self.invariant))) c.self.invariant
+    (well-joined c.args.saved.number c.args.half.number _ _ j (well-now c.self.inside.changes.items c.self.inside.state c.self.invariant)) c.self.invariant
 
 pub returns-clause-marks : goal.returns-clause-marks
 returns-clause-marks g c =
@@ -71,8 +69,8 @@ returns-in_default-clause-settles g c =
 
 pub invariant_of-self-in_err-change : goal.invariant_of-self-in_err-change
 invariant_of-self-in_err-change g c =
-    sound-alike c.self.inside.changes.items c.reserve.new.self.items (raw c.self.inside.state) (raw c.with_end.new.self) _ _ _ _ c.reserve.ensures.items
-    c.in_err-change.ensures.refused c.in_err-change.ensures.room.entries c.in_err-change.ensures.room.live c.self.invariant
+    sound-alike c.self.inside.changes.items c.reserve.new.self.items (raw c.self.inside.state) (raw c.with_end.new.self) _ _ c.reserve.ensures.items
+    c.in_err-change.ensures.refused c.in_err-change.ensures.room c.self.invariant
 
 pub returns-in_err-change-clause-marks : goal.returns-in_err-change-clause-marks
 returns-in_err-change-clause-marks g c =
@@ -82,8 +80,8 @@ returns-in_err-change-clause-marks g c =
 pub invariant_of-self-in_default : goal.invariant_of-self-in_default
 invariant_of-self-in_default g c =
     let same = subst (λ done. IsNone done → c.with_end.new.self ≡ c.self.inside.state) c.in_default.is c.in_ok-change.ensures.same in
-    sound-alike c.self.inside.changes.items c.reserve.new.self.items (raw c.self.inside.state) (raw c.with_end.new.self) _ _ _ _ c.reserve.ensures.items
-    (ap (λ (t : State g.row.C.Denot). raw t) (same refl)) c.in_ok-change.ensures.room.entries c.in_ok-change.ensures.room.live c.self.invariant
+    sound-alike c.self.inside.changes.items c.reserve.new.self.items (raw c.self.inside.state) (raw c.with_end.new.self) _ _ c.reserve.ensures.items
+    (ap (λ (t : State g.row.C.Denot). raw t) (same refl)) c.in_ok-change.ensures.room c.self.invariant
 
 pub returns-in_default-clause-marks : goal.returns-in_default-clause-marks
 returns-in_default-clause-marks g c =

@@ -2,16 +2,17 @@ use Rattle.std.proofs.Common.{refl, ap, sym, subst}
 use Rattle.std.proofs.lemmas.Result.{IfOk-from_err}
 use Rattle.ll_lists.proofs.CallerLemmas.{OnErr-always}
 use Rattle.ll_resources.specs.History.{History}
-use Rattle.ll_resources.specs.Raw.{raw, shown, block_later}
+use Rattle.ll_resources.specs.Raw.{raw, shown}
 use Rattle.ll_resources.specs.Resources.{Fits, saved_as}
-use Rattle.ll_resources.proofs.RawLemmas.{number-inside, within-kept, mid-keeps, mid-settles}
-use Rattle.ll_resources.proofs.ChangeLemmas.{sound-same, sound-alike, sound-noted, marks-alike, marks-noted, within-now, within-along, number-kept, seen-mid}
+use Rattle.ll_resources.proofs.RawLemmas.{number-inside, mid-keeps, mid-settles}
+use Rattle.ll_resources.proofs.ChainLemmas.{well-mid}
+use Rattle.ll_resources.proofs.ChangeLemmas.{well-now, sound-same, sound-alike, sound-noted, marks-alike, marks-noted, within-now, number-kept, seen-mid}
 use Rattle.ll_resources.proofs.ChangeLemmas.{history-alike}
 use Rattle.ll_resources.proofs.context.Context.with_mid.Goals as goal
 
 pub invariant_of-self : goal.invariant_of-self
 invariant_of-self g c =
-    sound-same c.self.inside.changes.items c.reserve.new.self.items (raw c.self.inside.state) _ _ c.reserve.ensures.items c.self.invariant
+    sound-same c.self.inside.changes.items c.reserve.new.self.items (raw c.self.inside.state) _ c.reserve.ensures.items c.self.invariant
 
 pub returns-in_err-reserve-clause-marks : goal.returns-in_err-reserve-clause-marks
 returns-in_err-reserve-clause-marks g c =
@@ -26,8 +27,9 @@ pub invariant_of-self-2 : goal.invariant_of-self-2
 invariant_of-self-2 g c =
     sound-noted c.self.inside.changes.items _ _ _ c.self.inside.state c.with_mid.new.self c.reserve.ensures.items c.push_reserved.ensures.items
     c.in_ok-change.ensures.leads
-    (within-along _ _ c.in_ok-change.ensures.middle (within-kept (block_later c.args.saved.number (raw c.self.inside.state)) (raw c.self.inside.state)
-    (within-now c.self.inside.changes.items c.self.inside.state c.self.invariant))) c.self.invariant
+    (well-mid c.args.saved.number _ _
+    (number-inside c.args.saved (raw c.self.inside.state) (subst (λ (h : History g.row.C.Denot). Fits c.args.saved h.present) (sym c.self.view_is) c.requires))
+    c.in_ok-change.ensures.middle (well-now c.self.inside.changes.items c.self.inside.state c.self.invariant)) c.self.invariant
 
 pub returns-clause-marks : goal.returns-clause-marks
 returns-clause-marks g c =
@@ -41,9 +43,9 @@ returns-clause-middle g c =
 
 pub invariant_of-self-in_err-change : goal.invariant_of-self-in_err-change
 invariant_of-self-in_err-change g c =
-    sound-alike c.self.inside.changes.items c.reserve.new.self.items (raw c.self.inside.state) (raw c.with_mid.new.self) _ _ _ _ c.reserve.ensures.items
+    sound-alike c.self.inside.changes.items c.reserve.new.self.items (raw c.self.inside.state) (raw c.with_mid.new.self) _ _ c.reserve.ensures.items
     c.in_err-change.ensures.refused
-    c.in_err-change.ensures.room.entries c.in_err-change.ensures.room.live c.self.invariant
+    c.in_err-change.ensures.room c.self.invariant
 
 pub returns-clause-number : goal.returns-clause-number
 returns-clause-number g c =

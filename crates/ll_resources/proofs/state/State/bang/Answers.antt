@@ -34,7 +34,7 @@ pub returns-clause-refused : goal.returns-clause-refused
 returns-clause-refused g c = _
 
 pub returns-in_err-from-clause-room : goal.returns-in_err-from-clause-room
-returns-in_err-from-clause-room g c = record { entries = le_refl _; live = le_refl _ }
+returns-in_err-from-clause-room g c = record { entries = le_refl _; live = le_refl _; keys = le_refl _ }
 
 pub returns-clause-leads : goal.returns-clause-leads
 returns-clause-leads g c =
@@ -42,11 +42,11 @@ returns-clause-leads g c =
     let marks : c.note.new.self.marks.items ≡ old.saves.marks.items ++ old.live.items =
     c.in_ok-from.ensures.marks ∙ ap (λ ms. old.saves.marks.items ++ ms) c.as_slice.ensures.value in
     record {
-      back = (λ i. taken_back (Remarked (c.in_ok-from.ensures.from i) old.flag)
+      back = (λ i. taken_back (Remarked (c.in_ok-from.ensures.from i) old.flag old.skips)
           (record (raw old) { live = c.clear.new.self.items; marks = marks i; kept = c.in_ok-from.ensures.kept i }))
           ∙ back-remarked c.clear.new.self.items old.flag (raw old);
-      room = record { entries = le_refl _; live = le-same c.clear.ensures.capacity };
+      room = record { entries = le_refl _; live = le-same c.clear.ensures.capacity; keys = le_refl _ };
     }
 
 pub returns-clause-room : goal.returns-clause-room
-returns-clause-room g c = record { entries = le_refl _; live = le-same c.clear.ensures.capacity }
+returns-clause-room g c = record { entries = le_refl _; live = le-same c.clear.ensures.capacity; keys = le_refl _ }

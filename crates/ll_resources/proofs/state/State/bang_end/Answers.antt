@@ -1,4 +1,4 @@
-use Rattle.std.proofs.Common.{◌≡◌, length, get_or, ap, ◌∙◌, ◌++◌, false}
+use Rattle.std.proofs.Common.{sym, Bool, ◌≡◌, length, get_or, ap, ◌∙◌, ◌++◌, false, ◌&&◌}
 use Rattle.std.proofs.lemmas.Result.{IfOk-from_err}
 use Rattle.ll_resources.specs.Saves.{block_of}
 use Rattle.ll_resources.proofs.ChangeLemmas.{none_kept, back-remarked}
@@ -6,10 +6,11 @@ use Rattle.ll_lists.proofs.CallerLemmas.{OnErr-always}
 use Rattle.ll_resources.specs.declared.saves.Kept.{Kept}
 use Rattle.ll_resources.specs.declared.state.State.{State}
 use Rattle.ll_resources.specs.declared.state.Change.TheVariants.{Remarked}
-use Rattle.ll_resources.specs.Raw.{raw, block_later, kept_under}
+use Rattle.ll_resources.specs.Raw.{raw, block_later, kept_under, is_younger}
 use Rattle.ll_resources.specs.Changes.{taken_back}
 use Rattle.std.proofs.Math.Nat.{le_refl, le_trans}
 use Rattle.ll_resources.proofs.RoomLemmas.{le-reserved}
+use Rattle.ll_resources.proofs.state.State.bang_end.Goals.{then-skips, else-skips}
 use Rattle.ll_resources.proofs.state.State.bang_end.Goals as goal
 
 pub put_marks-requires : goal.put_marks-requires
@@ -35,7 +36,7 @@ pub returns-clause-refused : goal.returns-clause-refused
 returns-clause-refused g c = _
 
 pub returns-in_err-reserve-clause-room : goal.returns-in_err-reserve-clause-room
-returns-in_err-reserve-clause-room g c = record { entries = le_refl _; live = c.reserve.ensures.capacity }
+returns-in_err-reserve-clause-room g c = record { entries = le_refl _; live = c.reserve.ensures.capacity; keys = le_refl _ }
 
 pub returns-in_err-reserve-clause-refused : goal.returns-in_err-reserve-clause-refused
 returns-in_err-reserve-clause-refused g c =
@@ -44,7 +45,7 @@ returns-in_err-reserve-clause-refused g c =
     OnErr-always c.from_residual.result same
 
 pub returns-in_err-from-clause-room : goal.returns-in_err-from-clause-room
-returns-in_err-from-clause-room g c = record { entries = le_refl _; live = c.reserve.ensures.capacity }
+returns-in_err-from-clause-room g c = record { entries = le_refl _; live = c.reserve.ensures.capacity; keys = le_refl _ }
 
 pub returns-in_err-from-clause-refused : goal.returns-in_err-from-clause-refused
 returns-in_err-from-clause-refused g c =
@@ -59,7 +60,7 @@ returns-in_err-from-clause-refused g c =
 pub returns-clause-ended : goal.returns-clause-ended
 returns-clause-ended g c =
     let old = c.args.self.now in
-    let none : Kept = record { count = 0; from = 0; to = 0; flag = false } in
+    let none : Kept = record { count = 0; next = 0; from = 0; to = 0; flag = false; skips = false } in
     let marks : c.note.new.self.marks.items ≡ old.saves.marks.items ++ old.live.items =
     c.in_ok-from.ensures.marks ∙ ap (λ ms. old.saves.marks.items ++ ms) (c.as_slice.ensures.value ∙ c.in_ok-reserve.ensures.items) in
     let live : c.put_marks.new.live.items ≡ block_later c.args.number (raw old) =
@@ -67,7 +68,13 @@ returns-clause-ended g c =
     ∙ (c.live.ensures none ∙ (λ i. block_of (marks i) (get_or (c.in_ok-from.ensures.kept i) c.args.number none))) in
     let flag : c.flag-self.result ≡ (kept_under c.args.number (raw old)).flag =
     c.flag-self.ensures none ∙ (λ i. (get_or (c.in_ok-from.ensures.kept i) c.args.number none).flag) in
-    λ i. record (raw old) { live = live i; flag = flag i; marks = marks i; kept = c.in_ok-from.ensures.kept i }
+    let younger : Bool = is_younger c.args.number (raw old) in
+    let skips : c.if-skips.self ≡ (old.skips && younger) = elim c.if-skips.branch [
+      | then-skips w ↦ w.self-is ∙ (w.is_younger-self.ensures ∙ (λ i. is_younger c.args.number (record
+          (raw old) { kept = c.in_ok-from.ensures.kept i })) ∙ sym (ap (λ b. b && younger) w.if-skips.true))
+      | else-skips w ↦ w.self-is ∙ (w.if-skips.false ∙ sym (ap (λ b. b && younger) w.if-skips.false))
+    ] in
+    λ i. record (raw old) { live = live i; flag = flag i; skips = skips i; marks = marks i; kept = c.in_ok-from.ensures.kept i }
 
 pub returns-clause-leads : goal.returns-clause-leads
 returns-clause-leads g c =
@@ -75,11 +82,11 @@ returns-clause-leads g c =
     let marks : c.note.new.self.marks.items ≡ old.saves.marks.items ++ old.live.items =
     c.in_ok-from.ensures.marks ∙ ap (λ ms. old.saves.marks.items ++ ms) (c.as_slice.ensures.value ∙ c.in_ok-reserve.ensures.items) in
     record {
-      back = (λ i. taken_back (Remarked (c.in_ok-from.ensures.from i) old.flag)
+      back = (λ i. taken_back (Remarked (c.in_ok-from.ensures.from i) old.flag old.skips)
           (record (raw old) { live = c.put_marks.new.live.items; flag = c.flag-self.result; marks = marks i; kept = c.in_ok-from.ensures.kept i }))
           ∙ back-remarked c.put_marks.new.live.items c.flag-self.result (raw old);
-      room = record { entries = le_refl _; live = le_trans c.reserve.ensures.capacity c.put_marks.ensures.room };
+      room = record { entries = le_refl _; live = le_trans c.reserve.ensures.capacity c.put_marks.ensures.room; keys = le_refl _ };
     }
 
 pub returns-clause-room : goal.returns-clause-room
-returns-clause-room g c = record { entries = le_refl _; live = le_trans c.reserve.ensures.capacity c.put_marks.ensures.room }
+returns-clause-room g c = record { entries = le_refl _; live = le_trans c.reserve.ensures.capacity c.put_marks.ensures.room; keys = le_refl _ }

@@ -1,8 +1,8 @@
 use Rattle.std.proofs.lemmas.Result.{IfOk-from_err}
-use Rattle.std.proofs.Common.{◌≡◌, Bool, List, ◌++◌, ap, ◌∙◌}
+use Rattle.std.proofs.Common.{◌≡◌, Bool, List, length, ◌++◌, ap, ◌∙◌}
 use Rattle.ll_resources.specs.declared.state.Stored.{Stored}
-use Rattle.ll_resources.specs.Raw.{raw}
-use Rattle.ll_resources.proofs.RoomLemmas.{le-along}
+use Rattle.ll_resources.specs.Raw.{raw, top_in}
+use Rattle.ll_resources.proofs.RoomLemmas.{le-along, le-same}
 use Rattle.ll_resources.proofs.state.State.copy.Goals as goal
 
 pub returns-in_err-entries-clause-state : goal.returns-in_err-entries-clause-state
@@ -48,10 +48,18 @@ returns-clause-state g c =
     let live : c.extend_from_slice-2.new.self.items ≡ old.live.items =
     c.in_ok-extend_from_slice-2.ensures.items
     ∙ (ap (λ (bs : List Bool). bs ++ c.as_slice-2.result.now) c.in_ok-live.ensures.items ∙ c.as_slice-2.ensures.value) in
-    λ i. record (raw old) { entries = entries i; live = live i; marks = c.in_ok-saves.ensures.marks i; kept = c.in_ok-saves.ensures.kept i }
+    let tops : c.in_ok-tops.tops.items ≡ old.tops.items = c.in_ok-tops.ensures.items ∙ c.as_slice-3.ensures.value in
+    λ i. record (raw old) {
+      entries = entries i;
+      live = live i;
+      marks = c.in_ok-saves.ensures.marks i;
+      kept = c.in_ok-saves.ensures.kept i;
+      tops = top_in (tops i);
+    }
 
 pub returns-clause-room : goal.returns-clause-room
 returns-clause-room g c = record {
   entries = le-along c.capacity.ensures c.in_ok-entries.ensures.capacity c.extend_from_slice.ensures.capacity;
   live = le-along c.capacity-2.ensures c.in_ok-live.ensures.capacity c.extend_from_slice-2.ensures.capacity;
+  keys = le-same (ap length (c.in_ok-tops.ensures.items ∙ c.as_slice-3.ensures.value));
 }

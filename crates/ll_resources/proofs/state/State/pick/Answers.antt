@@ -9,5 +9,5 @@ returns-clause-leads g c = record {
       s) c.set_mark.ensures.mark
       ∙ back-picked c.slot_of-at.result c.mark_in-live.result (raw c.args.self.now)
       (λ l. c.mark_in-live.ensures ∙ ap (λ xs. get_or xs c.slot_of-at.result false) c.as_slice.ensures.value);
-  room = record { entries = omega arith; live = omega (arith, c.set_mark.ensures.room) };
+  room = record { entries = omega arith; live = omega (arith, c.set_mark.ensures.room); keys = omega arith };
 }

@@ -22,7 +22,7 @@ pub returns-clause-refused : goal.returns-clause-refused
 returns-clause-refused g c = _
 
 pub returns-in_err-keep-clause-room : goal.returns-in_err-keep-clause-room
-returns-in_err-keep-clause-room g c = record { entries = le_refl _; live = le_refl _ }
+returns-in_err-keep-clause-room g c = record { entries = le_refl _; live = le_refl _; keys = le_refl _ }
 
 pub returns-in_err-keep-clause-refused : goal.returns-in_err-keep-clause-refused
 returns-in_err-keep-clause-refused g c =
@@ -41,9 +41,11 @@ returns-clause-saved g c =
     c.in_ok-keep.ensures.kept
     ∙ (λ i. old.saves.kept.items ++ record {
       count = count i;
+      next = old.next;
       from = length old.saves.marks.items;
       to = length old.saves.marks.items + length (c.as_slice.ensures.value i);
       flag = old.flag;
+      skips = old.skips;
     } ∷ []) in
     λ i. record (raw old) { flag = false; marks = marks i; kept = kept i }
 
@@ -60,14 +62,16 @@ returns-clause-leads g c =
     c.in_ok-keep.ensures.kept
     ∙ (λ i. old.saves.kept.items ++ record {
       count = count i;
+      next = old.next;
       from = length old.saves.marks.items;
       to = length old.saves.marks.items + length (c.as_slice.ensures.value i);
       flag = old.flag;
+      skips = old.skips;
     } ∷ []) in
     record {
       back = (λ i. taken_back Kept (record (raw old) { flag = false; marks = marks i; kept = kept i })) ∙ back-kept old.live.items (raw old);
-      room = record { entries = le_refl _; live = le_refl _ };
+      room = record { entries = le_refl _; live = le_refl _; keys = le_refl _ };
     }
 
 pub returns-clause-room : goal.returns-clause-room
-returns-clause-room g c = record { entries = le_refl _; live = le_refl _ }
+returns-clause-room g c = record { entries = le_refl _; live = le_refl _; keys = le_refl _ }

@@ -1,5 +1,6 @@
 use Rattle.std.proofs.Common.{◌≡◌, ◌≤◌, ◌-◌, length, drop}
-use Rattle.ll_resources.specs.Raw.{raw, HasNoLess}
+use Rattle.ll_resources.specs.Raw.{raw}
+use Rattle.ll_resources.specs.Chains.{HasNoLess}
 use Rattle.ll_resources.specs.Changes.{before}
 use Rattle.ll_resources.proofs.state.State.take_back.Given as goal
 

@@ -36,7 +36,7 @@ returns-clause-joins g c =
     let old = c.args.self.now in
     let marks : c.note.new.self.marks.items ≡ old.saves.marks.items ++ old.live.items =
     c.in_ok-from.ensures.marks ∙ ap (λ ms. old.saves.marks.items ++ ms) c.as_slice-2.ensures.value in
-    let none : Kept = record { count = 0; from = 0; to = 0; flag = false } in
+    let none : Kept = record { count = 0; next = 0; from = 0; to = 0; flag = false; skips = false } in
     let first : c.live.result.now ≡ block_later c.args.half (raw old) =
     c.live.ensures none ∙ (λ i. block_of (marks i) (get_or (c.in_ok-from.ensures.kept i) c.args.half none)) in
     let flag : c.if-flag.self ≡ ((kept_under c.args.number (raw old)).flag || ((kept_under c.args.half (raw old)).flag && old.flag)) = search rules in
@@ -51,8 +51,8 @@ returns-clause-leads g c =
     let marks : c.note.new.self.marks.items ≡ old.saves.marks.items ++ old.live.items =
     c.in_ok-from.ensures.marks ∙ ap (λ ms. old.saves.marks.items ++ ms) c.as_slice-2.ensures.value in
     record {
-      back = (λ i. taken_back (Remarked (c.in_ok-from.ensures.from i) old.flag)
+      back = (λ i. taken_back (Remarked (c.in_ok-from.ensures.from i) old.flag old.skips)
           (record (raw old) { live = c.keep_both.new.second.items; flag = c.if-flag.self; marks = marks i; kept = c.in_ok-from.ensures.kept i }))
           ∙ back-remarked c.keep_both.new.second.items c.if-flag.self (raw old);
-      room = record { entries = omega arith; live = omega (arith, c.keep_both.ensures.room) };
+      room = record { entries = omega arith; live = omega (arith, c.keep_both.ensures.room); keys = omega arith };
     }

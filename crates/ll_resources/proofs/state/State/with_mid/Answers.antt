@@ -1,14 +1,15 @@
-use Rattle.std.proofs.Common.{◌≡◌, length, get_or, ap, ◌∙◌, [], ◌∷◌, ◌++◌, false}
+use Rattle.std.proofs.Common.{Bool, ◌&&◌, sym, ◌≡◌, length, get_or, ap, ◌∙◌, [], ◌∷◌, ◌++◌, false}
 use Rattle.std.proofs.lemmas.List.{get_or_append_left}
 use Rattle.std.proofs.lemmas.Result.{IfOk-from_err}
 use Rattle.ll_resources.specs.Saves.{block_of}
-use Rattle.ll_resources.specs.Raw.{Raw, raw, raw_kept, kept_now, block_later}
+use Rattle.ll_resources.specs.Raw.{Raw, raw, raw_kept, kept_now, block_later, is_younger}
 use Rattle.ll_resources.proofs.ChangeLemmas.{none_kept}
 use Rattle.ll_lists.proofs.CallerLemmas.{OnErr-always}
 use Rattle.ll_resources.specs.declared.state.State.{State}
 use Rattle.ll_resources.specs.declared.saves.Kept.{Kept}
 use Rattle.std.proofs.Math.Nat.{le_refl, le_trans}
 use Rattle.ll_resources.proofs.RoomLemmas.{le-reserved}
+use Rattle.ll_resources.proofs.state.State.with_mid.Goals.{then-self, else-self}
 use Rattle.ll_resources.proofs.state.State.with_mid.Goals as goal
 
 pub put_marks-requires : goal.put_marks-requires
@@ -43,7 +44,7 @@ pub returns-clause-refused : goal.returns-clause-refused
 returns-clause-refused g c = _
 
 pub returns-in_err-reserve-clause-room : goal.returns-in_err-reserve-clause-room
-returns-in_err-reserve-clause-room g c = record { entries = le_refl _; live = c.reserve.ensures.capacity }
+returns-in_err-reserve-clause-room g c = record { entries = le_refl _; live = c.reserve.ensures.capacity; keys = le_refl _ }
 
 pub returns-in_err-reserve-clause-refused : goal.returns-in_err-reserve-clause-refused
 returns-in_err-reserve-clause-refused g c =
@@ -55,6 +56,7 @@ pub returns-in_err-change-clause-room : goal.returns-in_err-change-clause-room
 returns-in_err-change-clause-room g c = record {
   entries = c.in_err-change.ensures.room.entries;
   live = le_trans c.reserve.ensures.capacity c.in_err-change.ensures.room.live;
+  keys = c.in_err-change.ensures.room.keys;
 }
 
 pub returns-clause-change : goal.returns-clause-change
@@ -63,7 +65,7 @@ returns-clause-change g c = c.in_ok-change.ensures.change
 pub returns-clause-middle : goal.returns-clause-middle
 returns-clause-middle g c =
     let old = c.args.self.now in
-    let none : Kept = record { count = 0; from = 0; to = 0; flag = false } in
+    let none : Kept = record { count = 0; next = 0; from = 0; to = 0; flag = false; skips = false } in
     let live : c.put_marks.new.live.items ≡ block_later c.args.number (raw old) =
     c.put_marks.ensures.marks
     ∙ (c.live.ensures none
@@ -71,11 +73,18 @@ returns-clause-middle g c =
     ∙ ((λ i. block_of (old.saves.marks.items ++ c.in_ok-reserve.ensures.items i) (get_or (old.saves.kept.items
     ++ kept_now (record (raw old) { live = c.in_ok-reserve.ensures.items i }) ∷ []) c.args.number none))
     ∙ ap (block_of (old.saves.marks.items ++ old.live.items)) (get_or_append_left old.saves.kept.items _ none c.args.number c.requires)))) in
-    ap (λ (r : Raw g.row.C.Denot). let s : Raw g.row.C.Denot = record r { live = c.put_marks.new.live.items } in s) c.in_ok-change.ensures.saved
-    ∙ (λ i. raw_kept (live i) (record (raw old) { live = c.in_ok-reserve.ensures.items i }))
+    let younger : Bool = is_younger c.args.number (raw old) in
+    let skips : c.if-self.skips ≡ (old.skips && younger) = elim c.if-self.branch [
+      | then-self w ↦ w.skips-is ∙ (w.is_younger-skips.ensures ∙ sym (ap (λ b. b && younger) w.if-self.true))
+      | else-self w ↦ w.skips-is ∙ (w.if-self.false ∙ sym (ap (λ b. b && younger) w.if-self.false))
+    ] in
+    ap (λ (r : Raw g.row.C.Denot). let s : Raw g.row.C.Denot = record r { live = c.put_marks.new.live.items; skips = c.if-self.skips } in s)
+    c.in_ok-change.ensures.saved
+    ∙ (λ i. record (raw_kept (live i) (record (raw old) { live = c.in_ok-reserve.ensures.items i })) { skips = skips i })
 
 pub returns-clause-room : goal.returns-clause-room
 returns-clause-room g c = record {
   entries = c.in_ok-change.ensures.room.entries;
   live = le_trans c.reserve.ensures.capacity (le_trans c.in_ok-change.ensures.room.live c.put_marks.ensures.room);
+  keys = c.in_ok-change.ensures.room.keys;
 }

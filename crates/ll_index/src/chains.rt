@@ -2,15 +2,15 @@
 ghost use Rattle.std.specs.Prelude.{◌≡◌, ◌<◌, ◌≤◌, ℕ, length, IfOk, slice_index};
 
 use crate::key::{Key, in_32_bits};
+use indexmap::IndexMap;
 use ll_bank::OutOfMemory;
 use std::alloc::Global;
-use std::collections::HashMap;
 
 /// For each key of a list its first place, and for each place the next one of the same key. Past the last one stands the end, which is
 /// the length of the list.
 #[derive(Drop)]
 pub(crate) struct Chains {
-    pub(crate) first: HashMap<Key, u32>,
+    pub(crate) first: IndexMap<Key, u32>,
     pub(crate) next: Vec<u32>,
     ghost rising: { (at : ℕ) → at < length next.items → (at < slice_index next.items at) × (slice_index next.items at ≤ length next.items) },
 }
@@ -23,7 +23,7 @@ impl Chains {
         ensures { IfOk result (IsChained keys.now) }
     {
         let end = in_32_bits(keys.len())?;
-        let mut first = HashMap::new(alloc);
+        let mut first = IndexMap::new(alloc);
         let mut next = vec![in alloc; end; keys.len()]?;
         for at in (0..keys.len()).rev() {
             next[at] = first.insert(keys[at], at as u32)?.unwrap_or(end);

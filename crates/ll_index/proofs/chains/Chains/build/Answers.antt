@@ -1,6 +1,6 @@
 use Rattle.std.proofs.Common.{◌≡◌, ◌<◌, ◌-◌, suc, length, length-set, drop, ◌∙◌, ap, subst, refl, arith}
 use Rattle.std.specs.Prelude.{unwrap_or, slice_set, slice_index_or}
-use Rattle.std.specs.HashMap.{get}
+use Rattle.indexmap.specs.IndexMap.{get}
 use Rattle.ll_index.specs.declared.key.Key.{Key}
 use Rattle.ll_index.specs.declared.key.Key.TheVariants.{Unnamed}
 use Rattle.ll_index.specs.Chained.{links_from, first_from}

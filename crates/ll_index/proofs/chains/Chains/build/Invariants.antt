@@ -1,6 +1,6 @@
 use Rattle.std.proofs.Common.{◌≡◌, length, drop}
 use Rattle.std.specs.Prelude.{unwrap_or}
-use Rattle.std.specs.HashMap.{get}
+use Rattle.indexmap.specs.IndexMap.{get}
 use Rattle.ll_index.specs.declared.key.Key.{Key}
 use Rattle.ll_index.specs.Chained.{first_from, links_from}
 use Rattle.ll_index.specs.Keys.{key_eq}

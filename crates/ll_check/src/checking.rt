@@ -9,6 +9,7 @@ ghost use Rattle.ll_laws.specs.Valid.{IsValid};
 ghost use Rattle.ll_laws.specs.Verdict.{DerivationShows};
 ghost use Rattle.ll_judge.specs.CallEnds.{Ends};
 ghost use Rattle.ll_check.specs.Counting.{is_counting};
+ghost use Rattle.ll_judge.specs.Told.{ShelfTold, SinkTold, StatusTold};
 ghost use Rattle.ll_judge.specs.Judging.{TextsAsk};
 ghost use Rattle.ll_words.specs.Words.{shown_check};
 ghost use Rattle.ll_check.specs.Outcome.{name_in_check, CheckComesTo, IsProved};
@@ -37,6 +38,7 @@ pub fn serve_check<F: Shelf, O: Sink>(
 
     ensures kept { ShelfKept F.texts F.faults F.absences F.log shelf.old shelf.new }
     ensures sink_faults_kept { O.faults sink.old ≤ O.faults sink.new }
+    ensures faults_told { StatusTold F.faults F.absences O.faults shelf.old shelf.new sink.old sink.new result }
 
     ensures ends { (told : Option Texts) → Fits told (F.log shelf.old) (F.log shelf.new)
         → Ends (CheckComesTo told (Met F.absences F.log shelf.old shelf.new NoText)
@@ -92,6 +94,8 @@ fn check_derivation<F: Shelf, O: Sink>(
 
     ensures kept { ShelfKept F.texts F.faults F.absences F.log shelf.old shelf.new }
     ensures sink_faults_kept { O.faults sink.old ≤ O.faults sink.new }
+    ensures shelf_told { ShelfTold F.faults F.absences shelf.old shelf.new result }
+    ensures sink_told { SinkTold (O.faults sink.old) (O.faults sink.new) result }
 
     ensures ends { (told : Option Texts) → Fits told (F.log shelf.old) (F.log shelf.new)
         → CheckEnds told (Met F.absences F.log shelf.old shelf.new NoText) (Met F.faults F.log shelf.old shelf.new Unreadable)
@@ -111,6 +115,7 @@ fn found<F: Shelf>(
     requires bound { IfSome command.now.bound (λ bound. bound ≤ 1000000) }
 
     ensures kept { ShelfKept F.texts F.faults F.absences F.log shelf.old shelf.new }
+    ensures shelf_told { ShelfTold F.faults F.absences shelf.old shelf.new result }
 
     ensures finds { (told : Option Texts) → Fits told (F.log shelf.old) (F.log shelf.new)
         → CheckFinds told (Met F.absences F.log shelf.old shelf.new NoText) (Met F.faults F.log shelf.old shelf.new Unreadable)

@@ -30,6 +30,7 @@ pub fn write_finding<O: Sink>(sink: &mut O, finding: Finding) -> Result<(), Writ
     ensures faults_kept { O.faults sink.old ≤ O.faults sink.new }
     ensures line { OnOk result (Some (O.taken sink.new) ≡ append_known (Some (O.taken sink.old)) (finding_text finding)) }
     ensures failed { OnErr result (Rose (O.faults sink.old) (O.faults sink.new)) }
+    ensures quiet { OnOk result (O.faults sink.new ≡ O.faults sink.old) }
     ensures prefix { OnErr result (AppendsFront (Some (O.taken sink.old)) (finding_text finding) (Some (O.taken sink.new))) }
 {
     match finding {
@@ -46,6 +47,7 @@ fn write_covered<O: Sink>(sink: &mut O, answer: u64) -> Result<(), WriteFailed>
     ensures faults_kept { O.faults sink.old ≤ O.faults sink.new }
     ensures line { OnOk result (Some (O.taken sink.new) ≡ append_known (Some (O.taken sink.old)) (covered_text answer)) }
     ensures failed { OnErr result (Rose (O.faults sink.old) (O.faults sink.new)) }
+    ensures quiet { OnOk result (O.faults sink.new ≡ O.faults sink.old) }
     ensures prefix { OnErr result (AppendsFront (Some (O.taken sink.old)) (covered_text answer) (Some (O.taken sink.new))) }
 {
     let mut digits = Buffer::new();
@@ -58,6 +60,7 @@ fn write_too_long<O: Sink>(sink: &mut O, nodes: usize, bound: u32) -> Result<(),
     ensures faults_kept { O.faults sink.old ≤ O.faults sink.new }
     ensures line { OnOk result (Some (O.taken sink.new) ≡ append_known (Some (O.taken sink.old)) (too_long_text nodes bound)) }
     ensures failed { OnErr result (Rose (O.faults sink.old) (O.faults sink.new)) }
+    ensures quiet { OnOk result (O.faults sink.new ≡ O.faults sink.old) }
     ensures prefix { OnErr result (AppendsFront (Some (O.taken sink.old)) (too_long_text nodes bound) (Some (O.taken sink.new))) }
 {
     let mut node_digits = Buffer::new();
@@ -76,6 +79,7 @@ fn write_too_long_fields<'a, O: Sink>(
     ensures faults_kept { O.faults sink.old ≤ O.faults sink.new }
     ensures line { OnOk result (Some (O.taken sink.new) ≡ append_known (Some (O.taken sink.old)) (too_long_fields nodes.now bound.now)) }
     ensures failed { OnErr result (Rose (O.faults sink.old) (O.faults sink.new)) }
+    ensures quiet { OnOk result (O.faults sink.new ≡ O.faults sink.old) }
     ensures prefix { OnErr result (AppendsFront (Some (O.taken sink.old)) (too_long_fields nodes.now bound.now) (Some (O.taken sink.new))) }
 {
     write_parts(
@@ -95,6 +99,7 @@ fn write_counts<O: Sink>(sink: &mut O, node: usize) -> Result<(), WriteFailed>
     ensures faults_kept { O.faults sink.old ≤ O.faults sink.new }
     ensures line { OnOk result (Some (O.taken sink.new) ≡ append_known (Some (O.taken sink.old)) (counts_text node)) }
     ensures failed { OnErr result (Rose (O.faults sink.old) (O.faults sink.new)) }
+    ensures quiet { OnOk result (O.faults sink.new ≡ O.faults sink.old) }
     ensures prefix { OnErr result (AppendsFront (Some (O.taken sink.old)) (counts_text node) (Some (O.taken sink.new))) }
 {
     let mut digits = Buffer::new();
@@ -107,6 +112,7 @@ fn write_yes<O: Sink>(sink: &mut O, nodes: usize) -> Result<(), WriteFailed>
     ensures faults_kept { O.faults sink.old ≤ O.faults sink.new }
     ensures line { OnOk result (Some (O.taken sink.new) ≡ append_known (Some (O.taken sink.old)) (yes_text nodes)) }
     ensures failed { OnErr result (Rose (O.faults sink.old) (O.faults sink.new)) }
+    ensures quiet { OnOk result (O.faults sink.new ≡ O.faults sink.old) }
     ensures prefix { OnErr result (AppendsFront (Some (O.taken sink.old)) (yes_text nodes) (Some (O.taken sink.new))) }
 {
     let mut digits = Buffer::new();
@@ -119,6 +125,7 @@ fn write_no<O: Sink>(sink: &mut O, node: usize, reason: u8) -> Result<(), WriteF
     ensures faults_kept { O.faults sink.old ≤ O.faults sink.new }
     ensures line { OnOk result (Some (O.taken sink.new) ≡ append_known (Some (O.taken sink.old)) (no_text node reason)) }
     ensures failed { OnErr result (Rose (O.faults sink.old) (O.faults sink.new)) }
+    ensures quiet { OnOk result (O.faults sink.new ≡ O.faults sink.old) }
     ensures prefix { OnErr result (AppendsFront (Some (O.taken sink.old)) (no_text node reason) (Some (O.taken sink.new))) }
 {
     let mut node_digits = Buffer::new();
@@ -141,6 +148,7 @@ fn write_no_fields<'a, O: Sink>(
     ensures faults_kept { O.faults sink.old ≤ O.faults sink.new }
     ensures line { OnOk result (Some (O.taken sink.new) ≡ append_known (Some (O.taken sink.old)) (no_fields node.now reason.now text.now)) }
     ensures failed { OnErr result (Rose (O.faults sink.old) (O.faults sink.new)) }
+    ensures quiet { OnOk result (O.faults sink.new ≡ O.faults sink.old) }
     ensures prefix { OnErr result (AppendsFront (Some (O.taken sink.old)) (no_fields node.now reason.now text.now) (Some (O.taken sink.new))) }
 {
     write_parts(

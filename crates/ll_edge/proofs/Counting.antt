@@ -1,5 +1,5 @@
 -- What the counts of a shelf and a sink say of an answer.
-use Rattle.std.proofs.Common.{◌≡◌, ℕ, ◌<◌, ◌≤◌, List, Result, Ok, Err, length, inl, inr, ap, arith, IfOk, OnErr}
+use Rattle.std.proofs.Common.{◌≡◌, ℕ, ◌<◌, ◌≤◌, List, Result, Ok, Err, length, inl, inr, refl, ap, arith, IfOk, OnErr}
 use Rattle.std.proofs.lemmas.Bool.{cases_lt}
 use Rattle.std.proofs.lemmas.Bool.Decides.{nat_tests}
 use Rattle.ll_edge.specs.Counts.{last_count, Rose, counted_up, Counts, counts_after, faults_after}
@@ -45,3 +45,17 @@ pub counts_no_absence : (before after : Counts) (answer : Got) → after ≡ cou
 counts_no_absence before after (Bytes n) e = ap (λ c. c.absences) e
 counts_no_absence before after Absent e = tt
 counts_no_absence before after Failed e = tt
+
+-- nor does an absence count a fault, or a failure an absence
+pub counts_absent_alone : (before after : Counts) (answer : Got) → after ≡ counts_after before answer → answer ≡ Absent → after.faults ≡ before.faults
+counts_absent_alone before after answer e absent = rw (e, absent) refl
+
+pub counts_failed_alone : (before after : Counts) (answer : Got) → after ≡ counts_after before answer → answer ≡ Failed
+    → after.absences ≡ before.absences
+counts_failed_alone before after answer e failed = rw (e, failed) refl
+
+-- an answer that takes some of a piece counts nothing
+pub faults_some_taken : (before after : ℕ) (piece : List ℕ) (answer : Result ℕ WriteFailed) → after ≡ faults_after before piece answer
+    → IfOk answer (λ n. 0 < n → after ≡ before)
+faults_some_taken before after piece (Err refusal) e = tt
+faults_some_taken before after piece (Ok n) e = λ some. grind (arith, nat_tests)

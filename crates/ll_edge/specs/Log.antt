@@ -102,3 +102,19 @@ ReadingEnds limit name before after (Err fault.Absent) = (bytes : List ℕ) × R
 ReadingEnds limit name before after (Err fault.Failed) = (bytes : List ℕ) × Reads name before after bytes Unreadable
 ReadingEnds limit name before after (Err fault.TooLong) = (bytes : List ℕ) × Hands name before after bytes × (length bytes ≡ limit + 1)
 ReadingEnds limit name before after (Err fault.OutOfMemory) = (bytes : List ℕ) × Hands name before after bytes
+
+-- A shelf's count of calls that failed, after a reading: it stands still, unless the reading ended since the text can't be read.
+abbrev pub FaultsOf : {A : Type 0} → Result A ReadFault → ℕ → ℕ → Type 0
+FaultsOf (Ok text) before after = after ≡ before
+FaultsOf (Err fault.Absent) before after = after ≡ before
+FaultsOf (Err fault.Failed) before after = Rose before after
+FaultsOf (Err fault.TooLong) before after = after ≡ before
+FaultsOf (Err fault.OutOfMemory) before after = after ≡ before
+
+-- Its count of calls that found no text: it stands still, unless the reading ended since there is none.
+abbrev pub AbsencesOf : {A : Type 0} → Result A ReadFault → ℕ → ℕ → Type 0
+AbsencesOf (Ok text) before after = after ≡ before
+AbsencesOf (Err fault.Absent) before after = Rose before after
+AbsencesOf (Err fault.Failed) before after = after ≡ before
+AbsencesOf (Err fault.TooLong) before after = after ≡ before
+AbsencesOf (Err fault.OutOfMemory) before after = after ≡ before

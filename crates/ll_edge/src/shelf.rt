@@ -41,6 +41,8 @@ pub trait Shelf {
         ensures absent { result ≡ Got.Absent → Rose (absences self.old) (absences self.new) }
         ensures no_fault { IfBytes result (λ _. faults self.new ≡ faults self.old) }
         ensures no_absence { IfBytes result (λ _. absences self.new ≡ absences self.old) }
+        ensures absent_alone { result ≡ Got.Absent → faults self.new ≡ faults self.old }
+        ensures failed_alone { result ≡ Got.Failed → absences self.new ≡ absences self.old }
         ensures fits { IfBytes result (λ n. n ≤ length buf.new) }
 
         ensures logs { log self.new ≡ logged (log self.old) name.now from (answer_of result buf.new) };

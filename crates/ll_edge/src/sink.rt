@@ -31,7 +31,8 @@ pub trait Sink {
         ensures none_taken { IfOk result
             (λ n. n ≡ 0 → 0 < length piece.now → Rose (faults self.old) (faults self.new)) }
 
-        ensures failed { OnErr result (Rose (faults self.old) (faults self.new)) };
+        ensures failed { OnErr result (Rose (faults self.old) (faults self.new)) }
+        ensures no_fault { IfOk result (λ n. 0 < n → faults self.new ≡ faults self.old) };
 
     // Where what was written is told, it grows by what calls take.
     ghost told: { (before after : Self) (more : List ℕ) → taken after ≡ taken before ++ more
@@ -46,6 +47,7 @@ pub fn write_all<O: Sink>(sink: &mut O, piece: &[u8]) -> Result<(), WriteFailed>
         (O.written sink.new ≡ append_known (O.written sink.old) piece.now) }
 
     ensures failed { OnErr result (Rose (O.faults sink.old) (O.faults sink.new)) }
+    ensures no_fault { OnOk result (O.faults sink.new ≡ O.faults sink.old) }
     ensures takes_front { OnErr result (TakesFront (O.taken sink.old) piece.now (O.taken sink.new)) }
     ensures prefix { OnErr result
         (AppendsFront (O.written sink.old) piece.now (O.written sink.new)) }

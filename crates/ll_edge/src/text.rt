@@ -1,7 +1,7 @@
 // Reading a whole text.
 ghost use Rattle.std.specs.Prelude.{◌≡◌, ◌<◌, ◌≤◌, length, vec_len, Some, None, IfOk, IfSome, IsErrOf, IsSomeAnd};
 ghost use Rattle.ll_edge.specs.Counts.{Rose};
-ghost use Rattle.ll_edge.specs.Log.{ShelfKept, ReadingEnds};
+ghost use Rattle.ll_edge.specs.Log.{ShelfKept, ReadingEnds, FaultsOf, AbsencesOf};
 ghost use Rattle.ll_edge.specs.Texts.{text_of};
 
 use crate::shelf::{Got, Shelf};
@@ -60,6 +60,8 @@ pub fn read_text<F: Shelf>(
         → Rose (F.absences shelf.old) (F.absences shelf.new) }
     ensures failed { IsErrOf result ReadFault.Failed
         → Rose (F.faults shelf.old) (F.faults shelf.new) }
+    ensures failed_alone { FaultsOf result (F.faults shelf.old) (F.faults shelf.new) }
+    ensures absent_alone { AbsencesOf result (F.absences shelf.old) (F.absences shelf.new) }
 
     ensures reading { ReadingEnds limit name.now (F.log shelf.old) (F.log shelf.new) result }
 

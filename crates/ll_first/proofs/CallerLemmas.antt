@@ -30,5 +30,7 @@ pub use Rattle.ll_first.proofs.FirstLemmas.{all_given}
 pub use Rattle.ll_first.proofs.FirstLemmas.{enough_given}
 -- where it has not, a prefix of these was, and the outlet within may have refused the next one
 pub use Rattle.ll_first.proofs.FirstLemmas.{prefix_within}
+-- and it has taken fewer answers than are wanted
+pub use Rattle.ll_first.proofs.FirstLemmas.{fewer_within}
 -- a number that is less is not enough
 pub use Rattle.ll_first.proofs.FirstLemmas.{not_enough}

@@ -102,6 +102,32 @@ module _ {U E : Type 0} (state : U → Held E) (takes breaks : E → Event → E
               upto_enough es (limit (state x).out) (r.front ++ r.refused ∷ []) is,
             )
 
+    -- where it goes on and has stopped, the outlet within refused the event
+    declines : (z y : U) (e : Event) → (state y).ended ≡ false → Stops z e y → (state z).ended ≡ false
+        → Declines takes breaks faults limit answers (state z) e (state y)
+    declines z y e going stops before = by_reason stops.why
+      where
+        by_reason : HadEnough takes breaks faults limit answers (state z) e (state y)
+            ⊎ (Declines takes breaks faults limit answers (state z) e (state y) ⊎ ((state z).ended ≡ true))
+            → Declines takes breaks faults limit answers (state z) e (state y)
+        by_reason (inl h) = absurd (true≢false (sym h.over ∙ going))
+        by_reason (inr (inl d)) = d
+        by_reason (inr (inr t)) = absurd (true≢false (sym t ∙ before))
+
+    -- and it has taken fewer answers than are wanted
+    pub fewer_within : (keeps : (before : E) (e : Event) (after : E) → breaks before e after
+        → (limit after ≡ limit before) × (answers after ≡ answers before)) (y : U) (es : List Event) → (state y).ended ≡ false → GivesPrefix Goes Stops x es y
+        → answers (state y).out < limit (state x).out
+    fewer_within keeps y es going (inl (front, back, order, g)) =
+        let few = fewer_on x y front g few_first in
+        let same = (counted_within (state y).out front (given_within x y front g)).0 in omega arith
+    fewer_within keeps y es going (inr r) =
+        let d = declines r.between y r.refused going r.broke (going_on x r.between r.front r.given starts) in
+        let few = fewer_on x r.between r.front r.given few_first in
+        let same = (counted_within (state r.between).out r.front (given_within x r.between r.front r.given)).0 in
+        let kept = keeps (state r.between).out r.refused (state y).out d.broke in
+        let more = kept.1 in omega arith
+
     -- it refused an event, or a prefix was given: what was given has fewer answers
     pub prefix_within : (y : U) (es : List Event) → (state y).ended ≡ false → GivesPrefix Goes Stops x es y
         → GivesPrefix takes breaks (state x).out (first_of es (limit (state x).out)) (state y).out
@@ -115,20 +141,10 @@ module _ {U E : Type 0} (state : U → Held E) (takes breaks : E → Event → E
             let m = upto_past given back (limit (state x).out) front few (ap (λ l. upto l (limit (state x).out)) (sym order) ∙ h) in
             inl (given, m.0, m.1, w)
 
-        all_refused : (z : U) (e : Event) → Stops z e y → (state z).ended ≡ false → Declines takes breaks faults limit answers (state z) e (state y)
-        all_refused z e stops before = by_reason stops.why
-          where
-            by_reason : HadEnough takes breaks faults limit answers (state z) e (state y)
-                ⊎ (Declines takes breaks faults limit answers (state z) e (state y) ⊎ ((state z).ended ≡ true))
-                → Declines takes breaks faults limit answers (state z) e (state y)
-            by_reason (inl h) = absurd (true≢false (sym h.over ∙ going))
-            by_reason (inr (inl d)) = d
-            by_reason (inr (inr t)) = absurd (true≢false (sym t ∙ before))
-
         declined : (r : Refuses Goes Stops x es y) (order' : List Event) (back' : List Event) → order' ≡ r.front ++ r.refused ∷ back'
             → Refuses takes breaks (state x).out order' (state y).out
         declined r order' back' order =
-            let d = all_refused r.between r.refused r.broke (going_on x r.between r.front r.given starts) in
+            let d = declines r.between y r.refused going r.broke (going_on x r.between r.front r.given starts) in
             record {
               front = r.front;
               refused = r.refused;

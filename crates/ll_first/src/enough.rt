@@ -41,7 +41,8 @@ pub trait Enough: Outlet {
 /// An outlet that hands each event on to the one within, and counts the answers that this one took.
 #[derive(Drop)]
 pub struct First<O> {
-    out: O,
+    /// The outlet within.
+    pub out: O,
     limit: u64,
     answers: u64,
     pub ghost limited: { IsLimit limit },

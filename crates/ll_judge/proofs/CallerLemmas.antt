@@ -16,3 +16,27 @@ pub use Rattle.ll_judge.proofs.OutcomeLemmas.{refuses-later}
 pub use Rattle.ll_judge.proofs.OutcomeLemmas.{refused-ends}
 -- a fault line ends with the status of its cause, or with 6 where a write failed
 pub use Rattle.ll_judge.proofs.OutcomeLemmas.{refused-status}
+-- counts of a shelf that stand still tell nothing
+pub use Rattle.ll_judge.proofs.ToldLemmas.{shelf-still}
+-- nor do they where a call is given the texts that were read
+pub use Rattle.ll_judge.proofs.ToldLemmas.{shelf-read}
+-- what a reading tells is told of it and of readings before it
+pub use Rattle.ll_judge.proofs.ToldLemmas.{shelf-later}
+-- and by each call that passes the refusal on
+pub use Rattle.ll_judge.proofs.ToldLemmas.{shelf-refused}
+-- a sink's count that stands still tells nothing
+pub use Rattle.ll_judge.proofs.ToldLemmas.{sink-still}
+-- what a call that writes tells is told of it and of what was written before
+pub use Rattle.ll_judge.proofs.ToldLemmas.{sink-later}
+-- a status tells the faults where there are none
+pub use Rattle.ll_judge.proofs.ToldLemmas.{status-quiet}
+-- and so where no shelf was called
+pub use Rattle.ll_judge.proofs.ToldLemmas.{status-shelfless}
+-- where the work was done
+pub use Rattle.ll_judge.proofs.ToldLemmas.{status-done}
+-- where a write failed
+pub use Rattle.ll_judge.proofs.ToldLemmas.{status-unwritable}
+-- where memory ran out
+pub use Rattle.ll_judge.proofs.ToldLemmas.{status-memory}
+-- and where a text was refused
+pub use Rattle.ll_judge.proofs.ToldLemmas.{status-refused}

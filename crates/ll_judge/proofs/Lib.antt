@@ -3,5 +3,6 @@ pub mod FaultExamples
 pub mod GrammarLemmas
 pub mod PrepareLemmas
 pub mod OutcomeLemmas
+pub mod ToldLemmas
 pub mod ConvertLemmas
 pub mod CallerLemmas

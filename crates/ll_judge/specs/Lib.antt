@@ -5,3 +5,4 @@ pub mod CallEnds
 pub mod Endings
 pub mod Converting
 pub mod ConvertEnds
+pub mod Told

@@ -7,6 +7,7 @@ ghost use Rattle.ll_prooftext.specs.Sizes.{text_in};
 ghost use Rattle.ll_prooftext.specs.Versions.{IsProofText};
 ghost use Rattle.ll_judge.specs.CallEnds.{Ends};
 ghost use Rattle.ll_judge.specs.Converting.{own_names, ConvertComesTo};
+ghost use Rattle.ll_judge.specs.Told.{ShelfTold, StatusTold};
 ghost use Rattle.ll_judge.specs.ConvertEnds.{IsConversionOf, Converts};
 ghost use Rattle.ll_words.specs.Words.{shown_convert};
 
@@ -44,6 +45,7 @@ pub fn serve_convert<F: Shelf, O: Sink>(
 
     ensures kept { ShelfKept F.texts F.faults F.absences F.log shelf.old shelf.new }
     ensures sink_faults_kept { O.faults sink.old ≤ O.faults sink.new }
+    ensures faults_told { StatusTold F.faults F.absences O.faults shelf.old shelf.new sink.old sink.new result }
 
     ensures ends { (told : Option Texts) → Fits told (F.log shelf.old) (F.log shelf.new)
         → Ends (ConvertComesTo told (Met F.absences F.log shelf.old shelf.new NoText)
@@ -71,6 +73,7 @@ fn conversion<F: Shelf>(
     requires version { (convert.now.version ≡ 1) ⊎ (convert.now.version ≡ 2) }
 
     ensures kept { ShelfKept F.texts F.faults F.absences F.log shelf.old shelf.new }
+    ensures shelf_told { ShelfTold F.faults F.absences shelf.old shelf.new result }
 
     ensures converts { (told : Option Texts) → Fits told (F.log shelf.old) (F.log shelf.new)
         → Converts told (Met F.absences F.log shelf.old shelf.new NoText)

@@ -1,5 +1,5 @@
 //! From a text to its derivation.
-ghost use Rattle.std.specs.Prelude.{◌≡◌, ◌≤◌, length, IfOk, IfErr, OnOk};
+ghost use Rattle.std.specs.Prelude.{◌≡◌, ◌<◌, ◌≤◌, ◌↔◌, ◌+◌, true, length, IfOk, IfErr, OnOk};
 ghost use Rattle.ll_bank.specs.Names.{with_names};
 ghost use Rattle.ll_prooftext.specs.Mentions.{text_names};
 ghost use Rattle.ll_prooftext.specs.Terms.{Grows};
@@ -26,11 +26,20 @@ pub fn derivation_of(alloc: Global, text: &[u8], names: &mut Names) -> Result<De
     ensures refused { IfErr result (IsNoDerivation text.now) }
 {
     // A program and a query of at most 16,777,216 bytes each have not so many names.
-    if names.len() >= MOST_NAMES - text.len() {
+    if !can_be_numbered(names.len(), text.len()) {
         return Err(Refusal::OutOfMemory);
     }
     match ll_prooftext::read_any(alloc, text, names) {
         Ok((derivation, _)) => Ok(derivation),
         Err(fault) => Err(refusal(Role::Proof, fault)),
     }
+}
+
+// Whether a reader of derivations can number the names of a text of so many bytes behind so many others: exactly where they are fewer than
+// 4,294,967,296 with one name for each byte.
+fn can_be_numbered(others: usize, bytes: usize) -> bool
+    requires { bytes ≤ 16777216 }
+    ensures { (result ≡ true) ↔ (others + bytes < 4294967296) }
+{
+    others < MOST_NAMES - bytes
 }

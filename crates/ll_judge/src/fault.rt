@@ -1,5 +1,5 @@
 //! The lines by which a call says why it ends without its work.
-ghost use Rattle.std.specs.Prelude.{◌≡◌, ◌≤◌, Some, OnOk, OnErr, map};
+ghost use Rattle.std.specs.Prelude.{◌≡◌, ◌<◌, ◌≤◌, Some, OnOk, OnErr, map};
 ghost use Rattle.std.specs.List.{concat};
 ghost use Rattle.std.specs.Io.KnownBytes.{append_known};
 ghost use Rattle.ll_edge.specs.Counts.{Rose};
@@ -33,6 +33,7 @@ pub fn refuse<O: Sink>(cause: Cause<'_>, sink: &mut O) -> u8
     ensures faults_kept { O.faults sink.old ≤ O.faults sink.new }
     ensures refuses { Refuses (shown_cause cause.entry) (Rose (O.faults sink.old) (O.faults sink.new))
         (Some (O.taken sink.old)) (Some (O.taken sink.new)) result }
+    ensures write_told { O.faults sink.old < O.faults sink.new → result ≡ 6 }
 {
     match write_line(cause, sink) {
         Ok(()) => status(cause),
@@ -59,6 +60,7 @@ pub fn write_line<O: Sink>(cause: Cause<'_>, sink: &mut O) -> Result<(), WriteFa
     ensures faults_kept { O.faults sink.old ≤ O.faults sink.new }
     ensures line { OnOk result (Some (O.taken sink.new) ≡ append_known (Some (O.taken sink.old)) (fault_text (shown_cause cause.entry))) }
     ensures failed { OnErr result (Rose (O.faults sink.old) (O.faults sink.new)) }
+    ensures quiet { OnOk result (O.faults sink.new ≡ O.faults sink.old) }
     ensures prefix { OnErr result (AppendsFront (Some (O.taken sink.old)) (fault_text (shown_cause cause.entry)) (Some (O.taken sink.new))) }
 {
     match cause {
@@ -87,6 +89,7 @@ fn write_text_fault<O: Sink>(sink: &mut O, name: &str, fault: Fault) -> Result<(
     ensures faults_kept { O.faults sink.old ≤ O.faults sink.new }
     ensures line { OnOk result (Some (O.taken sink.new) ≡ append_known (Some (O.taken sink.old)) (fault_text (FaultyText name.now fault))) }
     ensures failed { OnErr result (Rose (O.faults sink.old) (O.faults sink.new)) }
+    ensures quiet { OnOk result (O.faults sink.new ≡ O.faults sink.old) }
     ensures prefix { OnErr result (AppendsFront (Some (O.taken sink.old)) (fault_text (FaultyText name.now fault)) (Some (O.taken sink.new))) }
 {
     let mut line = Buffer::new();
@@ -114,6 +117,7 @@ fn write_fields<'a, O: Sink>(
     ensures faults_kept { O.faults sink.old ≤ O.faults sink.new }
     ensures line { OnOk result (Some (O.taken sink.new) ≡ append_known (Some (O.taken sink.old)) (fields_text name.now line.now column.now kind.now text.now)) }
     ensures failed { OnErr result (Rose (O.faults sink.old) (O.faults sink.new)) }
+    ensures quiet { OnOk result (O.faults sink.new ≡ O.faults sink.old) }
     ensures prefix { OnErr result (AppendsFront (Some (O.taken sink.old)) (fields_text name.now line.now column.now kind.now text.now) (Some
         (O.taken sink.new))) }
 {
@@ -130,6 +134,7 @@ pub fn write_parts<O: Sink>(sink: &mut O, parts: &[&str]) -> Result<(), WriteFai
     ensures faults_kept { O.faults sink.old ≤ O.faults sink.new }
     ensures line { OnOk result (Some (O.taken sink.new) ≡ append_known (Some (O.taken sink.old)) (concat (map (λ part. part.now) parts.now))) }
     ensures failed { OnErr result (Rose (O.faults sink.old) (O.faults sink.new)) }
+    ensures quiet { OnOk result (O.faults sink.new ≡ O.faults sink.old) }
     ensures prefix { OnErr result (AppendsFront (Some (O.taken sink.old)) (concat (map (λ part. part.now) parts.now)) (Some (O.taken sink.new))) }
 {
     for part in parts {

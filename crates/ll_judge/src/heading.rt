@@ -14,6 +14,7 @@ pub fn write_heading<O: Sink>(sink: &mut O, words: &str, number: u32) -> Result<
     ensures faults_kept { O.faults sink.old ≤ O.faults sink.new }
     ensures line { OnOk result (Some (O.taken sink.new) ≡ append_known (Some (O.taken sink.old)) (line (words.now ++ decimal number))) }
     ensures failed { OnErr result (Rose (O.faults sink.old) (O.faults sink.new)) }
+    ensures quiet { OnOk result (O.faults sink.new ≡ O.faults sink.old) }
     ensures prefix { OnErr result (AppendsFront (Some (O.taken sink.old)) (line (words.now ++ decimal number)) (Some (O.taken sink.new))) }
 {
     let mut digits = Buffer::new();

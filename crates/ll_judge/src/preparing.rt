@@ -6,6 +6,7 @@ ghost use Rattle.ll_laws.specs.Valid.{IsValid};
 ghost use Rattle.ll_words.specs.Words.{shown_words};
 ghost use Rattle.ll_judge.specs.Judging.{IsPartOf, TextsAsk, IsProgramCause, IsQueryCause};
 ghost use Rattle.ll_judge.specs.Outcome.{IsRead, ReadsWhatAsks};
+ghost use Rattle.ll_judge.specs.Told.{ShelfTold};
 ghost use Rattle.ll_judge.specs.Endings.{refusal_of, IsNotRead, Judges, Prepares};
 
 use crate::judge::{Role, judge_program, judge_query};
@@ -30,6 +31,8 @@ pub fn prepare<F: Shelf>(
 
     ensures kept { ShelfKept F.texts F.faults F.absences F.log shelf.old shelf.new }
 
+    ensures shelf_told { ShelfTold F.faults F.absences shelf.old shelf.new result }
+
     ensures valid { IfOk result IsValid }
     ensures prepares { (told : Option Texts) → Fits told (F.log shelf.old) (F.log shelf.new)
         → Prepares told (Met F.absences F.log shelf.old shelf.new NoText)
@@ -49,6 +52,8 @@ pub fn read<F: Shelf>(
     role: Role,
 ) -> Result<Vec<u8>, Refusal>
     ensures kept { ShelfKept F.texts F.faults F.absences F.log shelf.old shelf.new }
+
+    ensures shelf_told { ShelfTold F.faults F.absences shelf.old shelf.new result }
 
     ensures reads { IfOk result (λ text. Reads name.now (F.log shelf.old) (F.log shelf.new) text.items (Handed [])) }
     ensures read { IfOk result (λ text. (told : Option Texts) → Fits told (F.log shelf.old) (F.log shelf.new) → IsRead told name.now text.items) }

@@ -7,6 +7,7 @@ ghost use Rattle.ll_parser.specs.Printed.{program_text};
 ghost use Rattle.ll_judge.specs.declared.refusing.Refusal.TheVariants.{OutOfMemory};
 ghost use Rattle.ll_judge.specs.CallEnds.{Ends};
 ghost use Rattle.ll_judge.specs.Outcome.{IsPrintedAs, PrintComesTo};
+ghost use Rattle.ll_judge.specs.Told.{ShelfTold, SinkTold, StatusTold};
 ghost use Rattle.ll_judge.specs.Endings.{IsNotPrinted, IsMadeOf, IsNotMadeOf, PrintEnds};
 
 use crate::fault::refuse;
@@ -21,6 +22,7 @@ use std::alloc::Global;
 pub fn serve_print<F: Shelf, O: Sink>(alloc: Global, name: &str, shelf: &mut F, sink: &mut O) -> u8
     ensures kept { ShelfKept F.texts F.faults F.absences F.log shelf.old shelf.new }
     ensures sink_faults_kept { O.faults sink.old ≤ O.faults sink.new }
+    ensures faults_told { StatusTold F.faults F.absences O.faults shelf.old shelf.new sink.old sink.new result }
 
     ensures ends { (told : Option Texts) → Fits told (F.log shelf.old) (F.log shelf.new)
         → Ends (PrintComesTo told (Met F.absences F.log shelf.old shelf.new NoText)
@@ -44,6 +46,8 @@ fn print_program<F: Shelf, O: Sink>(
 ) -> Result<(), Refusal>
     ensures kept { ShelfKept F.texts F.faults F.absences F.log shelf.old shelf.new }
     ensures sink_faults_kept { O.faults sink.old ≤ O.faults sink.new }
+    ensures shelf_told { ShelfTold F.faults F.absences shelf.old shelf.new result }
+    ensures sink_told { SinkTold (O.faults sink.old) (O.faults sink.new) result }
 
     ensures ends { (told : Option Texts) → Fits told (F.log shelf.old) (F.log shelf.new)
         → PrintEnds told (Met F.absences F.log shelf.old shelf.new NoText) (Met F.faults F.log shelf.old shelf.new Unreadable)
@@ -57,6 +61,7 @@ fn print_program<F: Shelf, O: Sink>(
 // The bytes that the program of this name is printed as: reads its text from the shelf to its end, and then judges it.
 fn printed<F: Shelf>(alloc: Global, name: &str, shelf: &mut F) -> Result<Vec<u8>, Refusal>
     ensures kept { ShelfKept F.texts F.faults F.absences F.log shelf.old shelf.new }
+    ensures shelf_told { ShelfTold F.faults F.absences shelf.old shelf.new result }
 
     ensures bytes { IfOk result (λ bytes. (told : Option Texts)
         → Fits told (F.log shelf.old) (F.log shelf.new) → IsPrintedAs told name.now bytes.items) }

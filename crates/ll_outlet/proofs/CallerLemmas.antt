@@ -8,7 +8,9 @@ pub use Rattle.ll_outlet.proofs.GivenLemmas.{front-given}
 pub use Rattle.ll_outlet.proofs.GivenLemmas.{refused-written}
 -- an outlet that was given events has the same problem and the same sink
 pub use Rattle.ll_outlet.proofs.RunLemmas.{events-same}
--- and so has one that refused one of them
+-- and its sink no fault more
+pub use Rattle.ll_outlet.proofs.RunLemmas.{events-quiet}
+-- the problem and the sink are the same where it refused one of them
 pub use Rattle.ll_outlet.proofs.RunLemmas.{refused-same}
 -- where the first of some events were given, some first bytes of the lines of all were written
 pub use Rattle.ll_outlet.proofs.RunLemmas.{front-written}

@@ -1,9 +1,11 @@
 -- The lines of events, and those that were given to an outlet one after the other.
-use Rattle.std.proofs.Common.{◌≡◌, ℕ, suc, refl, ap, sym, ◌∙◌, Bool, true, false, List, [], ◌∷◌, ◌++◌, arith}
+use Rattle.std.proofs.Common.{◌≡◌, ◌≤◌, ℕ, suc, refl, ap, sym, subst, ◌∙◌, inl, inr, Bool, true, false, List, [], ◌∷◌, ◌++◌, arith}
 use Rattle.std.specs.Prelude.{Result, Ok, Err, OnOk, OnErr, codes, decimal}
 use Rattle.std.specs.Io.KnownBytes.{append_known}
 use Rattle.ll_laws.proofs.CallerLemmas.{cut_count-suc}
+use Rattle.ll_edge.specs.Counts.{Rose}
 use Rattle.ll_edge.specs.Pieces.{AppendsFront}
+use Rattle.ll_edge.proofs.CallerLemmas.{Rose-later}
 use Rattle.ll_laws.specs.declared.Event.{Event}
 use Rattle.ll_laws.specs.declared.Event.TheVariants.{Answer, Reached}
 use Rattle.ll_laws.specs.Search.{cut_count}
@@ -13,7 +15,7 @@ use Rattle.ll_laws.specs.ProofText.{derivation_text, proved_answers_text}
 use Rattle.ll_laws.specs.Dealt.{dealt}
 use Rattle.ll_order.specs.Outlets.{Gives, Refuses}
 use Rattle.ll_outlet.proofs.GivenLemmas.{given-kept, refused-kept, given-written, front-given, refused-written}
-use Rattle.ll_outlet.specs.Running.{event_lines, all_lines, counted, OutletState, SameOutlet, Writes, BreaksOff}
+use Rattle.ll_outlet.specs.Running.{event_lines, all_lines, counted, OutletState, TellsFaults, SameOutlet, Writes, BreaksOff}
 
 -- ---- counts that are cut
 
@@ -52,6 +54,15 @@ pub no-lines : (proofs : Bool) (p : ProblemTree) (k : ℕ) → all_lines proofs 
 no-lines false p k = refl
 no-lines true p k = refl
 
+-- ---- faults
+
+-- what is told of the faults of two stretches is told of both
+tells-on : (p : Bool) (a : ℕ) (q : Bool) (b : ℕ) (r : Bool) (c : ℕ) → a ≤ b → TellsFaults p a q b → TellsFaults q b r c → TellsFaults p a r c
+tells-on p a q b r c more (inl (u, v)) (inl (s, t)) = inl (s ∙ u, t ∙ v)
+tells-on p a q b r c more (inl (u, v)) (inr (s, t)) = inr (s, subst (λ n. Rose n c) v t)
+tells-on p a q b r c more (inr (u, v)) (inl (s, t)) = inr (s ∙ u, subst (λ n. Rose a n) (sym t) v)
+tells-on p a q b r c more (inr (u, v)) (inr (s, t)) = inr (s, Rose-later a b c more t)
+
 -- ---- events that were given
 
 module _ {W : Type 0} (takes breaks : W → Event → W → Type 0) (state : W → OutletState) (writes : (x : W) (e : Event) (y : W) → takes x e y
@@ -89,10 +100,11 @@ module _ {W : Type 0} (takes breaks : W → Event → W → Type 0) (state : W �
         lent = k.lent ∙ h.lent;
         faults = let f = h.faults in let g = k.faults in
             omega arith;
+        tells = tells-on a.failed a.faults b.failed b.faults c.failed c.faults h.faults h.tells k.tells;
       }
 
   same-self : (a : OutletState) → SameOutlet a a
-  same-self a = record { problem = refl; proofs = refl; lent = refl; faults = omega arith }
+  same-self a = record { problem = refl; proofs = refl; lent = refl; faults = omega arith; tells = inl (refl, refl) }
 
   took-same : (x : W) (e : Event) (y : W) → takes x e y → SameOutlet (state x) (state y)
   took-same x e y h = (writes x e y h).same
@@ -106,6 +118,11 @@ module _ {W : Type 0} (takes breaks : W → Event → W → Type 0) (state : W �
   -- all events were given
   pub events-same : (x y : W) (es : List Event) → Gives takes x es y → SameOutlet (state x) (state y)
   events-same x y es g = given-kept takes breaks Kept (λ z. same-self (state z)) (λ a b c. same-on (state a) (state b) (state c)) took-same broke-same x y es g
+
+  -- with no fault
+  pub events-quiet : (x y : W) (es : List Event) → Gives takes x es y → (state y).faults ≡ (state x).faults
+  events-quiet x y [] g = ap (λ w. (state w).faults) g
+  events-quiet x y (e ∷ es) (z, h, g) = events-quiet z y es g ∙ (writes x e z h).quiet
 
   pub events-written : (x y : W) (es : List Event) → Gives takes x es y → (state y).written ≡ append_known (state x).written (lines_from x es)
   events-written x y es g =
@@ -147,3 +164,8 @@ on_ok_map (Err e) A B h f = tt
 pub on_err_map : {T E : Type 0} (r : Result T E) (A B : Type 0) → OnErr r A → (A → B) → OnErr r B
 on_err_map (Ok x) A B h f = tt
 on_err_map (Err e) A B h f = f h
+
+-- what follows of two facts for an answer
+pub on_ok_both : {T E : Type 0} (r : Result T E) (A B C : Type 0) → OnOk r A → OnOk r B → (A → B → C) → OnOk r C
+on_ok_both (Ok x) A B C h k f = f h k
+on_ok_both (Err e) A B C h k f = tt

@@ -210,7 +210,7 @@ module _ {W : Type 0} (hold : W → Holding) where
   none_wait w h = ap (append_known (outlet w).written) h ∙ append_known-nil (outlet w).written
 
   told_same : (y z : W) → SameOutlet (outlet y) (outlet z) → SameOutlet (state y) (state z)
-  told_same y z s = record { problem = s.problem; proofs = s.proofs; lent = s.lent; faults = s.faults }
+  told_same y z s = record { problem = s.problem; proofs = s.proofs; lent = s.lent; faults = s.faults; tells = s.tells }
 
   pub taking_starts : (x : W) (events : List Event) → 0 < length events → waiting x ≡ [] → Every (IsWelcome (outlet x).problem) events
       → Taking hold x events [] events x
@@ -229,7 +229,7 @@ module _ {W : Type 0} (hold : W → Holding) where
     -- its problem, its sink and its count of faults up to here
     pub taking_same : SameOutlet (outlet x) (outlet y)
     taking_same = let s = events-same takes breaks state (λ a e b k. k) (λ a e b k. k) x y done t.given in
-        record { problem = s.problem; proofs = s.proofs; lent = s.lent; faults = s.faults }
+        record { problem = s.problem; proofs = s.proofs; lent = s.lent; faults = s.faults; tells = s.tells }
 
     taking_same_on : (z : W) → SameOutlet (outlet y) (outlet z) → SameOutlet (outlet x) (outlet z)
     taking_same_on z s = same-on takes breaks state (λ a e b k. k) (λ a e b k. k) (outlet x) (outlet y) (outlet z) taking_same s
@@ -274,6 +274,7 @@ module _ {W : Type 0} (hold : W → Holding) where
         let sunk = (outlet y).written in
         let step : Writes (state y) e (state z) = record {
           same = told_same y z w.same;
+          quiet = w.quiet;
           answers = w.answers;
           written =
               ap (λ o. append_known o (waiting z)) w.written
@@ -323,9 +324,9 @@ module _ {W : Type 0} (hold : W → Holding) where
     all_done = ended.order ∙ append-nil done
 
     -- all were taken, and the lines that waited are written
-    pub taking_ends : (z : W) → SameOutlet (outlet y) (outlet z) → (outlet z).answers ≡ (outlet y).answers → waiting z ≡ []
-        → (outlet z).written ≡ append_known (outlet y).written (waiting y) → Gives takes x events z
-    taking_ends z s a none w = by events all_done ended.some
+    pub taking_ends : (z : W) → SameOutlet (outlet y) (outlet z) → (outlet z).faults ≡ (outlet y).faults → (outlet z).answers ≡ (outlet y).answers
+        → waiting z ≡ [] → (outlet z).written ≡ append_known (outlet y).written (waiting y) → Gives takes x events z
+    taking_ends z s q a none w = by events all_done ended.some
       where
         same_written : (state z).written ≡ (state y).written
         same_written = none_wait z none ∙ w
@@ -334,6 +335,7 @@ module _ {W : Type 0} (hold : W → Holding) where
         after b d k =
             record {
               same = same-on takes breaks state (λ a e b k. k) (λ a e b k. k) (state b) (state y) (state z) k.same (told_same y z s);
+              quiet = q ∙ k.quiet;
               answers = a ∙ k.answers;
               written = same_written ∙ k.written;
             }

@@ -1,6 +1,7 @@
 -- A run that is on its way: what was written of its events so far.
-use Rattle.std.specs.Prelude.{◌≡◌, ◌≤◌, ◌<◌, length, ⊤, ℕ, Bool, true, false, suc, List, [], ◌++◌, Option, Contains}
+use Rattle.std.specs.Prelude.{◌≡◌, ◌≤◌, ◌<◌, ◌⊎◌, length, ⊤, ℕ, Bool, true, false, suc, List, [], ◌++◌, Option, Contains}
 use Rattle.std.specs.Io.KnownBytes.{append_known}
+use Rattle.ll_edge.specs.Counts.{Rose}
 use Rattle.ll_edge.specs.Pieces.{AppendsFront}
 use Rattle.ll_laws.specs.declared.Event.{Event}
 use Rattle.ll_laws.specs.declared.Event.TheVariants.{Answer, Reached}
@@ -53,21 +54,27 @@ pub record OutletState : Type 0 where
   pub proofs : Bool
   -- how many answers it took, cut at the greatest u64
   pub answers : ℕ
-  -- what its sink tells, the sink's count of faults, and the name of the borrow by which it has the sink
+  -- what its sink tells, the sink's count of faults, whether a write failed, and the name of the borrow by which it has the sink
   pub written : Option (List ℕ)
   pub faults : ℕ
+  pub failed : Bool
   pub lent : ℕ
 
 -- the same where lines wait behind what its sink tells
-abbrev pub told_with : ProblemTree → Bool → ℕ → Option (List ℕ) → ℕ → ℕ → List ℕ → OutletState
-told_with problem proofs answers sunk faults lent waiting = record {
+abbrev pub told_with : ProblemTree → Bool → ℕ → Option (List ℕ) → ℕ → Bool → ℕ → List ℕ → OutletState
+told_with problem proofs answers sunk faults failed lent waiting = record {
   problem = problem;
   proofs = proofs;
   answers = answers;
   written = append_known sunk waiting;
   faults = faults;
+  failed = failed;
   lent = lent;
 }
+
+-- What is told of the sink's faults between two moments: nothing, and the count stands still; or that a write failed, and the count rose.
+abbrev pub TellsFaults : Bool → ℕ → Bool → ℕ → Type 0
+TellsFaults told before later after = ((later ≡ told) × (after ≡ before)) ⊎ ((later ≡ true) × Rose before after)
 
 -- it has the same problem and the same sink
 pub record SameOutlet (before after : OutletState) : Type 0 where
@@ -75,10 +82,12 @@ pub record SameOutlet (before after : OutletState) : Type 0 where
   pub proofs : after.proofs ≡ before.proofs
   pub lent : after.lent ≡ before.lent
   pub faults : before.faults ≤ after.faults
+  pub tells : TellsFaults before.failed before.faults after.failed after.faults
 
--- the lines of the event were appended, and it was counted
+-- the lines of the event were appended with no fault, and it was counted
 pub record Writes (before : OutletState) (e : Event) (after : OutletState) : Type 0 where
   pub same : SameOutlet before after
+  pub quiet : after.faults ≡ before.faults
   pub answers : after.answers ≡ counted before.answers e
   pub written : after.written ≡ append_known before.written (event_lines before.proofs before.problem before.answers e)
 
@@ -92,15 +101,16 @@ pub record Holding : Type 0 where
   pub outlet : OutletState
   pub waiting : List ℕ
 
-abbrev pub holding : ProblemTree → Bool → ℕ → Option (List ℕ) → ℕ → ℕ → List ℕ → Holding
-holding problem proofs answers sunk faults lent waiting = record {
-  outlet = record { problem = problem; proofs = proofs; answers = answers; written = sunk; faults = faults; lent = lent };
+abbrev pub holding : ProblemTree → Bool → ℕ → Option (List ℕ) → ℕ → Bool → ℕ → List ℕ → Holding
+holding problem proofs answers sunk faults failed lent waiting = record {
+  outlet = record { problem = problem; proofs = proofs; answers = answers; written = sunk; faults = faults; failed = failed; lent = lent };
   waiting = waiting;
 }
 
 -- what it shows
 abbrev pub told : Holding → OutletState
-told h = told_with h.outlet.problem h.outlet.proofs h.outlet.answers h.outlet.written h.outlet.faults h.outlet.lent h.waiting
+told h = told_with h.outlet.problem h.outlet.proofs h.outlet.answers h.outlet.written h.outlet.faults h.outlet.failed h.outlet.lent
+    h.waiting
 
 -- Lines were put behind those that waited. The first of all these were written, and the others wait.
 pub record Puts (before : Option (List ℕ)) (waiting lines : List ℕ) (after : Option (List ℕ)) (left : List ℕ) : Type 0 where
@@ -108,9 +118,10 @@ pub record Puts (before : Option (List ℕ)) (waiting lines : List ℕ) (after :
   pub written : after ≡ append_known before flushed
   pub order : flushed ++ left ≡ waiting ++ lines
 
--- The event was counted. Its lines wait behind those that waited, but for the first of all these, which were written.
+-- The event was counted. Its lines wait behind those that waited, but for the first of all these, which were written with no fault.
 pub record Waits (before : Holding) (e : Event) (after : Holding) : Type 0 where
   pub same : SameOutlet before.outlet after.outlet
+  pub quiet : after.outlet.faults ≡ before.outlet.faults
   pub answers : after.outlet.answers ≡ counted before.outlet.answers e
   pub flushed : List ℕ
   pub written : after.outlet.written ≡ append_known before.outlet.written flushed

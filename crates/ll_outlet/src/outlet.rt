@@ -1,5 +1,5 @@
 // What writes the events of a search as they come.
-ghost use Rattle.std.specs.Prelude.{◌≡◌, ℕ, ◌++◌, ◌<◌, ◌≤◌, [], length, Some, Err, IfOk, OnOk, OnErr, Contains};
+ghost use Rattle.std.specs.Prelude.{◌≡◌, ℕ, ◌++◌, ◌<◌, ◌≤◌, [], length, Some, Err, IfOk, IfErr, OnOk, OnErr, Contains};
 ghost use Rattle.std.specs.Io.KnownBytes.{append_known};
 ghost use Rattle.ll_edge.specs.Counts.{Rose};
 ghost use Rattle.ll_edge.specs.Pieces.{AppendsFront};
@@ -9,8 +9,8 @@ ghost use Rattle.ll_laws.specs.Dealt.{dealt};
 ghost use Rattle.ll_laws.specs.Problem.{problem_events};
 ghost use Rattle.ll_laws.specs.ProofText.{derivation_text};
 ghost use Rattle.ll_laws.specs.Valid.{IsValid};
-ghost use Rattle.ll_order.specs.declared.outlet.OutFault.TheVariants.{Write};
-ghost use Rattle.ll_outlet.specs.Running.{AnswersAll, Puts, event_lines, counted};
+ghost use Rattle.ll_order.specs.declared.outlet.OutFault.TheVariants.{Write, OutOfMemory};
+ghost use Rattle.ll_outlet.specs.Running.{AnswersAll, TellsFaults, Puts, event_lines, counted};
 
 use ll_bank::OutOfMemory;
 use ll_edge::{Sink, write_all};
@@ -89,6 +89,8 @@ pub struct Writing<'p, 's, O, E> {
     pub waiting: &'s mut Vec<u8>,
     /// How many answers were taken, up to the greatest `u64`.
     pub answers: u64,
+    /// A write failed.
+    pub failed: bool,
     pub of: PhantomData<E>,
 }
 
@@ -99,17 +101,17 @@ impl<'p, 's, O: Sink, E: Lined> Outlet for Writing<'p, 's, O, E> {
 
     ghost takes = { λ before event after. Writes
         (told_with before.problem.now before.proofs before.answers (Some (O.taken before.sink.now)) (O.faults before.sink.now)
-        before.sink.ghost_name before.waiting.now.items)
+        before.failed before.sink.ghost_name before.waiting.now.items)
         event
         (told_with after.problem.now after.proofs after.answers (Some (O.taken after.sink.now)) (O.faults after.sink.now)
-        after.sink.ghost_name after.waiting.now.items) };
+        after.failed after.sink.ghost_name after.waiting.now.items) };
 
     ghost breaks = { λ before event after. BreaksOff
         (told_with before.problem.now before.proofs before.answers (Some (O.taken before.sink.now)) (O.faults before.sink.now)
-        before.sink.ghost_name before.waiting.now.items)
+        before.failed before.sink.ghost_name before.waiting.now.items)
         event
         (told_with after.problem.now after.proofs after.answers (Some (O.taken after.sink.now)) (O.faults after.sink.now)
-        after.sink.ghost_name after.waiting.now.items) };
+        after.failed after.sink.ghost_name after.waiting.now.items) };
 
     ghost welcome = { λ outlet event. IsWelcome outlet.problem.now event
         × IsReady E.makes outlet.proofs outlet.problem.now outlet.waiting.now.items };
@@ -128,6 +130,7 @@ impl<'p, 's, O: Sink, E: Lined> Outlet for Writing<'p, 's, O, E> {
             return Err(OutFault::OutOfMemory);
         };
         let Ok(()) = write_all(self.sink, self.lines) else {
+            self.failed = true;
             return Err(OutFault::Write);
         };
         self.answers = answers;
@@ -147,37 +150,51 @@ impl<'p, 's, O: Sink, E: Lined> Outlet for Writing<'p, 's, O, E> {
                 self.lines,
             );
             let Ok(answers) = made else {
-                return Err(refuse(self.waiting, self.sink));
+                return Err(refuse(self.waiting, self.sink, &mut self.failed));
             };
-            match put(self.lines, self.waiting, self.sink) {
+            match put(self.lines, self.waiting, self.sink, &mut self.failed) {
                 Ok(()) => self.answers = answers,
                 Err(fault) => return Err(fault),
             }
         }
-        write_waiting(self.waiting, self.sink)
+        write_waiting(self.waiting, self.sink, &mut self.failed)
     }
 }
 
 // Puts lines behind those that wait, and writes all of them where they are many. After a refusal none wait.
-fn put<O: Sink>(lines: &[u8], waiting: &mut Vec<u8>, sink: &mut O) -> Result<(), OutFault>
+fn put<O: Sink>(
+    lines: &[u8],
+    waiting: &mut Vec<u8>,
+    sink: &mut O,
+    failed: &mut bool,
+) -> Result<(), OutFault>
     ensures faults_kept { O.faults sink.old ≤ O.faults sink.new }
+    ensures tells { TellsFaults failed.old (O.faults sink.old) failed.new (O.faults sink.new) }
+    ensures quiet { OnOk result (O.faults sink.new ≡ O.faults sink.old) }
     ensures put { OnOk result (Puts (Some (O.taken sink.old)) waiting.old.items lines.now (Some (O.taken sink.new)) waiting.new.items) }
     ensures none { OnErr result (waiting.new.items ≡ []) }
     ensures cut { OnErr result (AppendsFront (Some (O.taken sink.old)) (waiting.old.items ++ lines.now) (Some (O.taken sink.new))) }
     ensures write { result ≡ Err Write → Rose (O.faults sink.old) (O.faults sink.new) }
 {
     let Ok(()) = waiting.extend_from_slice(lines) else {
-        return Err(refuse(waiting, sink));
+        return Err(refuse(waiting, sink, failed));
     };
     if waiting.len() < FULL {
         return Ok(());
     }
-    write_waiting(waiting, sink)
+    write_waiting(waiting, sink, failed)
 }
 
 // Writes the lines that wait. None wait after it.
-fn write_waiting<O: Sink>(waiting: &mut Vec<u8>, sink: &mut O) -> Result<(), OutFault>
+fn write_waiting<O: Sink>(
+    waiting: &mut Vec<u8>,
+    sink: &mut O,
+    failed: &mut bool,
+) -> Result<(), OutFault>
     ensures faults_kept { O.faults sink.old ≤ O.faults sink.new }
+    ensures tells { TellsFaults failed.old (O.faults sink.old) failed.new (O.faults sink.new) }
+    ensures quiet { OnOk result (O.faults sink.new ≡ O.faults sink.old) }
+    ensures cause { IfErr result (λ fault. fault ≡ Write) }
     ensures none { waiting.new.items ≡ [] }
     ensures written { OnOk result (Some (O.taken sink.new) ≡ append_known (Some (O.taken sink.old)) waiting.old.items) }
     ensures cut { OnErr result ((0 < length waiting.old.items) × AppendsFront (Some (O.taken sink.old)) waiting.old.items (Some (O.taken sink.new))) }
@@ -190,18 +207,24 @@ fn write_waiting<O: Sink>(waiting: &mut Vec<u8>, sink: &mut O) -> Result<(), Out
     waiting.clear();
     match written {
         Ok(()) => Ok(()),
-        Err(_) => Err(OutFault::Write),
+        Err(_) => {
+            *failed = true;
+            Err(OutFault::Write)
+        }
     }
 }
 
-// Writes the lines that wait where memory is wanting for more of them.
-fn refuse<O: Sink>(waiting: &mut Vec<u8>, sink: &mut O) -> OutFault
+// Writes the lines that wait where memory is wanting for more of them. Want of memory is answered only where all of them were written.
+fn refuse<O: Sink>(waiting: &mut Vec<u8>, sink: &mut O, failed: &mut bool) -> OutFault
     ensures faults_kept { O.faults sink.old ≤ O.faults sink.new }
+    ensures tells { TellsFaults failed.old (O.faults sink.old) failed.new (O.faults sink.new) }
+    ensures memory { result ≡ OutOfMemory
+        → (O.faults sink.new ≡ O.faults sink.old) × (Some (O.taken sink.new) ≡ append_known (Some (O.taken sink.old)) waiting.old.items) }
     ensures none { waiting.new.items ≡ [] }
     ensures cut { AppendsFront (Some (O.taken sink.old)) waiting.old.items (Some (O.taken sink.new)) }
     ensures write { result ≡ Write → Rose (O.faults sink.old) (O.faults sink.new) }
 {
-    match write_waiting(waiting, sink) {
+    match write_waiting(waiting, sink, failed) {
         Ok(()) => OutFault::OutOfMemory,
         Err(fault) => fault,
     }

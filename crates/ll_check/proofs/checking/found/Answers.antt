@@ -3,7 +3,7 @@ use Rattle.std.proofs.lemmas.Result.{err_from_is_err_and}
 use Rattle.ll_judge.specs.declared.judge.Role.TheVariants.{Program, Query, Proof}
 use Rattle.ll_words.specs.Words.{shown_check}
 use Rattle.ll_judge.specs.Outcome.{first, later}
-use Rattle.ll_judge.proofs.CallerLemmas.{not-read-after}
+use Rattle.ll_judge.proofs.CallerLemmas.{not-read-after, shelf-read, shelf-later, shelf-refused}
 use Rattle.ll_edge.proofs.CallerLemmas.{kept_trans, fits_first, fits_second}
 use Rattle.ll_check.proofs.CheckLemmas.{text-refused, texts-judged}
 use Rattle.ll_check.proofs.checking.found.Goals as goal
@@ -65,3 +65,22 @@ finding_of-requires-clause-query g c = rw c.deref-2.ensures.value (c.in_ok-query
 
 pub finding_of-requires-clause-proof : goal.finding_of-requires-clause-proof
 finding_of-requires-clause-proof g c = rw c.deref-3.ensures.value (c.in_ok-proof.ensures.read None tt).within
+
+pub returns-in_err-program-clause-shelf_told : goal.returns-in_err-program-clause-shelf_told
+returns-in_err-program-clause-shelf_told g c =
+    let p = err_from_is_err_and c.from_residual.result c.from_residual.ensures.1 in rw (p.1, p.2) (shelf-refused c.in_err-program.ensures.shelf_told)
+
+pub returns-in_err-query-clause-shelf_told : goal.returns-in_err-query-clause-shelf_told
+returns-in_err-query-clause-shelf_told g c =
+    let p = err_from_is_err_and c.from_residual-in_err-query.result c.from_residual-in_err-query.ensures.1 in
+    rw (p.1, p.2) (shelf-later _ c.in_ok-program.ensures.shelf_told (shelf-refused c.in_err-query.ensures.shelf_told))
+
+pub returns-in_err-proof-clause-shelf_told : goal.returns-in_err-proof-clause-shelf_told
+returns-in_err-proof-clause-shelf_told g c =
+    let p = err_from_is_err_and c.from_residual-in_err-proof.result c.from_residual-in_err-proof.ensures.1 in
+    rw (p.1, p.2) (shelf-later _ (shelf-later _ c.in_ok-program.ensures.shelf_told c.in_ok-query.ensures.shelf_told)
+    (shelf-refused c.in_err-proof.ensures.shelf_told))
+
+pub returns-clause-shelf_told : goal.returns-clause-shelf_told
+returns-clause-shelf_told g c =
+    shelf-read _ (shelf-later _ (shelf-later _ c.in_ok-program.ensures.shelf_told c.in_ok-query.ensures.shelf_told) c.in_ok-proof.ensures.shelf_told)

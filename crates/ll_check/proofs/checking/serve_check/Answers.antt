@@ -4,7 +4,7 @@ use Rattle.ll_words.specs.Words.{shown_check}
 use Rattle.ll_judge.specs.Endings.{cause_of}
 use Rattle.ll_check.specs.Outcome.{name_in_check}
 use Rattle.ll_check.proofs.OutcomeLemmas.{finding-ends, check-cut-ends, check-refusal-ends, check-memory-ends}
-use Rattle.ll_judge.proofs.CallerLemmas.{refuses-later}
+use Rattle.ll_judge.proofs.CallerLemmas.{refuses-later, status-done, status-unwritable, status-memory, status-refused}
 use Rattle.ll_check.proofs.ProvedLemmas.{is-proved, refused-not-zero}
 use Rattle.ll_check.proofs.checking.serve_check.Goals as goal
 
@@ -60,3 +60,19 @@ returns-in-Ok-clause-proved g c = λ zero told fits.
 
 pub returns-in-Err-Text-clause-proved : goal.returns-in-Err-Text-clause-proved
 returns-in-Err-Text-clause-proved g c = λ zero. absurd (refused-not-zero _ _ _ _ _ c.refuse.ensures.refuses zero)
+
+pub returns-in-Ok-clause-faults_told : goal.returns-in-Ok-clause-faults_told
+returns-in-Ok-clause-faults_told g c = status-done _ c.in-Ok.ensures.shelf_told c.in-Ok.ensures.sink_told
+
+pub returns-in-Err-Text-clause-faults_told : goal.returns-in-Err-Text-clause-faults_told
+returns-in-Err-Text-clause-faults_told g c =
+    status-refused _ _ c.in-Err-Text.refusal _ _ _ _ _ (rw c.in-Err-Text.field-0-is at c.in-Err-Text.ensures.shelf_told)
+    (rw c.in-Err-Text.field-0-is at c.in-Err-Text.ensures.sink_told) c.refuse.ensures.write_told c.cause.ensures c.refuse.ensures.refuses
+
+pub returns-in-Err-Unwritable-clause-faults_told : goal.returns-in-Err-Unwritable-clause-faults_told
+returns-in-Err-Unwritable-clause-faults_told g c = status-unwritable
+
+pub returns-in-Err-OutOfMemory-clause-faults_told : goal.returns-in-Err-OutOfMemory-clause-faults_told
+returns-in-Err-OutOfMemory-clause-faults_told g c =
+    status-memory (rw c.in-Err-OutOfMemory.field-0-is at c.in-Err-OutOfMemory.ensures.shelf_told)
+    (rw c.in-Err-OutOfMemory.field-0-is at c.in-Err-OutOfMemory.ensures.sink_told)

@@ -59,3 +59,18 @@ returns-in-CountsNumbers-clause-failed g c = c.write_counts.ensures.failed
 
 pub returns-in-CountsNumbers-clause-prefix : goal.returns-in-CountsNumbers-clause-prefix
 returns-in-CountsNumbers-clause-prefix g c = rw c.in-CountsNumbers.is c.write_counts.ensures.prefix
+
+pub returns-in-Shows-clause-quiet : goal.returns-in-Shows-clause-quiet
+returns-in-Shows-clause-quiet g c = c.write_yes.ensures.quiet
+
+pub returns-in-Fails-clause-quiet : goal.returns-in-Fails-clause-quiet
+returns-in-Fails-clause-quiet g c = c.write_no.ensures.quiet
+
+pub returns-in-Covered-clause-quiet : goal.returns-in-Covered-clause-quiet
+returns-in-Covered-clause-quiet g c = c.write_covered.ensures.quiet
+
+pub returns-in-TooLong-clause-quiet : goal.returns-in-TooLong-clause-quiet
+returns-in-TooLong-clause-quiet g c = c.write_too_long.ensures.quiet
+
+pub returns-in-CountsNumbers-clause-quiet : goal.returns-in-CountsNumbers-clause-quiet
+returns-in-CountsNumbers-clause-quiet g c = c.write_counts.ensures.quiet

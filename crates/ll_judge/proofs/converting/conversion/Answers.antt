@@ -2,6 +2,7 @@ use Rattle.std.proofs.Common.{None}
 use Rattle.std.proofs.lemmas.Result.{err_from_is_err_and}
 use Rattle.ll_words.specs.Words.{shown_convert}
 use Rattle.ll_judge.proofs.ConvertLemmas.{proof-unread, proof-converted}
+use Rattle.ll_judge.proofs.ToldLemmas.{shelf-read, shelf-refused}
 use Rattle.ll_judge.proofs.converting.conversion.Goals as goal
 
 pub returns-in_err-proof-clause-converts : goal.returns-in_err-proof-clause-converts
@@ -16,3 +17,10 @@ returns-clause-converts g c =
 
 pub converted-requires-clause-short : goal.converted-requires-clause-short
 converted-requires-clause-short g c = rw c.deref.ensures.value (c.in_ok-proof.ensures.read None tt).within
+
+pub returns-in_err-proof-clause-shelf_told : goal.returns-in_err-proof-clause-shelf_told
+returns-in_err-proof-clause-shelf_told g c =
+    let p = err_from_is_err_and c.from_residual.result c.from_residual.ensures.1 in rw (p.1, p.2) (shelf-refused c.in_err-proof.ensures.shelf_told)
+
+pub returns-clause-shelf_told : goal.returns-clause-shelf_told
+returns-clause-shelf_told g c = shelf-read _ c.in_ok-proof.ensures.shelf_told

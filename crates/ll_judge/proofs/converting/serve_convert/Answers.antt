@@ -1,9 +1,10 @@
-use Rattle.std.proofs.Common.{le_refl, ap, None, Some}
+use Rattle.std.proofs.Common.{refl, le_refl, ap, None, Some}
 use Rattle.ll_edge.proofs.CallerLemmas.{taken_front}
 use Rattle.ll_words.specs.Words.{shown_convert}
 use Rattle.ll_judge.specs.Faults.{OversizedAs}
 use Rattle.ll_judge.specs.Endings.{cause_of}
 use Rattle.ll_judge.proofs.ConvertLemmas.{converted-ends, convert-cut-ends, convert-refusal-ends}
+use Rattle.ll_judge.proofs.ToldLemmas.{status-done, status-lined, status-unwritable, status-memory, status-refused}
 use Rattle.ll_judge.proofs.converting.serve_convert.Goals as goal
 
 pub returns-in-Ok-clause-ends : goal.returns-in-Ok-clause-ends
@@ -63,3 +64,20 @@ returns-clause-sink_faults_kept g c = le_refl _
 
 pub unreachable-requires : goal.unreachable-requires
 unreachable-requires g c = rw c.in-Err-Unwritable.field-0-is at (c.in-Err-Unwritable.ensures.converts None tt)
+
+pub returns-in-Ok-clause-faults_told : goal.returns-in-Ok-clause-faults_told
+returns-in-Ok-clause-faults_told g c = status-done 0 c.in-Ok-Whole.ensures.shelf_told c.in-Ok.ensures.no_fault
+
+pub returns-in-Ok-Whole-clause-faults_told : goal.returns-in-Ok-Whole-clause-faults_told
+returns-in-Ok-Whole-clause-faults_told g c = status-unwritable
+
+pub returns-in-Ok-TooLong-clause-faults_told : goal.returns-in-Ok-TooLong-clause-faults_told
+returns-in-Ok-TooLong-clause-faults_told g c = status-lined _ c.in-Ok-TooLong.ensures.shelf_told refl c.refuse.ensures.write_told
+
+pub returns-in-Err-Text-clause-faults_told : goal.returns-in-Err-Text-clause-faults_told
+returns-in-Err-Text-clause-faults_told g c =
+    status-refused c.args.convert.now.proof.now _ c.in-Err-Text.refusal _ _ _ _ _ (rw c.in-Err-Text.field-0-is at c.in-Err-Text.ensures.shelf_told) refl
+    c.refuse-in-Err-Text.ensures.write_told c.cause.ensures c.refuse-in-Err-Text.ensures.refuses
+
+pub returns-clause-faults_told : goal.returns-clause-faults_told
+returns-clause-faults_told g c = status-memory (rw c.in-Err-OutOfMemory.field-0-is at c.in-Err-OutOfMemory.ensures.shelf_told) refl

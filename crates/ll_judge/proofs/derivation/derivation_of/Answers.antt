@@ -4,17 +4,17 @@ use Rattle.ll_judge.proofs.derivation.derivation_of.Goals as goal
 pub returns-in-Err-clause-refused : goal.returns-in-Err-clause-refused
 returns-in-Err-clause-refused c = derivation-refused c.args.text.now c.in-Err.fault _ c.refusal.ensures c.in-Err.ensures.err
 
-pub returns-then-len-text-clause-read : goal.returns-then-len-text-clause-read
-returns-then-len-text-clause-read c = _
+pub returns-then-not-can_be_numbered-clause-read : goal.returns-then-not-can_be_numbered-clause-read
+returns-then-not-can_be_numbered-clause-read c = _
 
-pub returns-then-len-text-clause-names : goal.returns-then-len-text-clause-names
-returns-then-len-text-clause-names c = _
+pub returns-then-not-can_be_numbered-clause-names : goal.returns-then-not-can_be_numbered-clause-names
+returns-then-not-can_be_numbered-clause-names c = _
 
-pub returns-then-len-text-clause-grows : goal.returns-then-len-text-clause-grows
-returns-then-len-text-clause-grows c = _
+pub returns-then-not-can_be_numbered-clause-grows : goal.returns-then-not-can_be_numbered-clause-grows
+returns-then-not-can_be_numbered-clause-grows c = _
 
-pub returns-then-len-text-clause-refused : goal.returns-then-len-text-clause-refused
-returns-then-len-text-clause-refused c = _
+pub returns-then-not-can_be_numbered-clause-refused : goal.returns-then-not-can_be_numbered-clause-refused
+returns-then-not-can_be_numbered-clause-refused c = _
 
 pub returns-in-Ok-clause-refused : goal.returns-in-Ok-clause-refused
 returns-in-Ok-clause-refused c = _

@@ -1,4 +1,4 @@
-use Rattle.std.proofs.Common.{◌≤◌, Some}
+use Rattle.std.proofs.Common.{◌≡◌, Some}
 use Rattle.ll_judge.proofs.PartsLemmas.{AreWritten}
 use Rattle.ll_judge.proofs.fault.write_parts.Given as goal
 
@@ -6,5 +6,5 @@ abbrev pub invariant-loop-part : goal.invariant-loop-part
 invariant-loop-part g l =
     record {
       parts : AreWritten (Some (g.O.Sink.taken l.initial.sink)) (Some (g.O.Sink.taken l.sink)) l.parts l.part-index;
-      faults : g.O.Sink.faults l.initial.sink ≤ g.O.Sink.faults l.sink;
+      faults : g.O.Sink.faults l.sink ≡ g.O.Sink.faults l.initial.sink;
     }

@@ -5,6 +5,7 @@ use Rattle.ll_edge.proofs.CallerLemmas.{fits_first, fits_second}
 use Rattle.ll_words.specs.Words.{shown_words}
 use Rattle.ll_edge.proofs.CallerLemmas.{kept_trans}
 use Rattle.ll_judge.proofs.PrepareLemmas.{program-refused, query-refused, not-read-after, prepared, asks-read}
+use Rattle.ll_judge.proofs.ToldLemmas.{shelf-read, shelf-later, shelf-refused}
 use Rattle.ll_judge.proofs.preparing.prepare.Goals as goal
 
 pub returns-in_err-program-clause-prepares : goal.returns-in_err-program-clause-prepares
@@ -65,3 +66,15 @@ problem_of-requires-clause-program g c = rw c.deref.ensures.value (c.in_ok-progr
 
 pub problem_of-requires-clause-query : goal.problem_of-requires-clause-query
 problem_of-requires-clause-query g c = rw c.deref-2.ensures.value (c.in_ok-query.ensures.read None tt).within
+
+pub returns-in_err-program-clause-shelf_told : goal.returns-in_err-program-clause-shelf_told
+returns-in_err-program-clause-shelf_told g c =
+    let p = err_from_is_err_and c.from_residual.result c.from_residual.ensures.1 in rw (p.1, p.2) (shelf-refused c.in_err-program.ensures.shelf_told)
+
+pub returns-in_err-query-clause-shelf_told : goal.returns-in_err-query-clause-shelf_told
+returns-in_err-query-clause-shelf_told g c =
+    let p = err_from_is_err_and c.from_residual-in_err-query.result c.from_residual-in_err-query.ensures.1 in
+    rw (p.1, p.2) (shelf-later _ c.in_ok-program.ensures.shelf_told (shelf-refused c.in_err-query.ensures.shelf_told))
+
+pub returns-clause-shelf_told : goal.returns-clause-shelf_told
+returns-clause-shelf_told g c = shelf-read _ (shelf-later _ c.in_ok-program.ensures.shelf_told c.in_ok-query.ensures.shelf_told)

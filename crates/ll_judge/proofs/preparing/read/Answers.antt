@@ -82,3 +82,30 @@ returns-in-Err-Failed-clause-refused g c =
 
 pub returns-in-Err-TooLong-clause-refused : goal.returns-in-Err-TooLong-clause-refused
 returns-in-Err-TooLong-clause-refused g c = let ended = ends-longer g c in λ told fits. (refl, told_longer told 16777216 fits ended.1 ended.2)
+
+pub returns-in-Ok-clause-shelf_told : goal.returns-in-Ok-clause-shelf_told
+returns-in-Ok-clause-shelf_told g c = record { faults_told = c.in-Ok.ensures.failed_alone; absences_told = c.in-Ok.ensures.absent_alone }
+
+pub returns-in-Err-Absent-clause-shelf_told : goal.returns-in-Err-Absent-clause-shelf_told
+returns-in-Err-Absent-clause-shelf_told g c = record {
+  faults_told = rw c.in-Err-Absent.field-0-is at c.in-Err-Absent.ensures.failed_alone;
+  absences_told = tt;
+}
+
+pub returns-in-Err-Failed-clause-shelf_told : goal.returns-in-Err-Failed-clause-shelf_told
+returns-in-Err-Failed-clause-shelf_told g c = record {
+  faults_told = tt;
+  absences_told = rw c.in-Err-Failed.field-0-is at c.in-Err-Failed.ensures.absent_alone;
+}
+
+pub returns-in-Err-TooLong-clause-shelf_told : goal.returns-in-Err-TooLong-clause-shelf_told
+returns-in-Err-TooLong-clause-shelf_told g c = record {
+  faults_told = rw c.in-Err-TooLong.field-0-is at c.in-Err-TooLong.ensures.failed_alone;
+  absences_told = rw c.in-Err-TooLong.field-0-is at c.in-Err-TooLong.ensures.absent_alone;
+}
+
+pub returns-in-Err-OutOfMemory-clause-shelf_told : goal.returns-in-Err-OutOfMemory-clause-shelf_told
+returns-in-Err-OutOfMemory-clause-shelf_told g c = record {
+  faults_told = rw c.in-Err-OutOfMemory.field-0-is at c.in-Err-OutOfMemory.ensures.failed_alone;
+  absences_told = rw c.in-Err-OutOfMemory.field-0-is at c.in-Err-OutOfMemory.ensures.absent_alone;
+}

@@ -1,6 +1,7 @@
 use Rattle.std.proofs.lemmas.Result.{err_from_is_err_and}
-use Rattle.std.proofs.Common.{le_refl, ap, Some}
+use Rattle.std.proofs.Common.{refl, le_refl, ap, Some}
 use Rattle.ll_edge.proofs.CallerLemmas.{taken_front}
+use Rattle.ll_judge.proofs.ToldLemmas.{shelf-read, shelf-refused, sink-still}
 use Rattle.ll_judge.proofs.printing.print_program.Goals as goal
 
 pub returns-in_err-bytes-clause-kept : goal.returns-in_err-bytes-clause-kept
@@ -34,3 +35,16 @@ returns-in_err-write_all-clause-ends g c =
       c.in_err-write_all.ensures.failed,
       taken_front (rw c.deref.ensures.value at c.in_err-write_all.ensures.takes_front),
     )
+
+pub returns-in_err-bytes-clause-shelf_told : goal.returns-in_err-bytes-clause-shelf_told
+returns-in_err-bytes-clause-shelf_told g c =
+    let p = err_from_is_err_and c.from_residual.result c.from_residual.ensures.1 in rw (p.1, p.2) (shelf-refused c.in_err-bytes.ensures.shelf_told)
+
+pub returns-in_err-write_all-clause-shelf_told : goal.returns-in_err-write_all-clause-shelf_told
+returns-in_err-write_all-clause-shelf_told g c = shelf-read _ c.in_ok-bytes.ensures.shelf_told
+
+pub returns-clause-shelf_told : goal.returns-clause-shelf_told
+returns-clause-shelf_told g c = shelf-read _ c.in_ok-bytes.ensures.shelf_told
+
+pub returns-in_err-bytes-clause-sink_told : goal.returns-in_err-bytes-clause-sink_told
+returns-in_err-bytes-clause-sink_told g c = sink-still _ _ c.from_residual.result refl

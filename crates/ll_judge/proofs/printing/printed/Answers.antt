@@ -2,6 +2,7 @@ use Rattle.std.proofs.Common.{None}
 use Rattle.std.proofs.lemmas.Result.{IfOk-from_err}
 use Rattle.std.proofs.lemmas.Result.{err_from_is_err_and}
 use Rattle.ll_judge.proofs.PrepareLemmas.{source-refused, source-made, source-unprinted}
+use Rattle.ll_judge.proofs.ToldLemmas.{shelf-read, shelf-refused}
 use Rattle.ll_judge.proofs.printing.printed.Goals as goal
 
 pub returns-in_err-text-clause-refused : goal.returns-in_err-text-clause-refused
@@ -28,3 +29,10 @@ returns-clause-kept g c = c.in_ok-text.ensures.kept
 
 pub printed_text-requires : goal.printed_text-requires
 printed_text-requires g c = rw c.deref.ensures.value (c.in_ok-text.ensures.read None tt).within
+
+pub returns-in_err-text-clause-shelf_told : goal.returns-in_err-text-clause-shelf_told
+returns-in_err-text-clause-shelf_told g c =
+    let p = err_from_is_err_and c.from_residual.result c.from_residual.ensures.1 in rw (p.1, p.2) (shelf-refused c.in_err-text.ensures.shelf_told)
+
+pub returns-clause-shelf_told : goal.returns-clause-shelf_told
+returns-clause-shelf_told g c = shelf-read _ c.in_ok-text.ensures.shelf_told

@@ -2,6 +2,7 @@ use Rattle.std.proofs.Common.{le_trans}
 use Rattle.ll_edge.proofs.CallerLemmas.{Rose-later}
 use Rattle.ll_judge.specs.Endings.{cause_of}
 use Rattle.ll_judge.proofs.OutcomeLemmas.{printed-ends, print-cut-ends, refuses-later, print-refusal-ends}
+use Rattle.ll_judge.proofs.ToldLemmas.{status-done, status-unwritable, status-memory, status-refused}
 use Rattle.ll_judge.proofs.printing.serve_print.Goals as goal
 
 pub returns-in-Ok-clause-ends : goal.returns-in-Ok-clause-ends
@@ -40,3 +41,19 @@ returns-in-Err-OutOfMemory-clause-kept g c = c.in-Err-OutOfMemory.ensures.kept
 
 pub returns-in-Err-OutOfMemory-clause-sink_faults_kept : goal.returns-in-Err-OutOfMemory-clause-sink_faults_kept
 returns-in-Err-OutOfMemory-clause-sink_faults_kept g c = c.in-Err-OutOfMemory.ensures.sink_faults_kept
+
+pub returns-in-Ok-clause-faults_told : goal.returns-in-Ok-clause-faults_told
+returns-in-Ok-clause-faults_told g c = status-done 0 c.in-Ok.ensures.shelf_told c.in-Ok.ensures.sink_told
+
+pub returns-in-Err-Text-clause-faults_told : goal.returns-in-Err-Text-clause-faults_told
+returns-in-Err-Text-clause-faults_told g c =
+    status-refused c.args.name.now _ c.in-Err-Text.refusal _ _ _ _ _ (rw c.in-Err-Text.field-0-is at c.in-Err-Text.ensures.shelf_told)
+    (rw c.in-Err-Text.field-0-is at c.in-Err-Text.ensures.sink_told) c.refuse.ensures.write_told c.cause.ensures c.refuse.ensures.refuses
+
+pub returns-in-Err-Unwritable-clause-faults_told : goal.returns-in-Err-Unwritable-clause-faults_told
+returns-in-Err-Unwritable-clause-faults_told g c = status-unwritable
+
+pub returns-in-Err-OutOfMemory-clause-faults_told : goal.returns-in-Err-OutOfMemory-clause-faults_told
+returns-in-Err-OutOfMemory-clause-faults_told g c =
+    status-memory (rw c.in-Err-OutOfMemory.field-0-is at c.in-Err-OutOfMemory.ensures.shelf_told)
+    (rw c.in-Err-OutOfMemory.field-0-is at c.in-Err-OutOfMemory.ensures.sink_told)

@@ -1,4 +1,4 @@
-use Rattle.ll_edge.proofs.Counting.{faults_none_taken, faults_failed}
+use Rattle.ll_edge.proofs.Counting.{faults_none_taken, faults_failed, faults_some_taken}
 use Rattle.ll_edge.proofs.real.StdSinkSink.TheImpl.Goals as goal
 
 pub write-tells : goal.write-tells
@@ -8,4 +8,5 @@ write-tells g c = record {
   takes = c.ensures.takes;
   none_taken = faults_none_taken c.args.self.now.faults c.new.self.now.faults c.args.piece.now c.result c.ensures.counts;
   failed = faults_failed c.args.self.now.faults c.new.self.now.faults c.args.piece.now c.result c.ensures.counts;
+  no_fault = faults_some_taken c.args.self.now.faults c.new.self.now.faults c.args.piece.now c.result c.ensures.counts;
 }

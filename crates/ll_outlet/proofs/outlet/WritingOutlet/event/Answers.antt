@@ -1,11 +1,11 @@
 use Rattle.ll_outlet.proofs.WaitingLemmas.{err_on}
-use Rattle.std.proofs.Common.{refl, le_refl}
+use Rattle.std.proofs.Common.{refl, inl, le_refl}
 use Rattle.ll_edge.proofs.CallerLemmas.{no_front}
 use Rattle.ll_outlet.proofs.outlet.WritingOutlet.event.Goals as goal
 
 pub returns-in_default-clause-refused : goal.returns-in_default-clause-refused
 returns-in_default-clause-refused g c =
-    record { same = record { problem = refl; proofs = refl; lent = refl; faults = le_refl _ }; written = no_front _ _ }
+    record { same = record { problem = refl; proofs = refl; lent = refl; faults = le_refl _; tells = inl (refl, refl) }; written = no_front _ _ }
 
 pub returns-in_default-clause-taken : goal.returns-in_default-clause-taken
 returns-in_default-clause-taken g c = _

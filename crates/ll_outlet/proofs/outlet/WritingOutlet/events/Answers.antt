@@ -5,7 +5,7 @@ use Rattle.std.proofs.lemmas.List.{length-map}
 use Rattle.ll_edge.specs.Pieces.{AppendsFront}
 use Rattle.ll_edge.proofs.CallerLemmas.{Rose-later, first-cut}
 use Rattle.ll_outlet.specs.Running.{IsWelcome}
-use Rattle.ll_outlet.proofs.RunLemmas.{on_ok_map, on_err_map}
+use Rattle.ll_outlet.proofs.RunLemmas.{on_ok_both, on_err_map}
 use Rattle.ll_outlet.proofs.WaitingLemmas.{err_on, fault_is, some_events, none_left, each_ready, each_wanted, next_event, next_taken}
 use Rattle.ll_outlet.proofs.WaitingLemmas.{taking_starts, taking_same, taking_wants, taking_makes, taking_goes_on, taking_breaks, taking_ends, taking_cut}
 use Rattle.ll_outlet.proofs.WaitingLemmas.{welcome_still}
@@ -50,7 +50,8 @@ loop-event-preserved g c =
     taking_goes_on _ c.loop-event.invariant next _ _
     (next_taken told events _ c.loop-event.event-index c.event-item.result value c.loop-event-test.true c.event-item.is)
     (record {
-      same = record { problem = refl; proofs = refl; lent = refl; faults = c.put.ensures.faults_kept };
+      same = record { problem = refl; proofs = refl; lent = refl; faults = c.put.ensures.faults_kept; tells = c.put.ensures.tells };
+      quiet = c.in-Ok-put.ensures.quiet;
       answers = c.in-Ok.ensures.answers;
       flushed = put.flushed;
       written = put.written;
@@ -62,7 +63,7 @@ returns-in_default-clause-refused g c =
     taking_breaks _ c.loop-event.invariant (next_event g.E.Notice.stands_for _ _ _ _ c.as_slice-event-items.ensures.value c.loop-event-test.true
     c.event-item.is) _
     (record {
-      same = record { problem = refl; proofs = refl; lent = refl; faults = c.refuse.ensures.faults_kept };
+      same = record { problem = refl; proofs = refl; lent = refl; faults = c.refuse.ensures.faults_kept; tells = c.refuse.ensures.tells };
       none = c.refuse.ensures.none;
       written = first-cut _ _ _ _ c.refuse.ensures.cut;
     })
@@ -89,7 +90,7 @@ returns-in-Err-clause-refused g c =
     (told c.event-item.result) all) in
     taking_breaks _ c.loop-event.invariant next _
     (record {
-      same = record { problem = refl; proofs = refl; lent = refl; faults = c.put.ensures.faults_kept };
+      same = record { problem = refl; proofs = refl; lent = refl; faults = c.put.ensures.faults_kept; tells = c.put.ensures.tells };
       none = c.in-Err.ensures.none;
       written =
           subst (λ l. AppendsFront (Some (g.O.Sink.taken c.loop-event.self.sink.now)) (c.loop-event.self.waiting.now.items ++ l) (Some
@@ -113,8 +114,8 @@ returns-clause-taken g c =
     let value = c.as_slice-event-items.ensures.value in
     let last = none_left g.E.Notice.stands_for _ _ c.loop-event.event-index value (omega arith) in
     let w = c.write_waiting.ensures in
-    on_ok_map c.write_waiting.result _ _ w.written (λ written. taking_ends _ c.loop-event.invariant last _
-    (record { problem = refl; proofs = refl; lent = refl; faults = w.faults_kept }) refl w.none written)
+    on_ok_both c.write_waiting.result _ _ _ w.written w.quiet (λ written quiet. taking_ends _ c.loop-event.invariant last _
+    (record { problem = refl; proofs = refl; lent = refl; faults = w.faults_kept; tells = w.tells }) quiet refl w.none written)
 
 pub returns-clause-refused : goal.returns-clause-refused
 returns-clause-refused g c =
@@ -122,7 +123,7 @@ returns-clause-refused g c =
     let last = none_left g.E.Notice.stands_for _ _ c.loop-event.event-index value (omega arith) in
     let w = c.write_waiting.ensures in
     on_err_map c.write_waiting.result _ _ w.cut (λ both. taking_cut _ c.loop-event.invariant last _ both.0
-    (record { problem = refl; proofs = refl; lent = refl; faults = w.faults_kept }) w.none both.1)
+    (record { problem = refl; proofs = refl; lent = refl; faults = w.faults_kept; tells = w.tells }) w.none both.1)
 
 pub returns-clause-write : goal.returns-clause-write
 returns-clause-write g c =

@@ -21,15 +21,15 @@ some_of P o x e h = subst (λ p. IfSome p P) e h
 pub none_of : {X : Type 0} {P : Type 0} (o : Option X) → o ≡ None → IfNone o P → P
 none_of {X} {P} o e h = subst (λ (p : Option X). IfNone p P) e h
 
-pub ran_back : (standing end : Type 0) (leads : Bool) (problem : ProblemTree) (ran : Ran) (batch : Arc FrozenSight Global) (s a : Sat) (events : List Event)
-    (engine : Owing) → ran ≡ Back batch → RunsTo standing end leads problem ran s a events engine
-    → RunsTo standing end leads problem (Back batch) s a events engine
-ran_back standing end leads problem ran batch s a events engine is r = subst (λ x. RunsTo standing end leads problem x s a events engine) is r
+pub ran_back : (standing end : Type 0) (refused : Type 0) (problem : ProblemTree) (ran : Ran) (batch : Arc FrozenSight Global) (s a : Sat) (events : List Event)
+    (engine : Owing) → ran ≡ Back batch → RunsTo standing end refused problem ran s a events engine
+    → RunsTo standing end refused problem (Back batch) s a events engine
+ran_back standing end refused problem ran batch s a events engine is r = subst (λ x. RunsTo standing end refused problem x s a events engine) is r
 
-pub ended_partly : (standing end : Type 0) (leads : Bool) (problem : ProblemTree) (ended : Ending) (n : ℕ) (batch : Arc FrozenSight Global) (s a : Sat)
-    (events : List Event) → ended ≡ ending.Partly n batch → EndsTo standing end leads problem ended s a events
-    → EndsTo standing end leads problem (ending.Partly n batch) s a events
-ended_partly standing end leads problem ended n batch s a events is r = subst (λ x. EndsTo standing end leads problem x s a events) is r
+pub ended_partly : (standing end : Type 0) (refused : Type 0) (problem : ProblemTree) (ended : Ending) (n : ℕ) (batch : Arc FrozenSight Global) (s a : Sat)
+    (events : List Event) → ended ≡ ending.Partly n batch → EndsTo standing end refused problem ended s a events
+    → EndsTo standing end refused problem (ending.Partly n batch) s a events
+ended_partly standing end refused problem ended n batch s a events is r = subst (λ x. EndsTo standing end refused problem x s a events) is r
 
 pub some_on : {E : Type 0} (result : Result (Option ℕ) E) (P Q : ℕ → Type 0) → IfOk result (λ o. IfSome o P) → ((n : ℕ) → P n → Q n)
     → IfOk result (λ o. IfSome o Q)
@@ -42,10 +42,10 @@ none_on (Ok None) P Q h f = f h
 none_on (Ok (Some n)) P Q h f = tt
 none_on (Err e) P Q h f = tt
 
-pub went_as : (standing end : Type 0) (leads : Bool) (problem : ProblemTree) (went went' : Went) (s a : Sat) → went ≡ went'
-    → WentTo standing end leads problem went s a → WentTo standing end leads problem went' s a
-went_as standing end leads problem went went' s a is r = subst (λ x. WentTo standing end leads problem x s a) is r
+pub went_as : (standing end : Type 0) (refused : Type 0) (problem : ProblemTree) (went went' : Went) (s a : Sat) → went ≡ went'
+    → WentTo standing end refused problem went s a → WentTo standing end refused problem went' s a
+went_as standing end refused problem went went' s a is r = subst (λ x. WentTo standing end refused problem x s a) is r
 
-pub ended_as : (standing end : Type 0) (leads : Bool) (problem : ProblemTree) (ended ended' : Ending) (s a : Sat) (events : List Event) → ended ≡ ended'
-    → EndsTo standing end leads problem ended s a events → EndsTo standing end leads problem ended' s a events
-ended_as standing end leads problem ended ended' s a events is r = subst (λ x. EndsTo standing end leads problem x s a events) is r
+pub ended_as : (standing end : Type 0) (refused : Type 0) (problem : ProblemTree) (ended ended' : Ending) (s a : Sat) (events : List Event) → ended ≡ ended'
+    → EndsTo standing end refused problem ended s a events → EndsTo standing end refused problem ended' s a events
+ended_as standing end refused problem ended ended' s a events is r = subst (λ x. EndsTo standing end refused problem x s a events) is r

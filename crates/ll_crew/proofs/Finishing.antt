@@ -142,13 +142,13 @@ lacks_none (Some x) piece' found after rest n m e h whole counted =
     (λ i. record { events = events i; cost = cost i })
 
 -- a piece that is to be closed once the batch that came back was run, too
-pub partly_reports : {E : Type 0} (x y end : Type 0) (leads : Bool) (problem : ProblemTree) (ended : Ending) (n : ℕ) (batch : Arc FrozenSight Global)
-    (s a b : Sat) (found events : List Event) (r : Result (Option ℕ) E) → ended ≡ ending.Partly n batch → EndsTo x end leads problem ended s a found
+pub partly_reports : {E : Type 0} (x y end refused : Type 0) (problem : ProblemTree) (ended : Ending) (n : ℕ) (batch : Arc FrozenSight Global)
+    (s a b : Sat) (found events : List Event) (r : Result (Option ℕ) E) → ended ≡ ending.Partly n batch → EndsTo x end refused problem ended s a found
     → IfOk r (λ o. IfSome o (λ m. RunsAll y a b found (events_in (alternatives_in (arc_value batch)))
     (n + cost_in (alternatives_in (arc_value batch))) events m))
     → IfOk r (λ o. IfSome o (λ m. Reports y s b events m))
-partly_reports x y end leads problem ended n batch s a b found events r is ends runs =
-    let first = ended_partly x end leads problem ended n batch s a found is ends in
+partly_reports x y end refused problem ended n batch s a b found events r is ends runs =
+    let first = ended_partly x end refused problem ended n batch s a found is ends in
     some_on r (λ m. RunsAll y a b found (events_in (alternatives_in (arc_value batch))) (n + cost_in (alternatives_in (arc_value batch))) events m)
     (λ m. Reports y s b events m) runs
     (λ m all.

@@ -30,12 +30,12 @@ SharesTo piece events old new Published = OwesAfter piece events old new None ×
 SharesTo piece events old new (share.Back batch) = OwesAfter piece events old new (Some batch)
 
 -- the engine has nothing left, or the piece owes a batch that came back, too, or the worker leaves
-abbrev pub RunsTo : Type 0 → Type 0 → Bool → ProblemTree → Ran → Sat → Sat → List Event → Owing → Type 0
-RunsTo standing end leads problem Done before after events engine =
+abbrev pub RunsTo : Type 0 → Type 0 → Type 0 → ProblemTree → Ran → Sat → Sat → List Event → Owing → Type 0
+RunsTo standing end refused problem Done before after events engine =
     Stays standing before after × OwesAll after.mine.piece events engine [] × (engine.events ≡ []) × (engine.cost ≡ 0)
-RunsTo standing end leads problem (Back batch) before after events engine =
+RunsTo standing end refused problem (Back batch) before after events engine =
     Stays standing before after × OwesAll after.mine.piece events engine (alternatives_in (arc_value batch)) × ((arc_value batch).problem ≡ problem)
-RunsTo standing end leads problem Left before after events engine = Leaves end leads before after
+RunsTo standing end refused problem Left before after events engine = Leaves end refused before after
 
 -- the engine gave all that it owed, and nothing was published
 pub record RunsAlone (standing : Type 0) (before after : Sat) (found : List Event) (old : Owing) (events : List Event) (new : Owing) : Type 0 where
@@ -66,15 +66,15 @@ pub record Reports (standing : Type 0) (before after : Sat) (events : List Event
   pub whole : IsSomeAnd after.mine.piece (λ (piece : OpenPiece). record { events = events; cost = inferences } ≡ report_of piece.owes)
 
 -- the engine of a piece has nothing left: the piece is to be closed, or owes a batch that came back, unless the worker leaves
-abbrev pub EndsTo : Type 0 → Type 0 → Bool → ProblemTree → Ending → Sat → Sat → List Event → Type 0
-EndsTo standing end leads problem (ending.Whole n) before after events = Reports standing before after events n
-EndsTo standing end leads problem (ending.Partly n batch) before after events =
+abbrev pub EndsTo : Type 0 → Type 0 → Type 0 → ProblemTree → Ending → Sat → Sat → List Event → Type 0
+EndsTo standing end refused problem (ending.Whole n) before after events = Reports standing before after events n
+EndsTo standing end refused problem (ending.Partly n batch) before after events =
     Stays standing before after × IsSomeAnd after.mine.piece (Lacks events n (alternatives_in (arc_value batch))) × ((arc_value batch).problem ≡ problem)
-EndsTo standing end leads problem ending.Left before after events = Leaves end leads before after
+EndsTo standing end refused problem ending.Left before after events = Leaves end refused before after
 
 -- how a claim went: the seat has no open piece, unless the worker leaves
-abbrev pub WentTo : Type 0 → Type 0 → Bool → ProblemTree → Went → Sat → Sat → Type 0
-WentTo standing end leads problem went.Worked before after = Stays standing before after × (after.mine.piece ≡ None)
-WentTo standing end leads problem went.Idle before after = Stays standing before after × (after.mine.piece ≡ None)
-WentTo standing end leads problem went.Ended before after = Ended standing problem before after
-WentTo standing end leads problem went.Left before after = Leaves end leads before after
+abbrev pub WentTo : Type 0 → Type 0 → Type 0 → ProblemTree → Went → Sat → Sat → Type 0
+WentTo standing end refused problem went.Worked before after = Stays standing before after × (after.mine.piece ≡ None)
+WentTo standing end refused problem went.Idle before after = Stays standing before after × (after.mine.piece ≡ None)
+WentTo standing end refused problem went.Ended before after = Ended standing problem before after
+WentTo standing end refused problem went.Left before after = Leaves end refused before after

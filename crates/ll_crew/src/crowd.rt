@@ -4,7 +4,7 @@ ghost use Rattle.std.specs.Vec.{vec_capacity};
 ghost use Rattle.std.specs.Thread.{IsSync};
 ghost use Rattle.ll_laws.specs.Sound.{Every};
 ghost use Rattle.ll_job.specs.Crews.{EachWorked};
-ghost use Rattle.ll_job.specs.Leading.{Stands, Stopped};
+ghost use Rattle.ll_job.specs.Leading.{Stands, Stopped, WasRefused};
 ghost use Rattle.ll_job.specs.Turns.{Ended, Leaves, Fails, CanWork, Worked};
 
 use crate::worker::work_as;
@@ -131,7 +131,7 @@ pub(crate) fn work_together<'a, 'p, R: Threads + Wait + Sync, G: Gate, O: Outlet
         (Stands O.takes O.breaks O.welcome O.faults job.now.start.now.value job.now.problem.now first.new out.new told.new) job.now.problem.now first.old
         first.new) }
     ensures left { IfOk result.1 (λ done. done ≡ false → Leaves
-        (Stopped O.takes O.breaks O.welcome O.faults job.now.start.now.value job.now.problem.now out.new told.new) told.old.leads first.old first.new) }
+        (Stopped O.takes O.breaks O.welcome O.faults job.now.start.now.value job.now.problem.now out.new told.new) (WasRefused told.new) first.old first.new) }
     ensures failed { OnErr result.1 (Fails (Stopped O.takes O.breaks O.welcome O.faults job.now.start.now.value job.now.problem.now out.new told.new) first.old
         first.new) }
     ensures seats { EachWorked seats.entry.items result.0.items }
@@ -170,7 +170,7 @@ pub(crate) fn work_together<'a, 'p, R: Threads + Wait + Sync, G: Gate, O: Outlet
                 job.entry.now.problem.now first.entry.now first.exit.now) }
             ensures left { IfOk result (λ done. done ≡ false
                 → Leaves (Stopped O.takes O.breaks O.welcome O.faults job.entry.now.start.now.value job.entry.now.problem.now out.exit.now told.exit.now)
-                told.entry.now.leads first.entry.now first.exit.now) }
+                (WasRefused told.exit.now) first.entry.now first.exit.now) }
             ensures failed { OnErr result (Fails (Stopped O.takes O.breaks O.welcome O.faults job.entry.now.start.now.value job.entry.now.problem.now
                 out.exit.now told.exit.now) first.entry.now first.exit.now) }
         { work_as(job, gate, first, told, out) },

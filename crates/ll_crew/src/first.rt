@@ -28,7 +28,7 @@ use std::thread::Threads;
 ///
 /// `None` exactly where the search has as many answers as the outlet wants: the events up to the last of these were given, and no others.
 /// Otherwise all events were given, and the answer has their counts and the cost of the search. On a refusal a prefix of what would have
-/// been given was. `Write` only where the outlet's count of faults rose.
+/// been given was, with fewer answers than are wanted. `Write` only where the outlet's count of faults rose.
 pub fn crew_first<'p, R: Threads + Wait + Sync, G: Gate, E: Enough>(
     rt: &R,
     alloc: Global,
@@ -46,6 +46,7 @@ pub fn crew_first<'p, R: Threads + Wait + Sync, G: Gate, E: Enough>(
     ensures given { OnOk result (Gives E.takes out.old (first_of (problem_events problem.entry.now) (E.limit out.old)) out.new) }
     ensures counts { IfOk result (λ o. IfSome o (λ counts. CountsOf counts (problem_events problem.entry.now) (problem_cost problem.entry.now))) }
     ensures refused { OnErr result (GivesPrefix E.takes E.breaks out.old (first_of (problem_events problem.entry.now) (E.limit out.old)) out.new) }
+    ensures fewer { OnErr result (E.answers out.new < E.limit out.old) }
     ensures write { result ≡ Err CrewFault.Write → Rose (E.faults out.old) (E.faults out.new) }
     ensures faults_kept { E.faults out.old ≤ E.faults out.new }
     ensures welcome_kept { (e : Event) → E.welcome out.old e ↔ E.welcome out.new e }
@@ -84,6 +85,7 @@ fn give_until<'p, 's, R: Threads + Wait + Sync, G: Gate, E: Enough>(
     ensures counts { IfOk result (λ o. IfSome o (λ counts. CountsOf counts (problem_events problem.entry.now) (problem_cost problem.entry.now))) }
     ensures refused { OnErr result (GivesPrefix E.takes E.breaks until.old.out.now (first_of (problem_events problem.entry.now) (E.limit until.old.out.now))
         until.new.out.now) }
+    ensures fewer { OnErr result (E.answers until.new.out.now < E.limit until.old.out.now) }
     ensures write { result ≡ Err CrewFault.Write → Rose (E.faults until.old.out.now) (E.faults until.new.out.now) }
     ensures faults_kept { E.faults until.old.out.now ≤ E.faults until.new.out.now }
     ensures welcome_kept { (e : Event) → E.welcome until.old.out.now e ↔ E.welcome until.new.out.now e }

@@ -6,7 +6,7 @@ ghost use Rattle.ll_laws.specs.Pool.{Owed};
 ghost use Rattle.ll_laws.specs.declared.Event.{Event as TheEvent};
 ghost use Rattle.ll_freeze.specs.Frozen.{alternatives_in};
 ghost use Rattle.ll_engine.specs.Resumes.{Resumes};
-ghost use Rattle.ll_job.specs.Leading.{Stands, Stopped};
+ghost use Rattle.ll_job.specs.Leading.{Stands, Stopped, WasRefused};
 ghost use Rattle.ll_job.specs.Turns.{Stays, Leaves};
 ghost use Rattle.ll_crew.specs.Runs.{SharesTo, RunsTo, RunsAlone, RunsOne, RunsAll, EndsTo, Reports};
 ghost use Rattle.ll_job.specs.Alternatives.{events_in, cost_in};
@@ -169,7 +169,7 @@ fn run<'p, R: Wait, O: Outlet>(
     ensures leads { told.new.leads ≡ told.old.leads }
     ensures problem { OnOk result (engine.new.problem ≡ job.now.problem.now) }
     ensures ran { IfOk result (λ ran. RunsTo (Stands O.takes O.breaks O.welcome O.faults job.now.start.now.value job.now.problem.now seat.new out.new told.new)
-        (Stopped O.takes O.breaks O.welcome O.faults job.now.start.now.value job.now.problem.now out.new told.new) told.old.leads job.now.problem.now ran
+        (Stopped O.takes O.breaks O.welcome O.faults job.now.start.now.value job.now.problem.now out.new told.new) (WasRefused told.new) job.now.problem.now ran
         seat.old seat.new (map O.Found.stands_for events.new.items) engine.new) }
     ensures failed { OnErr result (Stays (Stands O.takes O.breaks O.welcome O.faults job.now.start.now.value job.now.problem.now seat.new out.new told.new)
         seat.old seat.new) }
@@ -215,7 +215,7 @@ fn run_alone<'p, R: Wait, O: Outlet>(
         (map O.Found.stands_for events.old.items)
         engine.old (map O.Found.stands_for events.new.items) engine.new) }
     ensures left { IfOk result (λ done. done ≡ false → Leaves
-        (Stopped O.takes O.breaks O.welcome O.faults job.now.start.now.value job.now.problem.now out.new told.new) told.old.leads seat.old seat.new) }
+        (Stopped O.takes O.breaks O.welcome O.faults job.now.start.now.value job.now.problem.now out.new told.new) (WasRefused told.new) seat.old seat.new) }
     ensures failed { OnErr result (Stays (Stands O.takes O.breaks O.welcome O.faults job.now.start.now.value job.now.problem.now seat.new out.new told.new)
         seat.old seat.new) }
 {
@@ -282,7 +282,7 @@ fn run_one<'p, R: Wait, O: Outlet>(
         → RunsOne (Stands O.takes O.breaks O.welcome O.faults job.now.start.now.value job.now.problem.now seat.new out.new told.new) seat.old seat.new
         (map O.Found.stands_for events.old.items) owes (map O.Found.stands_for events.new.items) n)) }
     ensures none { IfOk result (λ o. IfNone o (Leaves (Stopped O.takes O.breaks O.welcome O.faults job.now.start.now.value job.now.problem.now out.new told.new)
-        told.old.leads seat.old seat.new)) }
+        (WasRefused told.new) seat.old seat.new)) }
     ensures failed { OnErr result (Stays (Stands O.takes O.breaks O.welcome O.faults job.now.start.now.value job.now.problem.now seat.new out.new told.new)
         seat.old seat.new) }
 {
@@ -318,7 +318,7 @@ fn run_batch<'p, R: Wait, O: Outlet>(
         (inferences + cost_in (alternatives_in (arc_value batch.now)))
         (map O.Found.stands_for events.new.items) n)) }
     ensures none { IfOk result (λ o. IfNone o (Leaves (Stopped O.takes O.breaks O.welcome O.faults job.now.start.now.value job.now.problem.now out.new told.new)
-        told.old.leads seat.old seat.new)) }
+        (WasRefused told.new) seat.old seat.new)) }
     ensures failed { OnErr result (Stays (Stands O.takes O.breaks O.welcome O.faults job.now.start.now.value job.now.problem.now seat.new out.new told.new)
         seat.old seat.new) }
 {
@@ -359,8 +359,8 @@ fn run_to_end<'p, R: Wait, O: Outlet>(
     ensures leads { told.new.leads ≡ told.old.leads }
     ensures problem { OnOk result (engine.new.problem ≡ job.now.problem.now) }
     ensures ends { IfOk result (λ ending. EndsTo (Stands O.takes O.breaks O.welcome O.faults job.now.start.now.value job.now.problem.now seat.new out.new
-        told.new) (Stopped O.takes O.breaks O.welcome O.faults job.now.start.now.value job.now.problem.now out.new told.new) told.old.leads job.now.problem.now
-        ending seat.old seat.new (map O.Found.stands_for events.new.items)) }
+        told.new) (Stopped O.takes O.breaks O.welcome O.faults job.now.start.now.value job.now.problem.now out.new told.new)
+        (WasRefused told.new) job.now.problem.now ending seat.old seat.new (map O.Found.stands_for events.new.items)) }
     ensures failed { OnErr result (Stays (Stands O.takes O.breaks O.welcome O.faults job.now.start.now.value job.now.problem.now seat.new out.new told.new)
         seat.old seat.new) }
 {
@@ -395,8 +395,8 @@ fn run_claimed<'p, R: Wait, O: Outlet>(
     ensures leads { told.new.leads ≡ told.old.leads }
     ensures kept { OnOk result (IsKeptOf job.now.problem.now kept.new) }
     ensures ends { IfOk result (λ ending. EndsTo (Stands O.takes O.breaks O.welcome O.faults job.now.start.now.value job.now.problem.now seat.new out.new
-        told.new) (Stopped O.takes O.breaks O.welcome O.faults job.now.start.now.value job.now.problem.now out.new told.new) told.old.leads job.now.problem.now
-        ending seat.old seat.new (map O.Found.stands_for events.new.items)) }
+        told.new) (Stopped O.takes O.breaks O.welcome O.faults job.now.start.now.value job.now.problem.now out.new told.new)
+        (WasRefused told.new) job.now.problem.now ending seat.old seat.new (map O.Found.stands_for events.new.items)) }
     ensures failed { OnErr result (Stays (Stands O.takes O.breaks O.welcome O.faults job.now.start.now.value job.now.problem.now seat.new out.new told.new)
         seat.old seat.new) }
 {
@@ -431,7 +431,7 @@ fn run_piece<'p, R: Wait, O: Outlet>(
         (λ o. IfSome o (λ n. Reports (Stands O.takes O.breaks O.welcome O.faults job.now.start.now.value job.now.problem.now seat.new out.new told.new) seat.old
         seat.new (map O.Found.stands_for events.new.items) n)) }
     ensures none { IfOk result (λ o. IfNone o (Leaves (Stopped O.takes O.breaks O.welcome O.faults job.now.start.now.value job.now.problem.now out.new told.new)
-        told.old.leads seat.old seat.new)) }
+        (WasRefused told.new) seat.old seat.new)) }
     ensures failed { OnErr result (Stays (Stands O.takes O.breaks O.welcome O.faults job.now.start.now.value job.now.problem.now seat.new out.new told.new)
         seat.old seat.new) }
 {
@@ -468,7 +468,7 @@ pub(crate) fn work_piece<'p, R: Wait, O: Outlet>(
         → Stays (Stands O.takes O.breaks O.welcome O.faults job.now.start.now.value job.now.problem.now seat.new out.new told.new) seat.old seat.new
         × (seat.new.mine.piece ≡ None)) }
     ensures left { IfOk result (λ done. done ≡ false → Leaves
-        (Stopped O.takes O.breaks O.welcome O.faults job.now.start.now.value job.now.problem.now out.new told.new) told.old.leads seat.old seat.new) }
+        (Stopped O.takes O.breaks O.welcome O.faults job.now.start.now.value job.now.problem.now out.new told.new) (WasRefused told.new) seat.old seat.new) }
     ensures failed { OnErr result (Stays (Stands O.takes O.breaks O.welcome O.faults job.now.start.now.value job.now.problem.now seat.new out.new told.new)
         seat.old seat.new) }
 {

@@ -1,7 +1,7 @@
 //! The work of one worker.
 ghost use Rattle.std.specs.Prelude.{◌≡◌, ◌⊎◌, None, IfOk, OnOk, OnErr, true, false};
 ghost use Rattle.ll_job.specs.Seats.{IsSeat, Same, HasLeft, IsOver};
-ghost use Rattle.ll_job.specs.Leading.{Stands, Stopped};
+ghost use Rattle.ll_job.specs.Leading.{Stands, Stopped, WasRefused};
 ghost use Rattle.ll_job.specs.Turns.{Stays, Ended, Leaves, Fails, CanWork};
 ghost use Rattle.ll_crew.specs.Pieces.{IsKeptOf};
 ghost use Rattle.ll_crew.specs.Runs.{WentTo};
@@ -52,8 +52,8 @@ fn claim_one<'p, R: Wait, O: Outlet>(
     ensures leads { told.new.leads ≡ told.old.leads }
     ensures kept { OnOk result (IsKeptOf job.now.problem.now kept.new) }
     ensures went { IfOk result (λ went. WentTo (Stands O.takes O.breaks O.welcome O.faults job.now.start.now.value job.now.problem.now seat.new out.new
-        told.new) (Stopped O.takes O.breaks O.welcome O.faults job.now.start.now.value job.now.problem.now out.new told.new) told.old.leads job.now.problem.now
-        went seat.old seat.new) }
+        told.new) (Stopped O.takes O.breaks O.welcome O.faults job.now.start.now.value job.now.problem.now out.new told.new)
+        (WasRefused told.new) job.now.problem.now went seat.old seat.new) }
     ensures failed { OnErr result (Stays (Stands O.takes O.breaks O.welcome O.faults job.now.start.now.value job.now.problem.now seat.new out.new told.new)
         seat.old seat.new) }
 {
@@ -95,7 +95,7 @@ fn work_with<'p, R: Wait, G: Gate, O: Outlet>(
         → Ended (Stands O.takes O.breaks O.welcome O.faults job.now.start.now.value job.now.problem.now seat.new out.new told.new) job.now.problem.now seat.old
         seat.new) }
     ensures left { IfOk result (λ done. done ≡ false → Leaves
-        (Stopped O.takes O.breaks O.welcome O.faults job.now.start.now.value job.now.problem.now out.new told.new) told.old.leads seat.old seat.new) }
+        (Stopped O.takes O.breaks O.welcome O.faults job.now.start.now.value job.now.problem.now out.new told.new) (WasRefused told.new) seat.old seat.new) }
     ensures failed { OnErr result (Stays (Stands O.takes O.breaks O.welcome O.faults job.now.start.now.value job.now.problem.now seat.new out.new told.new)
         seat.old seat.new) }
 {
@@ -140,7 +140,7 @@ fn work_on<'p, R: Wait, G: Gate, O: Outlet>(
         → Ended (Stands O.takes O.breaks O.welcome O.faults job.now.start.now.value job.now.problem.now seat.new out.new told.new) job.now.problem.now seat.old
         seat.new) }
     ensures left { IfOk result (λ done. done ≡ false → Leaves
-        (Stopped O.takes O.breaks O.welcome O.faults job.now.start.now.value job.now.problem.now out.new told.new) told.old.leads seat.old seat.new) }
+        (Stopped O.takes O.breaks O.welcome O.faults job.now.start.now.value job.now.problem.now out.new told.new) (WasRefused told.new) seat.old seat.new) }
     ensures failed { OnErr result (Stays (Stands O.takes O.breaks O.welcome O.faults job.now.start.now.value job.now.problem.now seat.new out.new told.new)
         seat.old seat.new) }
 {
@@ -167,7 +167,7 @@ pub(crate) fn work_as<'p, R: Wait, G: Gate, O: Outlet>(
         → Ended (Stands O.takes O.breaks O.welcome O.faults job.now.start.now.value job.now.problem.now seat.new out.new told.new) job.now.problem.now seat.old
         seat.new) }
     ensures left { IfOk result (λ done. done ≡ false → Leaves
-        (Stopped O.takes O.breaks O.welcome O.faults job.now.start.now.value job.now.problem.now out.new told.new) told.old.leads seat.old seat.new) }
+        (Stopped O.takes O.breaks O.welcome O.faults job.now.start.now.value job.now.problem.now out.new told.new) (WasRefused told.new) seat.old seat.new) }
     ensures failed { OnErr result (Fails (Stopped O.takes O.breaks O.welcome O.faults job.now.start.now.value job.now.problem.now out.new told.new) seat.old
         seat.new) }
 {

@@ -10,7 +10,7 @@ use Rattle.ll_pool.specs.Turns.{OneTurn}
 use Rattle.ll_laws.specs.Problem.{ProblemTree}
 use Rattle.ll_freeze.specs.Frozen.{FrozenSight, alternatives_in}
 use Rattle.ll_job.specs.Seats.{Sat, asked, of_batch, HasLeft}
-use Rattle.ll_job.specs.Leading.{Stands}
+use Rattle.ll_job.specs.Leading.{Stands, WasRefused}
 use Rattle.ll_job.specs.Leading as leading
 use Rattle.ll_job.specs.Turns.{Stays, Goes, Leaves, Ended, Fails}
 use Rattle.ll_job.specs.declared.lead.Told.{Told}
@@ -33,7 +33,7 @@ module _ {O : Type 0} (takes breaks : O → Event → O → Type 0) (welcome : O
     pub claim_stays : Stays (Standing a out told) s a
     claim_stays = let c = calm_claim answer s a t in record { same = c.same; quit = c.quit; stands = claim_stands }
 
-    leaves_with : HasLeft a → Leaves (Stopping out told) told.leads s a
+    leaves_with : HasLeft a → Leaves (Stopping out told) (WasRefused told) s a
     leaves_with left = let c = calm_claim answer s a t in record {
       same = c.same;
       left = left;
@@ -44,13 +44,13 @@ module _ {O : Type 0} (takes breaks : O → Event → O → Type 0) (welcome : O
 
   pub claim_starved : (s a : Sat) (out : O) (told : Told) → OneTurn of_batch alternatives_in
       (λ found left. ClaimsAs alternatives_in found s.mine.worker Starved left) s a → s.problem ≡ Some (asked problem) → Standing s out told
-      → Leaves (Stopping out told) told.leads s a
+      → Leaves (Stopping out told) (WasRefused told) s a
   claim_starved s a out told t is st = let d = t.changed in leaves_with Starved s a out told t is st
       (inl (ap (λ (p : PoolData FrozenSight Event). p.starved) (turn_seen _ s a t ∙ d.2) ∙ d.1))
 
   pub claim_stopped : (s a : Sat) (out : O) (told : Told) → OneTurn of_batch alternatives_in
       (λ found left. ClaimsAs alternatives_in found s.mine.worker Stopped left) s a → s.problem ≡ Some (asked problem) → Standing s out told
-      → Leaves (Stopping out told) told.leads s a
+      → Leaves (Stopping out told) (WasRefused told) s a
   claim_stopped s a out told t is st = let d = t.changed in leaves_with Stopped s a out told t is st
       (inr (ap (λ (p : PoolData FrozenSight Event). p.stopped) (turn_seen _ s a t ∙ d.1) ∙ d.0))
 
@@ -69,14 +69,8 @@ module _ {O : Type 0} (takes breaks : O → Event → O → Type 0) (welcome : O
         busy = ap (λ (p : PoolData FrozenSight Event). p.busy) (turn_seen _ s a t ∙ d.3) ∙ d.2;
       }
 
-pub stays_out : (x e : Type 0) (leads leads' : Bool) (s a b : Sat) → leads ≡ leads' → Stays x s a → Leaves e leads a b → Leaves e leads' s b
-stays_out x e leads leads' s a b is f g = record {
-  same = same_on s a b f.same g.same;
-  left = g.left;
-  quit = λ h. g.quit (is ∙ h) ∙ f.quit;
-  stopped =
-      g.stopped;
-}
+pub stays_out : (x e refused : Type 0) (s a b : Sat) → Stays x s a → Leaves e refused a b → Leaves e refused s b
+stays_out x e refused s a b f g = record { same = same_on s a b f.same g.same; left = g.left; quit = λ h. g.quit h ∙ f.quit; stopped = g.stopped }
 
 pub stays_on : (x y : Type 0) (s a b : Sat) → Stays x s a → Stays y a b → Stays y s b
 stays_on x y s a b f g = record { same = same_on s a b f.same g.same; quit = g.quit ∙ f.quit; stands = g.stands }

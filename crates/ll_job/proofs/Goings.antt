@@ -1,7 +1,6 @@
 -- How what stands goes on from turn to turn.
-use Rattle.std.proofs.Common.{◌≡◌, ◌⊎◌, ℕ, ◌+◌, ◌≤◌, List, Bool, true, sym, ap, ◌∙◌, subst, ⊎_elim, inl, inr, Option, Some, None}
+use Rattle.std.proofs.Common.{◌≡◌, ◌⊎◌, ℕ, ◌+◌, ◌≤◌, List, Bool, true, refl, sym, ap, ◌∙◌, subst, ⊎_elim, inl, inr, Option, Some, None}
 use Rattle.std.specs.Prelude.{◌↔◌, count_by, MatchOption}
-use Rattle.std.proofs.lemmas.Bool.{true≢false}
 use Rattle.ll_laws.specs.declared.Event.{Event}
 use Rattle.ll_laws.specs.declared.Counts.{Counts}
 use Rattle.ll_laws.specs.Pool.{Owed, PoolData}
@@ -16,7 +15,7 @@ use Rattle.ll_pool.specs.Turns.{OneTurn}
 use Rattle.ll_laws.specs.Problem.{ProblemTree}
 use Rattle.ll_freeze.specs.Frozen.{FrozenSight, alternatives_in}
 use Rattle.ll_job.specs.Seats.{Sat, asked, of_batch, Same, Calm, HasLeft}
-use Rattle.ll_job.specs.Leading.{Leads, Broke, Stands, Stopped, PrefixGiven}
+use Rattle.ll_job.specs.Leading.{Leads, Broke, Stands, Stopped, PrefixGiven, WasRefused}
 use Rattle.ll_job.specs.Turns.{Goes, Stays, Leaves}
 use Rattle.ll_job.specs.declared.lead.Told.{Told}
 use Rattle.ll_job.proofs.Calms.{same_on, turn_same, turn_seen, none_set, calm_look}
@@ -94,11 +93,12 @@ module _ {O : Type 0} (takes breaks : O → Event → O → Type 0) (welcome : O
 
     pub told_refused : (fault : OutFault) (q : Sat) → Refuses takes breaks out events out' → (fault ≡ Write → Rose (faults out) (faults out'))
         → faults out ≤ faults out' → ((e : Event) → welcome out e ↔ welcome out' e) → Same b q → HasLeft q
-        → Leaves (Stopped takes breaks welcome faults start problem out' (record told { fault = Some fault })) true s q
+        → Leaves (Stopped takes breaks welcome faults start problem out' (record told { fault = Some fault }))
+        (WasRefused (record told { fault = Some fault })) s q
     told_refused fault q refuses rose low alike same left = record {
       same = same_on s b q (same_on s a b g.same (turn_same _ a b t)) same;
       left = left;
-      quit = λ f. absurd (true≢false f);
+      quit = λ none. absurd (none (leads, refl));
       stopped = λ l. let leads = stood.2 in (
         kept_on takes breaks welcome faults start out out' leads.kept low alike,
         broke_now takes breaks welcome faults start problem out told.counts a b report t its_problem stood.0 stood.2 out' fault
@@ -108,7 +108,7 @@ module _ {O : Type 0} (takes breaks : O → Event → O → Type 0) (welcome : O
 
   -- it leaves from where it stands
   pub leaves_calm : (s a b : Sat) (out : O) (told : Told) → s.problem ≡ Some (asked problem) → Standing b out told → Same s b → HasLeft b
-      → b.mine.quit ≡ s.mine.quit → Leaves (Stopped takes breaks welcome faults start problem out told) told.leads s b
+      → b.mine.quit ≡ s.mine.quit → Leaves (Stopped takes breaks welcome faults start problem out told) (WasRefused told) s b
   leaves_calm s a b out told is st same left quit = record { same = same; left = left; quit = λ f. quit; stopped = prefix_stands b out told st }
 
   -- ---- a look
@@ -122,7 +122,7 @@ module _ {O : Type 0} (takes breaks : O → Event → O → Type 0) (welcome : O
     pub look_goes : a.mine.piece ≡ s.mine.piece → Goes (Standing a out told) s a
     look_goes piece = let c = calm_look seen s a t in record { same = c.same; piece = piece; quit = c.quit; stands = looked }
 
-    pub look_leaves : (seen.starved ≡ true) ⊎ (seen.stopped ≡ true) → Leaves (Stopped takes breaks welcome faults start problem out told) told.leads s a
+    pub look_leaves : (seen.starved ≡ true) ⊎ (seen.stopped ≡ true) → Leaves (Stopped takes breaks welcome faults start problem out told) (WasRefused told) s a
     look_leaves marked =
         let c = calm_look seen s a t in
         leaves_calm s a a out told is looked c.same
@@ -138,8 +138,8 @@ module _ {O : Type 0} (takes breaks : O → Event → O → Type 0) (welcome : O
   pub goes_on : (s a b : Sat) (x y : Type 0) → Goes x s a → Goes y a b → Goes y s b
   goes_on s a b x y f g = record { same = same_on s a b f.same g.same; piece = g.piece ∙ f.piece; quit = g.quit ∙ f.quit; stands = g.stands }
 
-  pub goes_out : (leads : Bool) (s a b : Sat) (x y : Type 0) → Goes x s a → Leaves y leads a b → Leaves y leads s b
-  goes_out leads s a b x y f g = record { same = same_on s a b f.same g.same; left = g.left; quit = λ h. g.quit h ∙ f.quit; stopped = g.stopped }
+  pub goes_out : (refused : Type 0) (s a b : Sat) (x y : Type 0) → Goes x s a → Leaves y refused a b → Leaves y refused s b
+  goes_out refused s a b x y f g = record { same = same_on s a b f.same g.same; left = g.left; quit = λ h. g.quit h ∙ f.quit; stopped = g.stopped }
 
   pub stays_goes : (s a b : Sat) (x y : Type 0) → Stays x s a → Goes y a b → Stays y s b
   stays_goes s a b x y f g = record { same = same_on s a b f.same g.same; quit = g.quit ∙ f.quit; stands = g.stands }

@@ -1,5 +1,5 @@
 -- What worker 0 has told the outlet.
-use Rattle.std.specs.Prelude.{◌≡◌, ◌↔◌, ℕ, ◌≤◌, List, ◌++◌, true, None, MatchOption}
+use Rattle.std.specs.Prelude.{◌≡◌, ◌↔◌, ℕ, ◌≤◌, List, ◌++◌, true, None, IsSome, MatchOption}
 use Rattle.ll_laws.specs.declared.Event.{Event}
 use Rattle.ll_laws.specs.declared.Counts.{Counts}
 use Rattle.ll_laws.specs.Pool.{Owed, PoolData}
@@ -13,6 +13,10 @@ use Rattle.ll_freeze.specs.Frozen.{FrozenSight, problem_owes, alternatives_in}
 use Rattle.ll_job.specs.Alternatives.{events_in, cost_in}
 use Rattle.ll_job.specs.Seats.{Sat, IsSound, of_batch}
 use Rattle.ll_job.specs.declared.lead.Told.{Told}
+
+-- the worker leads, and the outlet refused an event
+abbrev pub WasRefused : Told → Type 0
+WasRefused told = (told.leads ≡ true) × IsSome told.fault
 
 module _ {O : Type 0} (takes breaks : O → Event → O → Type 0) (welcome : O → Event → Type 0) (faults : O → ℕ) where
   -- the outlet's count has not fallen, and the same events are welcome to it

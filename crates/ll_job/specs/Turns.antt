@@ -1,5 +1,5 @@
 -- How a worker goes on from a turn, or leaves.
-use Rattle.std.specs.Prelude.{◌≡◌, ◌⊎◌, Bool, true, false, None}
+use Rattle.std.specs.Prelude.{◌≡◌, ◌⊎◌, true, None}
 use Rattle.ll_pool.specs.Turns.{PoolSight}
 use Rattle.ll_laws.specs.Problem.{ProblemTree}
 use Rattle.ll_job.specs.Seats.{Sat, IsSeat, IsSound, Same, HasLeft}
@@ -17,11 +17,11 @@ pub record Goes (standing : Type 0) (before after : Sat) : Type 0 where
   pub quit : after.mine.quit ≡ before.mine.quit
   pub stands : standing
 
--- It leaves with the same seat, whose pool is starved or stopped. Only a worker that leads may have stopped it
-pub record Leaves (end : Type 0) (leads : Bool) (before after : Sat) : Type 0 where
+-- It leaves with the same seat, whose pool is starved or stopped. Unless the outlet refused an event, it was not this worker that did so
+pub record Leaves (end refused : Type 0) (before after : Sat) : Type 0 where
   pub same : Same before after
   pub left : HasLeft after
-  pub quit : leads ≡ false → after.mine.quit ≡ before.mine.quit
+  pub quit : (refused → ⊥) → after.mine.quit ≡ before.mine.quit
   pub stopped : end
 
 -- it has come to the end: nothing is untried or open in the pool

@@ -3,7 +3,7 @@ ghost use Rattle.std.specs.Prelude.{◌≡◌, None, IsSome, IsNone, IsSomeAnd, 
 ghost use Rattle.ll_laws.specs.Sound.{report_of};
 ghost use Rattle.ll_pool.specs.Turns.{HasQuit};
 ghost use Rattle.ll_job.specs.Seats.{IsSeat};
-ghost use Rattle.ll_job.specs.Leading.{Stands, Stopped};
+ghost use Rattle.ll_job.specs.Leading.{Stands, Stopped, WasRefused};
 ghost use Rattle.ll_job.specs.Turns.{Goes, Leaves, Stays};
 
 use crate::job::Job;
@@ -93,8 +93,8 @@ fn tell_all<'p, R: Wait, O: Outlet>(
     ensures leads { told.new.leads ≡ true }
     ensures on { result ≡ true → Goes (Stands O.takes O.breaks O.welcome O.faults job.now.start.now.value job.now.problem.now seat.new out.new told.new)
         seat.old seat.new }
-    ensures left { result ≡ false → Leaves (Stopped O.takes O.breaks O.welcome O.faults job.now.start.now.value job.now.problem.now out.new told.new) true
-        seat.old seat.new }
+    ensures left { result ≡ false → Leaves (Stopped O.takes O.breaks O.welcome O.faults job.now.start.now.value job.now.problem.now out.new told.new)
+        (WasRefused told.new) seat.old seat.new }
 {
     for _ in job.rt.forever() {
         let Ready::Events(report) = job.pool.ready(job.rt, seat) else {
@@ -132,7 +132,7 @@ pub fn tell<'p, R: Wait, O: Outlet>(
     ensures on { result ≡ true → Goes (Stands O.takes O.breaks O.welcome O.faults job.now.start.now.value job.now.problem.now seat.new out.new told.new)
         seat.old seat.new }
     ensures left { result ≡ false → Leaves (Stopped O.takes O.breaks O.welcome O.faults job.now.start.now.value job.now.problem.now out.new told.new)
-        told.old.leads seat.old seat.new }
+        (WasRefused told.new) seat.old seat.new }
 {
     if told.leads {
         return tell_all(job, seat, told, out);
@@ -154,7 +154,7 @@ pub fn look<'p, R: Wait, O: Outlet>(
     ensures on { IsSome result → Goes (Stands O.takes O.breaks O.welcome O.faults job.now.start.now.value job.now.problem.now seat.new out.new told.new)
         seat.old seat.new }
     ensures left { IsNone result → Leaves (Stopped O.takes O.breaks O.welcome O.faults job.now.start.now.value job.now.problem.now out.new told.new)
-        told.old.leads seat.old seat.new }
+        (WasRefused told.new) seat.old seat.new }
 {
     let look = job.pool.look(job.rt, seat);
     if look.starved || look.stopped {
@@ -183,7 +183,7 @@ pub fn report<'p, R: Wait, O: Outlet>(
     ensures done { result ≡ true → Stays (Stands O.takes O.breaks O.welcome O.faults job.now.start.now.value job.now.problem.now seat.new out.new told.new)
         seat.old seat.new × (seat.new.mine.piece ≡ None) }
     ensures left { result ≡ false → Leaves (Stopped O.takes O.breaks O.welcome O.faults job.now.start.now.value job.now.problem.now out.new told.new)
-        told.old.leads seat.old seat.new }
+        (WasRefused told.new) seat.old seat.new }
 {
     job.pool.report(job.rt, seat, Report { events, inferences });
     job.bell.ring(job.rt, 0);

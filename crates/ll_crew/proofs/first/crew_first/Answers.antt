@@ -1,3 +1,4 @@
+use Rattle.std.proofs.Common.{arith}
 use Rattle.ll_crew.proofs.first.crew_first.Goals as goal
 
 pub returns-in_default-clause-enough : goal.returns-in_default-clause-enough
@@ -23,3 +24,6 @@ give_until-requires-clause-none_yet g c κs within = c.requires.none_yet
 
 pub give_until-requires-clause-welcome : goal.give_until-requires-clause-welcome
 give_until-requires-clause-welcome g c κs within = c.requires.welcome
+
+pub returns-in_default-clause-fewer : goal.returns-in_default-clause-fewer
+returns-in_default-clause-fewer g c = let some = (g.met.E.Enough.limited c.args.out.now).0 in let none = c.requires.none_yet in omega arith

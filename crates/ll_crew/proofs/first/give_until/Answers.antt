@@ -1,6 +1,7 @@
 use Rattle.std.proofs.Common.{refl}
 use Rattle.ll_laws.specs.Problem.{problem_events}
-use Rattle.ll_first.proofs.CallerLemmas.{all_given, enough_given, prefix_within, same_lent, same_lent_prefix, faults_on, faults_prefix, not_enough}
+use Rattle.ll_first.proofs.CallerLemmas.{all_given, enough_given, prefix_within, same_lent, same_lent_prefix, faults_on, faults_prefix, fewer_within}
+use Rattle.ll_first.proofs.CallerLemmas.{not_enough}
 use Rattle.ll_crew.proofs.first.give_until.Goals as goal
 
 pub returns-in-Ok-clause-same_reference : goal.returns-in-Ok-clause-same_reference
@@ -104,3 +105,10 @@ crew_by-requires-clause-index g c κs within = c.requires.index
 
 pub crew_by-requires-clause-welcome : goal.crew_by-requires-clause-welcome
 crew_by-requires-clause-welcome g c κs within = c.requires.welcome
+
+pub returns-in-Err-2-clause-fewer : goal.returns-in-Err-2-clause-fewer
+returns-in-Err-2-clause-fewer g c =
+    fewer_within (λ u. record { out = u.out.now; ended = u.ended; lent = u.out.ghost_name })
+    g.E.Outlet.takes g.E.Outlet.breaks g.E.Outlet.faults g.E.Enough.limit g.E.Enough.answers g.met.E.Enough.counts c.args.until.now
+    (g.met.E.Enough.limited c.args.until.now.out.now) c.requires.none_yet c.requires.starts g.met.E.Enough.keeps c.crew_by.new.out
+    (problem_events c.args.problem.now) c.if-until.false c.in-Err-2.ensures.refused

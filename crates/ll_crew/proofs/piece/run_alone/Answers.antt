@@ -3,6 +3,7 @@ use Rattle.std.proofs.Common.{◌∙◌, refl, sym, arith, rules}
 use Rattle.std.proofs.lemmas.Bool.{true≢false}
 use Rattle.std.proofs.lemmas.Result.{IfOk-from_err}
 use Rattle.ll_lists.proofs.CallerLemmas.{OnErr-always}
+use Rattle.ll_job.specs.Leading.{WasRefused}
 use Rattle.ll_job.proofs.CallerLemmas.{same_itself, seat_on, goes_stays, stays_out, goes_on}
 use Rattle.ll_crew.proofs.Running.{stretching_starts, stretch_on, stretch_last}
 use Rattle.ll_crew.proofs.piece.run_alone.Goals as goal
@@ -70,7 +71,7 @@ pub returns-then-is_none-clause-left : goal.returns-then-is_none-clause-left
 returns-then-is_none-clause-left g c = λ e.
     let i = c.stretches.invariant in
     let none : IsNone c.look.result = search rules in
-    stays_out _ _ c.stretches.told.leads c.args.told.now.leads c.args.seat.now c.stretches.seat c.look.new.seat i.0
+    stays_out _ _ (WasRefused c.look.new.told) c.args.seat.now c.stretches.seat c.look.new.seat
     (goes_stays _ c.args.seat.now c.stretches.seat i.1) (c.look.ensures.left none)
 
 pub stretches-preserved : goal.stretches-preserved

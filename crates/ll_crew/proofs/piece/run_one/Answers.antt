@@ -6,7 +6,7 @@ use Rattle.ll_lists.proofs.CallerLemmas.{OnOk-weaker, OnErr-always}
 use Rattle.ll_laws.specs.declared.Event.{Event}
 use Rattle.ll_laws.specs.Pool.{Owed}
 use Rattle.ll_freeze.specs.Frozen.{alternatives_in}
-use Rattle.ll_job.specs.Leading.{Stands, Stopped}
+use Rattle.ll_job.specs.Leading.{Stands, Stopped, WasRefused}
 use Rattle.ll_job.specs.Turns.{Leaves}
 use Rattle.ll_crew.specs.Pieces.{IsKeptOf}
 use Rattle.ll_crew.specs.Runs.{RunsOne}
@@ -59,7 +59,7 @@ returns-clause-none g c =
     chosen_holds
     (λ (x : Option ℕ). IfNone x (Leaves
     (Stopped g.O.Outlet.takes g.O.Outlet.breaks g.O.Outlet.welcome g.O.Outlet.faults c.args.job.now.start.now.value
-    c.args.job.now.problem.now c.run_alone-done.new.out c.run_alone-done.new.told) c.args.told.now.leads c.args.seat.now
+    c.args.job.now.problem.now c.run_alone-done.new.out c.run_alone-done.new.told) (WasRefused c.run_alone-done.new.told) c.args.seat.now
     c.run_alone-done.new.seat))
     c.run_alone-done.result c.choose.result (Some c.cost-inferences.result) None chosen.yes chosen.no chosen.failed
     (λ is. tt) (λ is. done_of _ c.run_alone-done.result false is alone.left refl)

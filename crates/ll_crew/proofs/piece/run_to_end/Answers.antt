@@ -5,7 +5,7 @@ use Rattle.std.specs.Arc.{arc_value}
 use Rattle.ll_lists.proofs.CallerLemmas.{OnOk-weaker, OnErr-weaker}
 use Rattle.ll_laws.specs.Search.{cut_count}
 use Rattle.ll_freeze.specs.Frozen.{alternatives_in}
-use Rattle.ll_job.specs.Leading.{Stands, Stopped}
+use Rattle.ll_job.specs.Leading.{Stands, Stopped, WasRefused}
 use Rattle.ll_crew.specs.Runs.{RunsTo, EndsTo}
 use Rattle.ll_crew.specs.declared.piece.Ran.TheVariants.{Back}
 use Rattle.ll_crew.specs.declared.piece.Ending.{Ending}
@@ -21,7 +21,7 @@ came_back : (g : _) (c : In-Back g)
     c.args.job.now.problem.now c.run.new.seat c.run.new.out c.run.new.told)
     (Stopped g.O.Outlet.takes g.O.Outlet.breaks g.O.Outlet.welcome g.O.Outlet.faults c.args.job.now.start.now.value c.args.job.now.problem.now c.run.new.out
     c.run.new.told)
-    c.args.told.now.leads c.args.job.now.problem.now (Back c.in-Back.batch) c.args.seat.now c.run.new.seat
+    (WasRefused c.run.new.told) c.args.job.now.problem.now (Back c.in-Back.batch) c.args.seat.now c.run.new.seat
     (map g.O.Found.Notice.stands_for c.run.new.events.items) c.run.new.engine
 came_back g c = ran_back _ _ _ _ c.in_ok-run.field-0 c.in-Back.batch _ _ _ _ c.in-Back.is c.in_ok-run.ensures.ran
 
@@ -32,7 +32,8 @@ returns-in-Back-clause-ends g c =
     chosen_holds (λ (x : Ending). EndsTo (Stands g.O.Outlet.takes g.O.Outlet.breaks g.O.Outlet.welcome g.O.Outlet.faults c.args.job.now.start.now.value
     c.args.job.now.problem.now c.run_alone-done.new.seat c.run_alone-done.new.out c.run_alone-done.new.told)
     (Stopped g.O.Outlet.takes g.O.Outlet.breaks g.O.Outlet.welcome g.O.Outlet.faults c.args.job.now.start.now.value c.args.job.now.problem.now
-    c.run_alone-done.new.out c.run_alone-done.new.told) c.args.told.now.leads c.args.job.now.problem.now x c.args.seat.now c.run_alone-done.new.seat
+    c.run_alone-done.new.out c.run_alone-done.new.told)
+    (WasRefused c.run_alone-done.new.told) c.args.job.now.problem.now x c.args.seat.now c.run_alone-done.new.seat
     (map g.O.Found.Notice.stands_for c.run_alone-done.new.events.items))
     c.run_alone-done.result c.choose.result (ending.Partly c.cost-in-Back.result c.in-Back.batch) ending.Left o.yes o.no o.failed
     (λ is.
@@ -49,8 +50,8 @@ returns-in-Back-clause-ends g c =
           (ap cut_count c.cost-in-Back.ensures ∙ alone.made),
       first.2,
     ))
-    (λ is. stays_out _ _ c.run.new.told.leads c.args.told.now.leads c.args.seat.now c.run.new.seat c.run_alone-done.new.seat
-    c.run.ensures.leads first.0 (done_of _ c.run_alone-done.result false is e.left refl))
+    (λ is. stays_out _ _ (WasRefused c.run_alone-done.new.told) c.args.seat.now c.run.new.seat c.run_alone-done.new.seat
+    first.0 (done_of _ c.run_alone-done.result false is e.left refl))
 
 pub returns-in-Back-clause-problem : goal.returns-in-Back-clause-problem
 returns-in-Back-clause-problem g c =

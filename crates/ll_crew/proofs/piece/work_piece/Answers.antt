@@ -2,6 +2,7 @@ use Rattle.std.proofs.Common.{◌∙◌, refl, sym}
 use Rattle.std.proofs.lemmas.Bool.{true≢false}
 use Rattle.std.proofs.lemmas.Result.{IfOk-from_err}
 use Rattle.ll_lists.proofs.CallerLemmas.{OnErr-always}
+use Rattle.ll_job.specs.Leading.{WasRefused}
 use Rattle.ll_job.proofs.CallerLemmas.{stays_here, stays_on, stays_out}
 use Rattle.ll_crew.proofs.Arms.{some_of, none_of}
 use Rattle.ll_crew.proofs.piece.work_piece.Goals as goal
@@ -36,7 +37,7 @@ returns-in-Ok-Some-clause-done g c = λ e.
 pub returns-in-Ok-Some-clause-left : goal.returns-in-Ok-Some-clause-left
 returns-in-Ok-Some-clause-left g c = λ e.
     let reports = some_of _ c.in-Ok-Some.field-0 c.in-Ok-Some.inferences c.in-Ok-Some.field-0-is c.in-Ok-Some.ensures.some in
-    stays_out _ _ c.run_piece.new.told.leads c.args.told.now.leads c.args.seat.now c.run_piece.new.seat c.report.new.seat c.run_piece.ensures.leads
+    stays_out _ _ (WasRefused c.report.new.told) c.args.seat.now c.run_piece.new.seat c.report.new.seat
     reports.stays (c.report.ensures.left e)
 
 pub returns-in-Ok-None-clause-leads : goal.returns-in-Ok-None-clause-leads

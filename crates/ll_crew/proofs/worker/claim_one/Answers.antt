@@ -2,7 +2,7 @@ use Rattle.std.proofs.Common.{◌∙◌, refl}
 use Rattle.std.proofs.lemmas.Result.{IfOk-from_err}
 use Rattle.ll_lists.proofs.CallerLemmas.{OnErr-always}
 use Rattle.ll_core.specs.declared.answers.Claimed.TheVariants as claims
-use Rattle.ll_job.specs.Leading.{Stands, Stopped}
+use Rattle.ll_job.specs.Leading.{Stands, Stopped, WasRefused}
 use Rattle.ll_job.proofs.CallerLemmas.{seat_on, calm_claim, stays_goes, stays_on, stays_out}
 use Rattle.ll_job.proofs.CallerLemmas.{claim_stands, claim_stays, claim_ended, claim_starved, claim_stopped}
 use Rattle.ll_crew.proofs.worker.claim_one.Goals as goal
@@ -86,8 +86,8 @@ returns-else-branch-clause-went g c =
     stays_out (Stands g.O.Outlet.takes g.O.Outlet.breaks g.O.Outlet.welcome g.O.Outlet.faults c.args.job.now.start.now.value c.args.job.now.problem.now
     c.claim.new.seat c.args.out.now c.args.told.now)
     (Stopped g.O.Outlet.takes g.O.Outlet.breaks g.O.Outlet.welcome g.O.Outlet.faults c.args.job.now.start.now.value c.args.job.now.problem.now
-    c.work_piece.new.out c.work_piece.new.told) c.args.told.now.leads c.args.told.now.leads
-    c.args.seat.now c.claim.new.seat c.work_piece.new.seat refl
+    c.work_piece.new.out c.work_piece.new.told) (WasRefused c.work_piece.new.told)
+    c.args.seat.now c.claim.new.seat c.work_piece.new.seat
     (claim_stays g.O.Outlet.takes g.O.Outlet.breaks g.O.Outlet.welcome g.O.Outlet.faults c.args.job.now.start.now.value c.args.job.now.problem.now
     (claims.Work c.in-Work.piece c.in-Work.batch c.in-Work.k) c.args.seat.now c.claim.new.seat c.args.out.now c.args.told.now
     c.in-Work.ensures.turn seat.problem c.requires.stands) (c.in_ok-work_piece-in-Work.ensures.left c.if-branch.false)
@@ -98,8 +98,8 @@ returns-else-tell-clause-went g c =
     stays_out (Stands g.O.Outlet.takes g.O.Outlet.breaks g.O.Outlet.welcome g.O.Outlet.faults c.args.job.now.start.now.value c.args.job.now.problem.now
     c.claim.new.seat c.args.out.now c.args.told.now)
     (Stopped g.O.Outlet.takes g.O.Outlet.breaks g.O.Outlet.welcome g.O.Outlet.faults c.args.job.now.start.now.value c.args.job.now.problem.now
-    c.tell.new.out c.tell.new.told) c.args.told.now.leads c.args.told.now.leads
-    c.args.seat.now c.claim.new.seat c.tell.new.seat refl
+    c.tell.new.out c.tell.new.told) (WasRefused c.tell.new.told)
+    c.args.seat.now c.claim.new.seat c.tell.new.seat
     (claim_stays g.O.Outlet.takes g.O.Outlet.breaks g.O.Outlet.welcome g.O.Outlet.faults c.args.job.now.start.now.value c.args.job.now.problem.now
     (claims.Idle c.in-Idle.busy) c.args.seat.now c.claim.new.seat c.args.out.now c.args.told.now
     c.in-Idle.ensures.turn seat.problem c.requires.stands) (c.tell.ensures.left c.if-tell.false)

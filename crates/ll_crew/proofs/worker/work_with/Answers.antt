@@ -2,7 +2,7 @@ use Rattle.std.proofs.Common.{◌∙◌, sym}
 use Rattle.std.proofs.lemmas.Bool.{true≢false}
 use Rattle.std.proofs.lemmas.Result.{IfOk-from_err}
 use Rattle.ll_lists.proofs.CallerLemmas.{OnErr-always}
-use Rattle.ll_job.specs.Leading.{Stands, Stopped}
+use Rattle.ll_job.specs.Leading.{Stands, Stopped, WasRefused}
 use Rattle.ll_crew.specs.declared.worker.Went.TheVariants as went
 use Rattle.ll_job.proofs.CallerLemmas.{seat_on, stays_on, stays_out, ended_on}
 use Rattle.ll_crew.proofs.Arms.{went_as}
@@ -23,7 +23,7 @@ claims-preserved-in-Worked g c =
     let w = went_as (Stands g.O.Outlet.takes g.O.Outlet.breaks g.O.Outlet.welcome g.O.Outlet.faults c.args.job.now.start.now.value c.args.job.now.problem.now
     c.claim_one.new.seat c.claim_one.new.out c.claim_one.new.told)
     (Stopped g.O.Outlet.takes g.O.Outlet.breaks g.O.Outlet.welcome g.O.Outlet.faults c.args.job.now.start.now.value c.args.job.now.problem.now
-    c.claim_one.new.out c.claim_one.new.told) c.claims.told.leads c.args.job.now.problem.now
+    c.claim_one.new.out c.claim_one.new.told) (WasRefused c.claim_one.new.told) c.args.job.now.problem.now
     c.in_ok-claim_one.field-0 went.Worked c.claims.seat c.claim_one.new.seat c.in-Worked.is c.in_ok-claim_one.ensures.went in (
       c.claim_one.ensures.leads ∙ i.0,
       stays_on (Stands g.O.Outlet.takes g.O.Outlet.breaks g.O.Outlet.welcome g.O.Outlet.faults c.args.job.now.start.now.value c.args.job.now.problem.now
@@ -40,7 +40,7 @@ claims-preserved g c =
     let w = went_as (Stands g.O.Outlet.takes g.O.Outlet.breaks g.O.Outlet.welcome g.O.Outlet.faults c.args.job.now.start.now.value c.args.job.now.problem.now
     c.claim_one.new.seat c.claim_one.new.out c.claim_one.new.told)
     (Stopped g.O.Outlet.takes g.O.Outlet.breaks g.O.Outlet.welcome g.O.Outlet.faults c.args.job.now.start.now.value c.args.job.now.problem.now
-    c.claim_one.new.out c.claim_one.new.told) c.claims.told.leads c.args.job.now.problem.now
+    c.claim_one.new.out c.claim_one.new.told) (WasRefused c.claim_one.new.told) c.args.job.now.problem.now
     c.in_ok-claim_one.field-0 went.Idle c.claims.seat c.claim_one.new.seat c.in-Idle.is c.in_ok-claim_one.ensures.went in (
       c.claim_one.ensures.leads ∙ i.0,
       stays_on (Stands g.O.Outlet.takes g.O.Outlet.breaks g.O.Outlet.welcome g.O.Outlet.faults c.args.job.now.start.now.value c.args.job.now.problem.now
@@ -57,11 +57,11 @@ returns-in-Left-clause-left g c = λ f.
     stays_out (Stands g.O.Outlet.takes g.O.Outlet.breaks g.O.Outlet.welcome g.O.Outlet.faults c.args.job.now.start.now.value c.args.job.now.problem.now
     c.claims.seat c.claims.out c.claims.told)
     (Stopped g.O.Outlet.takes g.O.Outlet.breaks g.O.Outlet.welcome g.O.Outlet.faults c.args.job.now.start.now.value c.args.job.now.problem.now
-    c.claim_one.new.out c.claim_one.new.told) c.claims.told.leads c.args.told.now.leads c.args.seat.now c.claims.seat c.claim_one.new.seat i.0 i.1
+    c.claim_one.new.out c.claim_one.new.told) (WasRefused c.claim_one.new.told) c.args.seat.now c.claims.seat c.claim_one.new.seat i.1
     (went_as (Stands g.O.Outlet.takes g.O.Outlet.breaks g.O.Outlet.welcome g.O.Outlet.faults c.args.job.now.start.now.value c.args.job.now.problem.now
     c.claim_one.new.seat c.claim_one.new.out c.claim_one.new.told)
     (Stopped g.O.Outlet.takes g.O.Outlet.breaks g.O.Outlet.welcome g.O.Outlet.faults c.args.job.now.start.now.value c.args.job.now.problem.now
-    c.claim_one.new.out c.claim_one.new.told) c.claims.told.leads c.args.job.now.problem.now
+    c.claim_one.new.out c.claim_one.new.told) (WasRefused c.claim_one.new.told) c.args.job.now.problem.now
     c.in_ok-claim_one.field-0 went.Left c.claims.seat c.claim_one.new.seat c.in-Left.is c.in_ok-claim_one.ensures.went)
 
 pub claim_one-requires-clause-suits : goal.claim_one-requires-clause-suits
@@ -107,7 +107,7 @@ returns-in-Ended-clause-done g c = λ e.
     (went_as (Stands g.O.Outlet.takes g.O.Outlet.breaks g.O.Outlet.welcome g.O.Outlet.faults c.args.job.now.start.now.value c.args.job.now.problem.now
     c.claim_one.new.seat c.claim_one.new.out c.claim_one.new.told)
     (Stopped g.O.Outlet.takes g.O.Outlet.breaks g.O.Outlet.welcome g.O.Outlet.faults c.args.job.now.start.now.value c.args.job.now.problem.now
-    c.claim_one.new.out c.claim_one.new.told) c.claims.told.leads c.args.job.now.problem.now
+    c.claim_one.new.out c.claim_one.new.told) (WasRefused c.claim_one.new.told) c.args.job.now.problem.now
     c.in_ok-claim_one.field-0 went.Ended c.claims.seat c.claim_one.new.seat c.in-Ended.is c.in_ok-claim_one.ensures.went)
 
 pub returns-in-Ended-clause-failed : goal.returns-in-Ended-clause-failed

@@ -1,5 +1,6 @@
 use Rattle.std.proofs.Common.{◌≡◌, ◌⊎◌, true, false, inl, inr, refl, sym}
 use Rattle.ll_core.specs.Calls.{overview}
+use Rattle.ll_job.specs.Leading.{WasRefused}
 use Rattle.ll_job.proofs.Goings.{looked, look_goes, look_leaves, goes_on, goes_out}
 use Rattle.std.proofs.lemmas.Bool.{false≢true}
 use Rattle.ll_job.proofs.lead.look.Goals as goal
@@ -27,7 +28,7 @@ returns-then-not-tell-clause-left g c = λ e.
     c.requires.stands c.look-look.ensures.owes in
     let no : c.tell.result ≡ false = cc in
     goes_out g.O.Outlet.takes g.O.Outlet.breaks g.O.Outlet.welcome g.O.Outlet.faults c.args.job.now.start.now.value c.args.job.now.problem.now
-    c.args.told.now.leads c.args.seat.now c.look-look.new.seat c.tell.new.seat _ _ go (c.tell.ensures.left no)
+    (WasRefused c.tell.new.told) c.args.seat.now c.look-look.new.seat c.tell.new.seat _ _ go (c.tell.ensures.left no)
 
 pub returns-clause-on : goal.returns-clause-on
 returns-clause-on g c = λ e.

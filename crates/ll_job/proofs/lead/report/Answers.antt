@@ -1,6 +1,6 @@
 use Rattle.std.proofs.Common.{◌∙◌, refl}
 use Rattle.ll_job.specs.Turns.{Stays}
-use Rattle.ll_job.specs.Leading.{Stands, Stopped}
+use Rattle.ll_job.specs.Leading.{Stands, Stopped, WasRefused}
 use Rattle.ll_job.proofs.Calms.{calm_report}
 use Rattle.ll_job.proofs.Goings.{stands_calm, stays_goes}
 use Rattle.ll_job.proofs.Claiming.{stays_out}
@@ -49,5 +49,5 @@ returns-clause-left g c = λ e.
     stays_out (Stands g.O.Outlet.takes g.O.Outlet.breaks g.O.Outlet.welcome g.O.Outlet.faults c.args.job.now.start.now.value c.args.job.now.problem.now
     c.report.new.seat c.args.out.now c.args.told.now)
     (Stopped g.O.Outlet.takes g.O.Outlet.breaks g.O.Outlet.welcome g.O.Outlet.faults c.args.job.now.start.now.value c.args.job.now.problem.now
-    c.tell.new.out c.tell.new.told) c.args.told.now.leads c.args.told.now.leads c.args.seat.now c.report.new.seat c.tell.new.seat
-    refl st (c.tell.ensures.left e)
+    c.tell.new.out c.tell.new.told) (WasRefused c.tell.new.told) c.args.seat.now c.report.new.seat c.tell.new.seat
+    st (c.tell.ensures.left e)

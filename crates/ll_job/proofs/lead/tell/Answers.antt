@@ -9,7 +9,7 @@ pub returns-then-told-clause-on : goal.returns-then-told-clause-on
 returns-then-told-clause-on g c = c.tell_all.ensures.on
 
 pub returns-then-told-clause-left : goal.returns-then-told-clause-left
-returns-then-told-clause-left g c = rw c.if-told.true c.tell_all.ensures.left
+returns-then-told-clause-left g c = c.tell_all.ensures.left
 
 pub returns-clause-leads : goal.returns-clause-leads
 returns-clause-leads g c = refl

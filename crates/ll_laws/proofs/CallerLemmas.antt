@@ -204,3 +204,57 @@ pub use Rattle.ll_laws.proofs.derivations.DealtShown.{deal_nodes}
 pub use Rattle.ll_laws.proofs.derivations.Lines.{no-fault-shows}
 -- lines that show the problem have no fault, and as many nodes as their tree
 pub use Rattle.ll_laws.proofs.derivations.Lines.{shown-no-fault}
+-- what unification finds begins with one binding
+pub use Rattle.ll_laws.proofs.unification.UnifyLaws.{begins}
+-- terms with one variable bound
+pub use Rattle.ll_laws.proofs.unification.UnifyLaws.{bound_list}
+-- unification keeps the number of variables, and raises no level
+pub use Rattle.ll_laws.proofs.unification.UnifyOver.{solve-falls}
+-- a leaf that was taken: from an entry, with so many new variables, and what unification found
+pub use Rattle.ll_laws.proofs.search.AnswerRuns.{Taken}
+-- an atom that was taken was so by a leaf of an entry
+pub use Rattle.ll_laws.proofs.search.AnswerRuns.{taken_from}
+-- one element more behind equal ones may as well stand in front of them
+pub use Rattle.ll_laws.proofs.consistency.ConsistentLeaves.{replicate-front}
+-- the derivation of an answer of a valid problem shows its query
+pub use Rattle.ll_laws.proofs.derivations.DealtShown.{answers-shown}
+-- an element that a list contains is one of it
+pub use Rattle.ll_laws.proofs.search.AnswerRuns.{among}
+-- an element is one of a list, by recursion on the list
+pub use Rattle.ll_laws.proofs.search.AnswerRuns.{Among}
+-- what one of the lists has that stand behind each other comes from one element
+pub use Rattle.ll_laws.proofs.search.AnswerRuns.{from}
+-- an element of a list has a place in it
+pub use Rattle.ll_laws.proofs.search.RunsFound.{index_of}
+-- what an operator made of its two sides
+pub use Rattle.ll_laws.proofs.search.Numbers.{Combined}
+-- an operator that makes a value has one on each side
+pub use Rattle.ll_laws.proofs.search.Numbers.{combined_of}
+-- a list turned round in front of another is changed element by element
+pub use Rattle.ll_laws.proofs.completeness.Grounding.{map_onto}
+-- a closed term stays closed where closed terms are put for its variables
+pub use Rattle.ll_laws.proofs.completeness.Grounding.{closed_sub}
+-- the nodes of a tree make this tree
+pub use Rattle.ll_laws.proofs.search.RunsShown.{tree_of_lines}
+-- some node of a tree is that of a whole-number goal
+pub use Rattle.ll_laws.proofs.derivations.Numberless.{numbers}
+-- some node of a clause's parts is
+pub use Rattle.ll_laws.proofs.derivations.Numberless.{numbers_part}
+-- a tree has whole-number goals where the nodes that make it have
+pub use Rattle.ll_laws.proofs.derivations.Numberless.{tree-numbers}
+-- the nodes of a tree have whole-number goals where the tree has
+pub use Rattle.ll_laws.proofs.derivations.Numberless.{lines-numbers}
+-- two sets that have each label of a list once deal its clauses out
+pub use Rattle.ll_laws.proofs.derivations.DeriveLaw.{deal_two}
+-- a part of a list and the rest deal its clauses out
+pub use Rattle.ll_laws.proofs.derivations.DeriveLaw.{deal_rest}
+-- all may go to one side
+pub use Rattle.ll_laws.proofs.derivations.DeriveLaw.{deal_none}
+-- a clause that was taken by its label is one of the list
+pub use Rattle.ll_laws.proofs.derivations.DeriveLaw.{in_taken}
+-- a clause that was taken by its label and what it leaves deal the list out
+pub use Rattle.ll_laws.proofs.derivations.DeriveLaw.{deal_taken}
+-- the labels of a list are those that it has
+pub use Rattle.ll_laws.proofs.derivations.Dealing.{has_labels}
+-- a label that a list lacks takes nothing from it
+pub use Rattle.ll_laws.proofs.derivations.Leftovers.{take_missing}

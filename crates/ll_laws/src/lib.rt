@@ -1,7 +1,7 @@
 //! The definitions of the language and its search, their laws, and the types that crates share.
 //!
-//! The program calls no function of this crate but those of [`Notice`]: any other function here carries a law as its contract. The
-//! definitions stand in `specs/`, and `docs/DEFINITIONS.md` explains them in reading order.
+//! The functions of [`Notice`] have code. Any other function here has none: it carries a law as its contract, and is called where that law
+//! is wanted. The definitions stand in `specs/`, and `docs/DEFINITIONS.md` explains them in reading order.
 #![tactic(auto)]
 
 ghost use Rattle.std.specs.Prelude.{◌≡◌, length};

@@ -40,3 +40,5 @@ pub use Rattle.ll_lexer.proofs.ReadBack.{spelled-read}
 pub use Rattle.ll_lexer.proofs.Longest.{number-longest}
 -- a minus and the digits behind it are read as one number
 pub use Rattle.ll_lexer.proofs.Longest.{negative-longest}
+-- a text has no more tokens than bytes
+pub use Rattle.ll_lexer.proofs.FewTokens.{few-tokens}

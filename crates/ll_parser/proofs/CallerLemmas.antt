@@ -54,3 +54,5 @@ pub use Rattle.ll_parser.proofs.printing.Printable.{formula-printable}
 pub use Rattle.ll_parser.proofs.stored.QuantifierWords.{either_quantifier}
 -- the token of a quantifier has the quantifier's place
 pub use Rattle.ll_parser.proofs.stored.QuantifierWords.{quantifier_place}
+-- what the tokens of a text are read as is whole
+pub use Rattle.ll_parser.proofs.spelling.Spelled.{whole-read}

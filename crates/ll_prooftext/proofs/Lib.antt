@@ -3,3 +3,5 @@ pub mod spelling
 pub mod reading
 pub mod writing
 pub mod tabling
+pub mod CallerLemmas
+pub mod renaming

@@ -4,9 +4,13 @@ ghost use Rattle.std.specs.List.{IsDistinct};
 ghost use Rattle.std.specs.Str.{bytes_eq};
 ghost use Rattle.ll_lexer.specs.declared.Fault.{Fault};
 ghost use Rattle.ll_laws.specs.Line.{DerivationLines};
+ghost use Rattle.ll_laws.specs.ProofText.{proof_text};
+ghost use Rattle.ll_prooftext.specs.Admitted.{IsSpelled};
+ghost use Rattle.ll_prooftext.specs.Mentions.{text_names};
 ghost use Rattle.ll_prooftext.specs.ProofText2.{proof_text2};
 ghost use Rattle.ll_prooftext.specs.Reading.{IsTextOf, HasFault};
 ghost use Rattle.ll_prooftext.specs.Reading2.{IsText2Of, HasFault2};
+ghost use Rattle.ll_prooftext.specs.Twins.{AreAmong, HasTwin};
 ghost use Rattle.ll_prooftext.specs.Versions.{IsTextIn, HasFaultIn};
 
 /// Over names that all differ a text is that of one derivation, or it has one fault, and not both.
@@ -41,4 +45,12 @@ pub fn there_and_back()
     ensures { (names ms : List (List ℕ)) (text : List ℕ) (d e : DerivationLines) → IsDistinct bytes_eq names → IsDistinct bytes_eq ms
         → length (proof_text2 names d) < 2 ^ 64
         → IsTextOf names text d → IsText2Of ms (proof_text2 names d) e → IsTextOf ms text e }
+{}
+
+/// Over names among which are all that one of its texts mentions, some derivation has the same two texts.
+pub fn over_other_names()
+    ensures first { (names others : List (List ℕ)) (d : DerivationLines) → IsDistinct bytes_eq names → IsDistinct bytes_eq others → IsSpelled names d
+        → AreAmong (text_names (proof_text names d)) others → HasTwin names others d }
+    ensures second { (names others : List (List ℕ)) (d : DerivationLines) → IsDistinct bytes_eq names → IsDistinct bytes_eq others → IsSpelled names d
+        → length (proof_text2 names d) < 2 ^ 64 → AreAmong (text_names (proof_text2 names d)) others → HasTwin names others d }
 {}

@@ -27,7 +27,8 @@ mod versions;
 mod words;
 
 pub use crate::laws::{
-    one_derivation, one_derivation_in_any, one_derivation_over_a_table, there_and_back,
+    one_derivation, one_derivation_in_any, one_derivation_over_a_table, over_other_names,
+    there_and_back,
 };
 use crate::lines::{write_asked, write_nodes, write_version};
 pub use crate::reader::read;
@@ -43,8 +44,28 @@ use std::alloc::Global;
 /// Appends the text of a derivation: the line `proof 1`, a line `let T` for each variable of the query, and a line for each node in
 /// prefix order.
 ///
-/// After a refusal some first bytes of it may have been appended. It needs no deep stack.
+/// After a refusal the bytes are as before. It needs no deep stack.
 pub fn write(
+    alloc: Global,
+    names: &Names,
+    derivation: &Derivation,
+    out: &mut Vec<u8>,
+) -> Result<(), OutOfMemory>
+    ensures text { OnOk result (out.new.items ≡ out.old.items ++ proof_text names.now derivation.now) }
+    ensures refused { OnErr result (out.new.items ≡ out.old.items) }
+{
+    let before = out.len();
+    match write_lines(alloc, names, derivation, out) {
+        Ok(()) => Ok(()),
+        Err(refused) => {
+            out.truncate(before);
+            Err(refused)
+        }
+    }
+}
+
+// The same, but after a refusal some first bytes of the text may stand.
+fn write_lines(
     alloc: Global,
     names: &Names,
     derivation: &Derivation,

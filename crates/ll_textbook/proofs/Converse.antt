@@ -2,7 +2,7 @@
 use Rattle.std.proofs.Common.{◌≡◌, ◌≤◌, ◌<◌, ◌⊎◌, inl, inr, ℕ, suc, ◌+◌, refl, ap, sym, subst, ◌∙◌, Bool, true, false, List, [], ◌∷◌, ◌++◌, length, arith}
 use Rattle.std.specs.Prelude.{◌||◌, nat_eq, if◌then◌else◌}
 use Rattle.std.specs.List.{list_any, list_all}
-use Rattle.std.proofs.lemmas.Bool.{eqb-true, ne_eqb, and_from as and_intro}
+use Rattle.std.proofs.lemmas.Bool.{eqb-true, ne_eqb, and_from as and_intro, false_from_ne_true}
 use Rattle.std.proofs.lemmas.List.{map-append}
 use Rattle.std.proofs.lemmas.List.Folds.{list_all-append}
 use Rattle.ll_lists.proofs.CallerLemmas.{eq-refl}
@@ -22,12 +22,9 @@ use Rattle.ll_laws.specs.Shows.{Took, take_label, pick_of, Shows, ShowsParts, Nu
 use Rattle.ll_laws.specs.Line.{counts_numbers, lines, lines_of_parts, part_lines, part_rises, is_line, DerivationLines, IsWhole}
 use Rattle.ll_laws.specs.Verdict.{labelled, same_kind, root_free, root_bounded, DerivationShows}
 use Rattle.ll_textbook.specs.Follows.{of_kind, Follows, IsFilling, reckons, premises_reckon}
-use Rattle.ll_textbook.proofs.Elements.{Among, among}
-use Rattle.ll_textbook.proofs.Trees.{tree_of_lines}
-use Rattle.ll_textbook.proofs.Trees.{trees-count}
-use Rattle.ll_textbook.proofs.Trees.{numbers, numbers_part, lines-numbers}
+use Rattle.ll_laws.proofs.CallerLemmas.{Among, among, tree_of_lines, trees-count, numbers, numbers_part, lines-numbers, take_missing}
 use Rattle.ll_textbook.proofs.Relabelled.{labels, Rises, Apart, rises_more, rises_end, not_below, below_high, rises_apart, labels_rise, dealt_swap}
-use Rattle.ll_textbook.proofs.Relabelled.{Lifted, lifted, dealt_rises, dealt_has, part_of, all_in_map, splits_in_two, take_missing, take_one, taken}
+use Rattle.ll_textbook.proofs.Relabelled.{Lifted, lifted, dealt_rises, dealt_has, part_of, all_in_map, splits_in_two, take_one, taken}
 
 -- ---- trees
 
@@ -54,15 +51,11 @@ record Mapped (top : ℕ) (c d : List Labelled) : Type 0 where
   rising : Rises 0 d top
   differ : (n : ℕ) → has_label d n ≡ true → has_label c n ≡ false
 
-false_from : (b : Bool) → (b ≡ true → ⊥) → b ≡ false
-false_from true f = absurd (f refl)
-false_from false f = refl
-
 top_free : (top : ℕ) (c d : List Labelled) → Mapped top c d → has_label c top ≡ false
-top_free top c d w = false_from (has_label c top) (λ h. let p = w.below top h in omega (arith, p))
+top_free top c d w = false_from_ne_true (has_label c top) (λ h. let p = w.below top h in omega (arith, p))
 
 top_bounded : (top : ℕ) (c d : List Labelled) → Mapped top c d → has_label d top ≡ false
-top_bounded top c d w = false_from (has_label d top) (λ h. let p = below_high 0 d top top w.rising h in omega (arith, p))
+top_bounded top c d w = false_from_ne_true (has_label d top) (λ h. let p = below_high 0 d top top w.rising h in omega (arith, p))
 
 top_new : (top : ℕ) (c d : List Labelled) → Mapped top c d → has_label c top || has_label d top ≡ false
 top_new top c d w = ap (λ b. b || has_label d top) (top_free top c d w) ∙ top_bounded top c d w

@@ -21,16 +21,16 @@ use Rattle.ll_laws.specs.Dealt.{asked_terms}
 use Rattle.ll_textbook.specs.Follows.{of_kind, Follows, IsFilling, reckons}
 use Rattle.ll_textbook.specs.Laws.{FollowsIsShown, ShownFollows, FollowsIsAnswered, InstancesFollow, AnswersFollow, NothingFollows, ExactlyAnswered}
 use Rattle.ll_laws.specs.Laws.{AnswersAreShown}
-use Rattle.ll_textbook.proofs.Trees.{trees-count}
-use Rattle.ll_textbook.proofs.Trees.{tree-numbers}
+use Rattle.ll_laws.proofs.CallerLemmas.{trees-count}
+use Rattle.ll_laws.proofs.CallerLemmas.{tree-numbers}
 use Rattle.ll_textbook.proofs.Unlabelled.{Derived, derived}
 use Rattle.ll_textbook.proofs.Converse.{labelled-clauses, follows_shown, IsShown}
-use Rattle.ll_textbook.proofs.Elements.{among}
+use Rattle.ll_laws.proofs.CallerLemmas.{among}
 use Rattle.ll_laws.proofs.CallerLemmas.{IsClosing}
 use Rattle.ll_textbook.proofs.Numbered.{numberless_follows}
 use Rattle.ll_textbook.proofs.Steps.{steps_within}
 use Rattle.ll_textbook.proofs.Instances.{put_form, clauses_stay, modules_stay, put_derivation, kind_stays, form-put-sub}
-use Rattle.ll_textbook.proofs.Elements.{closed_sub}
+use Rattle.ll_laws.proofs.CallerLemmas.{closed_sub}
 
 shows_closed : (p : ProblemTree) (ts : List Term) (m : ℕ) (b : Bool) → IsFilling p ts → b ≡ false → (s : IsShown p ts m b) → ShowsClosed p s.derivation
 shows_closed p ts m b f e s = record {

@@ -24,9 +24,7 @@ use Rattle.ll_textbook.specs.Follows.{of_kind}
 use Rattle.ll_laws.specs.Derive.{AreClosed, Dealt, dealt_none, dealt_left, dealt_right, Derivable, by_one, by_top, by_tensor, by_with, by_left, by_right}
 use Rattle.ll_laws.specs.Derive.{by_bang, by_lolli, by_imp, by_forall, by_exists, by_use, by_free, by_linear, Premises, no_premise, a_premise, a_free_premise}
 use Rattle.ll_laws.specs.Derive.{by_num}
-use Rattle.ll_textbook.proofs.Elements.{map_onto}
-use Rattle.ll_laws.proofs.CallerLemmas.{IsClosing, close_closed}
-use Rattle.ll_textbook.proofs.Elements.{Among, among}
+use Rattle.ll_laws.proofs.CallerLemmas.{IsClosing, close_closed, Among, among, index_of, map_onto, combined_of}
 
 -- each variable replaced by a term, and each eigenconstant by another
 abbrev pub put : (ℕ → Term) → (ℕ → ℕ) → Term → Term
@@ -63,22 +61,6 @@ abbrev put_leaf : (ℕ → Term) → (ℕ → ℕ) → Leaf → Leaf
 put_leaf f r l = record { premises = map (put_premise f r) l.premises; head = put f r l.head }
 
 -- ---- closing, leaves and numbers
-
--- what an operator made of its two sides
-record Combined (o : Option Operator) (a b : Option ℤ) (z : ℤ) : Type 0 where
-  operator : Operator
-  left : ℤ
-  right : ℤ
-  is : o ≡ Some operator
-  left_is : a ≡ Some left
-  right_is : b ≡ Some right
-  gives : exactly (operated operator left right) ≡ Some z
-
-combined_of : (o : Option Operator) (a b : Option ℤ) (z : ℤ) → combined o a b ≡ Some z → Combined o a b z
-combined_of (Some o) (Some x) (Some y) z h = record { operator = o; left = x; right = y; is = refl; left_is = refl; right_is = refl; gives = h }
-combined_of (Some o) (Some x) None z h = cc
-combined_of (Some o) None b z h = cc
-combined_of None a b z h = cc
 
 module _ (f : ℕ → Term) (cl : IsClosing f) (r : ℕ → ℕ) where
   put_place : (e : Env) (k n : ℕ) → put f r (place e k n) ≡ place (put_env f r e) k n
@@ -471,12 +453,6 @@ dealt_map : {A B : Type 0} (f : A → B) {xs ys zs : List A} → Dealt xs ys zs 
 dealt_map f dealt_none = dealt_none
 dealt_map f (dealt_left h) = dealt_left (dealt_map f h)
 dealt_map f (dealt_right h) = dealt_right (dealt_map f h)
-
--- an element of a list has a place in it
-index_of : {A : Type 0} (x : A) (xs : List A) → Among x xs → Contains xs x
-index_of x [] h = absurd h
-index_of x (y ∷ ys) (inl e) = (0, omega arith, e)
-index_of x (y ∷ ys) (inr h) = let r = index_of x ys h in (suc (r.0), omega (arith, r.1), r.2)
 
 among_map : {A B : Type 0} (f : A → B) (x : A) (xs : List A) → Among x xs → Among (f x) (map f xs)
 among_map f x [] m = absurd m

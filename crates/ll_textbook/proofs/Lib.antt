@@ -1,12 +1,10 @@
-pub mod Elements
-pub mod Trees
-pub mod Deals
 pub mod Relabelled
 pub mod Converse
 pub mod Unlabelled
 pub mod Instances
 pub mod Numbered
 pub mod Steps
+pub mod Kept
 pub mod Covering
 pub mod Rows
 pub mod CallerLemmas

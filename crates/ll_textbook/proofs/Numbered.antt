@@ -18,7 +18,7 @@ use Rattle.ll_laws.specs.Derive.{by_bang, by_lolli, by_imp, by_forall, by_exists
 use Rattle.ll_laws.specs.Derive.{by_num}
 use Rattle.ll_textbook.specs.Follows.{of_kind, reckons, premises_reckon, is_numberless, are_numberless}
 use Rattle.ll_textbook.specs.Laws.{NumberlessFollows}
-use Rattle.ll_textbook.proofs.Elements.{Among, among}
+use Rattle.ll_laws.proofs.CallerLemmas.{Among, among}
 
 -- ---- closing and substituting
 

@@ -9,7 +9,7 @@ use Rattle.ll_bank.specs.Form.{Form}
 use Rattle.ll_laws.specs.Derive.{Dealt, dealt_none, dealt_left, dealt_right}
 use Rattle.ll_laws.specs.Shows.{Labelled, clauses, has, has_label, part, rest, one_of, all_in, splits, Missing, Took, behind, take_label}
 use Rattle.ll_laws.specs.Line.{rises}
-use Rattle.ll_textbook.proofs.Elements.{Among}
+use Rattle.ll_laws.proofs.CallerLemmas.{Among, has_labels}
 
 -- the labels of the map
 abbrev pub labels : List Labelled → List ℕ
@@ -133,10 +133,6 @@ dealt_all q (dealt_left {x = x} {zs = zs} k) f =
     (dealt_all q k (λ n h. f n (ap (λ b. nat_eq n x.label || b) h ∙ or-true (nat_eq n x.label))))
 dealt_all q (dealt_right {x = x} k) f = dealt_all q k (λ n h. f n (ap (λ b. nat_eq n x.label || b) h ∙ or-true (nat_eq n x.label)))
 
-pub has_labels : (ls : List Labelled) (n : ℕ) → has (labels ls) n ≡ has_label ls n
-has_labels [] n = refl
-has_labels (l ∷ ls) n = ap (λ b. nat_eq n l.label || b) (has_labels ls n)
-
 -- ---- the parts of a map by their labels
 
 -- from low on, the set has the labels of the map, and no others
@@ -194,15 +190,6 @@ splits_in_two low high {xs = xs} {ys = ys} h r =
     (each_once (labels xs) (labels ys) low high h r (λ n q. has_labels xs n) (λ n q. has_labels ys n))
 
 -- ---- one clause by its label
-
-pub take_missing : (n : ℕ) (ls : List Labelled) → has_label ls n ≡ false → take_label n ls ≡ Missing
-take_missing n [] h = refl
-take_missing n (l ∷ ls) h = step (nat_eq n l.label) h (take_missing n ls)
-  where
-    step : (b : Bool) → b || has_label ls n ≡ false → (has_label ls n ≡ false → take_label n ls ≡ Missing)
-        → (if b then Took l.clause ls else behind l (take_label n ls)) ≡ Missing
-    step true h go = cc
-    step false h go = ap (behind l) (go h)
 
 pub take_one : (l : Labelled) (low high : ℕ) {xs ys zs : List Labelled} → Dealt xs ys zs → xs ≡ l ∷ [] → Rises low zs high
     → take_label l.label zs ≡ Took l.clause ys

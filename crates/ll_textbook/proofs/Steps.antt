@@ -16,13 +16,13 @@ use Rattle.ll_laws.specs.State.{State, settle, front_of, with_front}
 use Rattle.ll_laws.specs.Attempt.{attempt, attempt_agenda, attempt_goal, stepped, take_side, load_module, take_value, instantiated, successors, tries}
 use Rattle.ll_laws.specs.Attempt.{option_to_states}
 use Rattle.ll_laws.specs.Search.{events, events_settled, events_of, answer_of}
-use Rattle.ll_textbook.proofs.Elements.{Among, from, taken_from}
+use Rattle.ll_laws.proofs.CallerLemmas.{Among, from, taken_from}
 
 -- one step more
 abbrev OneMore : State → State → Type 0
 OneMore s u = length u.steps ≡ suc (length s.steps)
 
-one-more : (xs : List Step) (x : Step) → length (xs ++ x ∷ []) ≡ suc (length xs)
+pub one-more : (xs : List Step) (x : Step) → length (xs ++ x ∷ []) ≡ suc (length xs)
 one-more [] x = refl
 one-more (y ∷ xs) x = ap (λ n. suc n) (one-more xs x)
 
@@ -74,7 +74,7 @@ pub attempt_steps : (m : Setting) (s u : State) (c : Candidate) → attempt m s 
 unfolding attempt
 attempt_steps m s u c h = agenda_steps m s u s.agenda c h
 
-successor_steps : (m : Setting) (s u : State) → Among u (successors m s) → OneMore s u
+pub successor_steps : (m : Setting) (s u : State) → Among u (successors m s) → OneMore s u
 unfolding successors
 successor_steps m s u h =
     let o = from (λ c. option_to_states (attempt m s c)) (tries s) u h in

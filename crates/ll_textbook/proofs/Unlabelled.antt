@@ -14,8 +14,7 @@ use Rattle.ll_laws.specs.Shows.{Tree, OneNode, EraseNode, TensorNode, WithNode, 
 use Rattle.ll_laws.specs.Shows.{UseNode, ClauseNode, Parts, NoParts, BoundedPart, UnboundedPart, nodes, part_nodes, Labelled, clauses, part, rest}
 use Rattle.ll_laws.specs.Shows.{Found, Missing, Took, behind, take_label, pick, pick_of, Shows, ShowsParts, NumNode}
 use Rattle.ll_textbook.specs.Follows.{reckons, premises_reckon}
-use Rattle.ll_textbook.proofs.Deals.{deal_two, deal_rest, deal_none}
-use Rattle.ll_textbook.proofs.Trees.{numbers, numbers_part}
+use Rattle.ll_laws.proofs.CallerLemmas.{deal_two, deal_rest, deal_none, in_taken, deal_taken, numbers, numbers_part}
 
 pub record Derived (beside : Setting) (m : ℕ) (c d : List Form) (g : Form) (n : Bool) : Type 0 where
   pub derivation : Derivable beside m c d g
@@ -27,38 +26,6 @@ record DerivedParts (beside : Setting) (m : ℕ) (c d : List Form) (gs : List Pr
 
 both : {a b c d : Bool} → a ≡ c → b ≡ d → a || b ≡ c || d
 both {b = b} {c = c} p q = ap (λ z. z || b) p ∙ ap (λ z. c || z) q
-
--- an element that is the first, or one of the others
-here : (x : Form) (xs : List Form) → Contains (x ∷ xs) x
-here x xs = (0, omega arith, refl)
-
-there : (x : Form) (xs : List Form) (y : Form) → Contains xs y → Contains (x ∷ xs) y
-there x xs y h = (suc h.0, omega (arith, h.1), h.2)
-
-in_taken : (n : ℕ) (c : List Labelled) (r : Form) (e : List Labelled) → take_label n c ≡ Took r e → Contains (clauses c) r
-in_taken n [] r e h = cc
-in_taken n (l ∷ ls) r e h = step (nat_eq n l.label) (take_label n ls) (in_taken n ls) h
-  where
-    step : (b : Bool) (o : Found) → ((s : Form) (f : List Labelled) → o ≡ Took s f → Contains (clauses ls) s)
-        → (if b then Took l.clause ls else behind l o) ≡ Took r e → Contains (l.clause ∷ clauses ls) r
-    step true o go h = let p : l.clause ≡ r = cc in subst (λ x. Contains (l.clause ∷ clauses ls) x) p (here l.clause (clauses ls))
-    step false Missing go h = cc
-    step false (Took s f) go h = let p : s ≡ r = cc in there l.clause (clauses ls) r (go r f (ap (λ x. Took x f) p))
-
-deal_taken : (n : ℕ) (d : List Labelled) (r : Form) (e : List Labelled) → take_label n d ≡ Took r e → Dealt (r ∷ []) (clauses e) (clauses d)
-deal_taken n [] r e h = cc
-deal_taken n (l ∷ ls) r e h = step (nat_eq n l.label) (take_label n ls) (deal_taken n ls) h
-  where
-    step : (b : Bool) (o : Found) → ((s : Form) (f : List Labelled) → o ≡ Took s f → Dealt (s ∷ []) (clauses f) (clauses ls))
-        → (if b then Took l.clause ls else behind l o) ≡ Took r e → Dealt (r ∷ []) (clauses e) (l.clause ∷ clauses ls)
-    step true o go h =
-        let p : l.clause ≡ r = cc in let f : ls ≡ e = cc in
-        subst (λ x. Dealt (x ∷ []) (clauses e) (l.clause ∷ clauses ls)) p
-        (subst (λ x. Dealt (l.clause ∷ []) (clauses x) (l.clause ∷ clauses ls)) f (dealt_left (deal_none (clauses ls))))
-    step false Missing go h = cc
-    step false (Took s f) go h =
-        let p : s ≡ r = cc in let q : l ∷ f ≡ e = cc in
-        subst (λ x. Dealt (r ∷ []) (clauses x) (l.clause ∷ clauses ls)) q (dealt_right (go r f (ap (λ x. Took x f) p)))
 
 -- a clause that was picked, by the way it was picked
 by_clause : (beside : Setting) (n : ℕ) (c d e : List Labelled) (r : Form) (m k : ℕ) (a : Term) (ts : List Term) (gs : List Premise) (b : Bool)

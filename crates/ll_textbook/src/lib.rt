@@ -1,6 +1,7 @@
 //! What follows from a program in the sequent calculus of the literature, and that it is what the answers of the search cover. There is no code here.
 #![tactic(auto)]
 
+ghost use Rattle.ll_textbook.specs.Kept.{AnswersAreKept, DerivationsAreKept};
 ghost use Rattle.ll_textbook.specs.Laws.{FollowsIsShown, ShownFollows, FollowsIsAnswered, InstancesFollow, AnswersFollow, NothingFollows};
 ghost use Rattle.ll_textbook.specs.Laws.{NumberlessFollows, ExactlyAnswered};
 
@@ -23,3 +24,10 @@ pub fn answers_are_what_follows()
     answers_are_shown();
     search_is_complete();
 }
+
+/// A greater bound keeps each answer of a search, in the same order and with the same derivation, and adds only answers whose branches have more
+/// steps than the smaller bound allows.
+pub fn answers_are_kept()
+    ensures kept { AnswersAreKept }
+    ensures derivations { DerivationsAreKept }
+{}

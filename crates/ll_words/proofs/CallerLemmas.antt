@@ -58,3 +58,9 @@ pub use Rattle.ll_words.proofs.FirstWords.{asked-workers}
 pub use Rattle.ll_words.proofs.FirstWords.{asked-alone}
 -- a command that does not say how many search asks for none
 pub use Rattle.ll_words.proofs.FirstWords.{no-team}
+-- the first word of a form stands for its first part
+pub use Rattle.ll_words.proofs.Forms.{part-first}
+-- a word of which a test holds is not one of which it does not
+pub use Rattle.ll_words.proofs.WordValues.{other-word}
+-- a word that stands for a number is one within its limits
+pub use Rattle.ll_words.proofs.WordValues.{part-number}

@@ -79,7 +79,7 @@ has_sel q (l ∷ ls) n = step (q l.label) refl (nat_eq n l.label) refl (has_sel 
         off false b h = sym h
     step false e false f h = h
 
-has_labels : (d : List Labelled) (n : ℕ) → has (labels d) n ≡ has_label d n
+pub has_labels : (d : List Labelled) (n : ℕ) → has (labels d) n ≡ has_label d n
 has_labels [] n = refl
 has_labels (l ∷ ls) n = ap (λ b. nat_eq n l.label || b) (has_labels ls n)
 

@@ -50,7 +50,7 @@ here x xs = (0, omega arith, refl)
 there : (x : Form) (xs : List Form) (y : Form) → Contains xs y → Contains (x ∷ xs) y
 there x xs y h = (suc h.0, omega (arith, h.1), h.2)
 
-in_taken : (n : ℕ) (c : List Labelled) (r : Form) (e : List Labelled) → take_label n c ≡ Took r e → Contains (clauses c) r
+pub in_taken : (n : ℕ) (c : List Labelled) (r : Form) (e : List Labelled) → take_label n c ≡ Took r e → Contains (clauses c) r
 in_taken n [] r e h = cc
 in_taken n (l ∷ ls) r e h = step (nat_eq n l.label) (take_label n ls) (in_taken n ls) h
   where
@@ -60,7 +60,7 @@ in_taken n (l ∷ ls) r e h = step (nat_eq n l.label) (take_label n ls) (in_take
     step false Missing go h = cc
     step false (Took s f) go h = let p : s ≡ r = cc in there l.clause (clauses ls) r (go r f (ap (λ x. Took x f) p))
 
-deal_taken : (n : ℕ) (d : List Labelled) (r : Form) (e : List Labelled) → take_label n d ≡ Took r e → Dealt (r ∷ []) (clauses e) (clauses d)
+pub deal_taken : (n : ℕ) (d : List Labelled) (r : Form) (e : List Labelled) → take_label n d ≡ Took r e → Dealt (r ∷ []) (clauses e) (clauses d)
 deal_taken n [] r e h = cc
 deal_taken n (l ∷ ls) r e h = step (nat_eq n l.label) (take_label n ls) (deal_taken n ls) h
   where

@@ -7,16 +7,16 @@ use Rattle.ll_bank.specs.Form.{Relation, Is, Less, Most}
 use Rattle.ll_laws.specs.Number.{Operator, Operators, operator_of, operated, exactly, combined, value_of, is_number, compared, holds}
 
 -- what an operator made of its two sides
-record Combined (o : Option Operator) (a b : Option ℤ) (z : ℤ) : Type 0 where
-  operator : Operator
-  left : ℤ
-  right : ℤ
-  is : o ≡ Some operator
-  left_is : a ≡ Some left
-  right_is : b ≡ Some right
-  gives : exactly (operated operator left right) ≡ Some z
+pub record Combined (o : Option Operator) (a b : Option ℤ) (z : ℤ) : Type 0 where
+  pub operator : Operator
+  pub left : ℤ
+  pub right : ℤ
+  pub is : o ≡ Some operator
+  pub left_is : a ≡ Some left
+  pub right_is : b ≡ Some right
+  pub gives : exactly (operated operator left right) ≡ Some z
 
-combined_of : (o : Option Operator) (a b : Option ℤ) (z : ℤ) → combined o a b ≡ Some z → Combined o a b z
+pub combined_of : (o : Option Operator) (a b : Option ℤ) (z : ℤ) → combined o a b ≡ Some z → Combined o a b z
 combined_of (Some o) (Some x) (Some y) z h = record { operator = o; left = x; right = y; is = refl; left_is = refl; right_is = refl; gives = h }
 combined_of (Some o) (Some x) None z h = cc
 combined_of (Some o) None b z h = cc

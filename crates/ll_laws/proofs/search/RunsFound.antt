@@ -217,7 +217,7 @@ listed-fit f (l ∷ ls) n c b = (
 steps-count : (ns : List Line) → length (map step_of ns) ≡ length ns
 steps-count ns = length-map ns step_of
 
-index_of : {A : Type 0} (x : A) (xs : List A) → Among x xs → Contains xs x
+pub index_of : {A : Type 0} (x : A) (xs : List A) → Among x xs → Contains xs x
 index_of x [] h = absurd h
 index_of x (y ∷ ys) (inl e) = (0, omega arith, e)
 index_of x (y ∷ ys) (inr h) = let r = index_of x ys h in (suc (r.0), omega (arith, r.1), r.2)

@@ -134,12 +134,12 @@ length_clauses ms scope names (c ∷ cs) = ap (λ z. suc z) (length_clauses ms s
 
 -- ---- the variables of a query
 
-more_asked : (names : List (List ℕ)) (vs : List (Option (List ℕ))) → More names (read_asked names vs).names
+pub more_asked : (names : List (List ℕ)) (vs : List (Option (List ℕ))) → More names (read_asked names vs).names
 more_asked names [] = more_refl names
 more_asked names (None ∷ vs) = more_asked names vs
 more_asked names (Some w ∷ vs) = more_trans (more_named names w) (more_asked (with_name names w) vs)
 
-length_asked : (names : List (List ℕ)) (vs : List (Option (List ℕ))) → length (read_asked names vs).it ≡ length vs
+pub length_asked : (names : List (List ℕ)) (vs : List (Option (List ℕ))) → length (read_asked names vs).it ≡ length vs
 length_asked names [] = refl
 length_asked names (None ∷ vs) = ap (λ z. suc z) (length_asked names vs)
 length_asked names (Some w ∷ vs) = ap (λ z. suc z) (length_asked (with_name names w) vs)

@@ -24,16 +24,16 @@ record Moves (n d : ℕ) (inner outer : Scope) : Type 0 where
   may : (k : ℕ) → slice_index_or inner k false ≡ true → slice_index_or outer (moved_out n d k) false ≡ true
   variable : (x : ℕ) → nat_lt x n ≡ true → nat_lt (d + (n - suc x)) (length outer) ≡ true
 
-moved_near : (n d k : ℕ) → k < d → moved_out n d k ≡ k
+pub moved_near : (n d k : ℕ) → k < d → moved_out n d k ≡ k
 moved_near n d k h = ap (λ b. if b then k else k + n) (lt-ltb k d h)
 
-moved_far : (n d k : ℕ) → d ≤ k → moved_out n d k ≡ k + n
+pub moved_far : (n d k : ℕ) → d ≤ k → moved_out n d k ≡ k + n
 moved_far n d k h = ap (λ b. if b then k else k + n) (le-ltb k d h)
 
 moved_first : (n d : ℕ) → moved_out n (suc d) 0 ≡ 0
 moved_first n d = moved_near n (suc d) 0 (omega arith)
 
-moved_next : (n d k : ℕ) → moved_out n (suc d) (suc k) ≡ suc (moved_out n d k)
+pub moved_next : (n d k : ℕ) → moved_out n (suc d) (suc k) ≡ suc (moved_out n d k)
 moved_next n d k =
     elim (cases_lt k d) [
       | inl l ↦ (rw (moved_near n (suc d) (suc k) (omega arith), moved_near n d k l))
@@ -166,7 +166,7 @@ module _ (test : Term → Bool) (n : ℕ) (same : (d : ℕ) (t : Term) → test 
   bound_each m d (Use k ts f) = let i = bound_all d ts in let j = bound_each m d f in cc
   bound_each m d (Num r t u) = let i = same d t in let j = same d u in cc
 
-bound_ways : (n d : ℕ) (f : Form) → ways (bind_form n d f) ≡ ways f
+pub bound_ways : (n d : ℕ) (f : Form) → ways (bind_form n d f) ≡ ways f
 bound_ways n d Top = refl
 bound_ways n d One = refl
 bound_ways n d (Atom a) = refl

@@ -195,7 +195,7 @@ minus_quiet : is_quiet 45 ≡ true
 unfolding is_lower
 minus_quiet = refl
 
-variable_quiet : is_quiet 63 ≡ true
+pub variable_quiet : is_quiet 63 ≡ true
 unfolding is_lower
 variable_quiet = refl
 
@@ -203,7 +203,7 @@ pub row_quiet : is_quiet 64 ≡ true
 unfolding is_lower
 row_quiet = refl
 
-eigen_quiet : is_quiet 35 ≡ true
+pub eigen_quiet : is_quiet 35 ≡ true
 unfolding is_lower
 eigen_quiet = refl
 
@@ -222,7 +222,7 @@ mark_quiet = refl
 pub decimal_quiet : (n : ℕ) → n < 2 ^ 64 → list_all is_quiet (decimal n) ≡ true
 decimal_quiet n h = figures_pass is_quiet figure_quiet (decimal n) (decimal_figures n h)
 
-signed_quiet : (z : ℤ) → FitsSigned w64 z → list_all is_quiet (signed_decimal z) ≡ true
+pub signed_quiet : (z : ℤ) → FitsSigned w64 z → list_all is_quiet (signed_decimal z) ≡ true
 signed_quiet (pos n) f = let l : n < 2 ^ 63 = mag_small (pos n) f in decimal_quiet n (omega arith)
 signed_quiet (negsuc n) f = let l : n < 2 ^ 63 = mag_small (negsuc n) f in quiet_behind 45 (decimal (suc n)) minus_quiet (decimal_quiet (suc n) (omega arith))
 

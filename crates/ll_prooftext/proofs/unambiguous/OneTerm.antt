@@ -165,7 +165,7 @@ behind_byte names b bs e n = record { stops = at_byte b bs refl e; none = λ t r
 -- ---- over names that all differ
 
 module _ (names : List (List ℕ)) (distinct : IsDistinct bytes_eq names) where
-  same_name : (m n : ℕ) → 0 < length (name_text names m) → name_text names m ≡ name_text names n → m ≡ n
+  pub same_name : (m n : ℕ) → 0 < length (name_text names m) → name_text names m ≡ name_text names n → m ≡ n
   same_name m n full e = elim (cases_lt m (length names)) [
     | inl k ↦ elim (cases_lt n (length names)) [
       | inl l ↦ elim (cases_lt m n) [

@@ -273,7 +273,7 @@ module _ (names : List (List ℕ)) where
       (lines_spelled xs (All-tail (IsSpelledLine names) x xs a))
 
 -- a derivation's table, and its lines over it
-record IsLaidOut (names : List (List ℕ)) (d : DerivationLines) : Type 0 where
+pub record IsLaidOut (names : List (List ℕ)) (d : DerivationLines) : Type 0 where
   pub shares : List (List ℕ)
   pub lets : List (List ℕ)
   pub steps : List (List ℕ)
@@ -453,6 +453,15 @@ module _ (names : List (List ℕ)) (text : List ℕ) (d : DerivationLines) (t : 
       by : (text ≡ proof_text2 names d) ⊎ (text ++ 10 ∷ [] ≡ proof_text2 names d) → text_lines text ≡ its
       by (inl e) = ap text_lines (e ∙ sym its_text) ∙ lines_of_ended its its_full
       by (inr e) = lines_of_open its text its_full (e ∙ sym its_text)
+
+  -- the text is laid out in these lines, over a table of fewer than 2^64 rows
+  pub record HasLayout : Type 0 where
+    pub laid : IsLaidOut names d
+    pub lines : text_lines text ≡ codes "proof 2" ∷ (laid.shares ++ (laid.lets ++ (laid.steps ++ [])))
+    pub few : length (table d) < 2 ^ 64
+
+  pub its_layout : HasLayout
+  its_layout = record { laid = out; lines = its_lines; few = few }
 
   pub text2_begins : BeginsOver (text_lines text) [] 0
   text2_begins = record {

@@ -1,6 +1,7 @@
 -- What each form comes to.
 pub mod DeepenLemmas
 pub mod DistinctNames
+pub mod FaultLemmas
 pub mod FirstRunLemmas
 pub mod MadeRunLemmas
 pub mod NothingLemmas

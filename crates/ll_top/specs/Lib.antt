@@ -14,3 +14,6 @@ pub mod Proved
 pub mod Nothing
 pub mod Reads
 pub mod Shown
+pub mod Accepted
+pub mod Agreeing
+pub mod Rewriting

@@ -11,7 +11,7 @@ use Rattle.ll_laws.specs.Search.{is_answer, is_reached}
 use Rattle.ll_laws.specs.Problem.{ProblemTree, problem_events, problem_cost}
 use Rattle.ll_laws.specs.Line.{DerivationLines, IsWhole}
 use Rattle.ll_laws.specs.Verdict.{DerivationShows}
-use Rattle.ll_laws.specs.Dealt.{asked_terms}
+use Rattle.ll_laws.specs.Dealt.{asked_terms, dealt}
 use Rattle.ll_laws.specs.Instance.{IsInstance}
 use Rattle.ll_textbook.specs.Follows.{IsFilling, Follows, reckons, IsAnswered}
 use Rattle.ll_laws.specs.Output.{answer_text, summary_text}
@@ -28,9 +28,10 @@ pub record IsRight (p : ProblemTree) (a : Answered) : Type 0 where
   pub follows : Follows p (length a.steps) (asked_terms p a)
   pub instances : (ts : List Term) → IsInstance (asked_terms p a) ts → Follows p (length a.steps) ts
 
--- The derivation shows the answer, as the checker reads derivations: it is a whole one of the query with the answer's terms for its variables, and
--- has as many nodes as the answer's branch has steps.
+-- The derivation shows the answer, as the checker reads derivations: it is the one of the answer's branch, with the used labels dealt out, and a
+-- whole one of the query with the answer's terms for its variables, and has as many nodes as the branch has steps.
 pub record ShowsAnswer (p : ProblemTree) (a : Answered) (d : DerivationLines) : Type 0 where
+  pub of_branch : dealt p a ≡ Some d
   pub asked : d.asked ≡ asked_terms p a
   pub whole : IsWhole d
   pub shows : DerivationShows p d

@@ -8,6 +8,7 @@ ghost use Rattle.ll_laws.specs.Valid.{IsValid};
 ghost use Rattle.ll_order.specs.Outlets.{CountsOf};
 ghost use Rattle.ll_judge.specs.declared.refusing.Refusal.TheVariants.{OutOfMemory};
 ghost use Rattle.ll_judge.specs.CallEnds.{Ends};
+ghost use Rattle.ll_judge.specs.Told.{ShelfTold, SinkTold, StatusTold};
 ghost use Rattle.ll_top.specs.Deepening.{DeepenComesTo};
 ghost use Rattle.ll_top.specs.DeepenEnds.{with_bound, first_run, DeepenRefuses, DeepensTo};
 ghost use Rattle.ll_top.specs.Endings.{status_of_found};
@@ -41,6 +42,7 @@ pub fn serve_deepen<R: Threads + Wait + Sync, F: Shelf, O: Sink, G: Gate>(
 
     ensures kept { ShelfKept F.texts F.faults F.absences F.log shelf.old shelf.new }
     ensures sink_faults_kept { O.faults sink.old ≤ O.faults sink.new }
+    ensures faults_told { StatusTold F.faults F.absences O.faults shelf.old shelf.new sink.old sink.new result }
 
     ensures ends { (told : Option Texts) → Fits told (F.log shelf.old) (F.log shelf.new)
         → Ends (DeepenComesTo told (Met F.absences F.log shelf.old shelf.new NoText) (Met F.faults F.log shelf.old shelf.new Unreadable)
@@ -82,6 +84,8 @@ fn deepen_texts<R: Threads + Wait + Sync, F: Shelf, O: Sink, G: Gate>(
 
     ensures kept { ShelfKept F.texts F.faults F.absences F.log shelf.old shelf.new }
     ensures sink_faults_kept { O.faults sink.old ≤ O.faults sink.new }
+    ensures shelf_told { ShelfTold F.faults F.absences shelf.old shelf.new result }
+    ensures sink_told { SinkTold (O.faults sink.old) (O.faults sink.new) result }
 
     ensures ends { (told : Option Texts) → Fits told (F.log shelf.old) (F.log shelf.new)
         → EndsOwn (DeepenComesTo told (Met F.absences F.log shelf.old shelf.new NoText) (Met F.faults F.log shelf.old shelf.new Unreadable)
@@ -117,6 +121,7 @@ fn run_deepened<R: Threads + Wait + Sync, O: Sink, G: Gate>(
     requires valid { IsValid problem.old }
     requires series { IsSeries «series».now }
     ensures faults_kept { O.faults sink.old ≤ O.faults sink.new }
+    ensures sink_told { SinkTold (O.faults sink.old) (O.faults sink.new) result }
     ensures ends { EndsOwn (DeepensTo proofs «series».now problem.old) status_of_found NoneFails
         (Rose (O.faults sink.old) (O.faults sink.new)) (Some (O.taken sink.old)) (Some (O.taken sink.new)) result }
 {

@@ -1,5 +1,5 @@
 // A run of which only the first answers are wanted.
-ghost use Rattle.std.specs.Prelude.{◌≡◌, ◌≤◌, ◌<◌, ◌↔◌, [], Some, None, IfOk, IfErr, IfSome, OnOk, OnErr, count_by};
+ghost use Rattle.std.specs.Prelude.{◌≡◌, ◌≤◌, ◌<◌, ◌↔◌, [], false, Some, None, IfOk, IfErr, IfSome, OnOk, OnErr, count_by};
 ghost use Rattle.std.specs.Io.KnownBytes.{append_known};
 ghost use Rattle.ll_edge.specs.Counts.{Rose};
 ghost use Rattle.ll_edge.specs.Pieces.{AppendsFront};
@@ -11,6 +11,7 @@ ghost use Rattle.ll_order.specs.Outlets.{CountsOf};
 ghost use Rattle.ll_top.specs.Endings.{status_of_found};
 ghost use Rattle.ll_top.specs.Outcome.{text_of_run, status_of_run, stopped_text};
 ghost use Rattle.ll_outlet.specs.Running.{IsReady, all_lines};
+ghost use Rattle.ll_judge.specs.Told.{SinkTold};
 ghost use Rattle.ll_top.specs.Running.{IsRunRefusal};
 
 use crate::run::{Found, write_summary};
@@ -19,7 +20,6 @@ use itoa::Buffer;
 use ll_crew::crew_first;
 use ll_edge::{Gate, Sink, WriteFailed};
 use ll_first::First;
-use ll_job::CrewFault;
 use ll_judge::{Refusal, write_parts};
 use ll_laws::{Counts, Event, Problem, answers_are_shown};
 use ll_outlet::{Asked, Line, Lined, Writing};
@@ -41,6 +41,7 @@ pub fn run_first<R: Threads + Wait + Sync, O: Sink, G: Gate>(
     requires wanted { 0 < wanted }
 
     ensures faults_kept { O.faults sink.old ≤ O.faults sink.new }
+    ensures sink_told { SinkTold (O.faults sink.old) (O.faults sink.new) result }
     ensures found { IfOk result (λ found. status_of_found found ≡ status_of_run (Some wanted) problem.now) }
     ensures text { OnOk result (Some (O.taken sink.new) ≡ append_known (Some (O.taken sink.old)) (text_of_run (Some wanted) proofs problem.now)) }
     ensures refused { IfErr result (IsRunRefusal (O.faults sink.old) (O.faults sink.new)) }
@@ -83,6 +84,7 @@ fn write_front<K: Asked, R: Threads + Wait + Sync, O: Sink, G: Gate>(
     requires wanted { 0 < wanted }
 
     ensures faults_kept { O.faults sink.old ≤ O.faults sink.new }
+    ensures sink_told { SinkTold (O.faults sink.old) (O.faults sink.new) result }
     ensures stops { IfOk result (λ o. (o ≡ None) ↔ (wanted ≤ count_by is_answer (problem_events problem.now))) }
     ensures counts { IfOk result (λ o. IfSome o (λ counts. CountsOf counts (problem_events problem.now) (problem_cost problem.now))) }
     ensures lines { OnOk result (Some (O.taken sink.new) ≡ append_known (Some (O.taken sink.old))
@@ -114,6 +116,7 @@ fn write_front_as<E: Lined, R: Threads + Wait + Sync, O: Sink, G: Gate>(
     requires wanted { 0 < wanted }
 
     ensures faults_kept { O.faults sink.old ≤ O.faults sink.new }
+    ensures sink_told { SinkTold (O.faults sink.old) (O.faults sink.new) result }
     ensures stops { IfOk result (λ o. (o ≡ None) ↔ (wanted ≤ count_by is_answer (problem_events problem.now))) }
     ensures counts { IfOk result (λ o. IfSome o (λ counts. CountsOf counts (problem_events problem.now) (problem_cost problem.now))) }
     ensures lines { OnOk result (Some (O.taken sink.new) ≡ append_known (Some (O.taken sink.old))
@@ -130,6 +133,7 @@ fn write_front_as<E: Lined, R: Threads + Wait + Sync, O: Sink, G: Gate>(
             lines,
             waiting,
             answers: 0,
+            failed: false,
             of: PhantomData,
         },
         u64::from(wanted),
@@ -147,11 +151,13 @@ fn give_front<'p, 's, E: Lined, R: Threads + Wait + Sync, O: Sink, G: Gate>(
     requires suits { E.suits problem.now }
     requires problem { out.old.out.problem.now ≡ problem.now }
     requires answers { (out.old.answers ≡ 0) × (out.old.out.answers ≡ 0) }
+    requires unfailed { out.old.out.failed ≡ false }
     requires ready { IsReady E.makes out.old.out.proofs out.old.out.problem.now out.old.out.waiting.now.items }
 
     ensures same_reference { out.new.out.sink.ghost_name ≡ out.old.out.sink.ghost_name }
     ensures none { out.new.out.waiting.now.items ≡ [] }
     ensures faults_kept { O.faults out.old.out.sink.now ≤ O.faults out.new.out.sink.now }
+    ensures sink_told { SinkTold (O.faults out.old.out.sink.now) (O.faults out.new.out.sink.now) result }
     ensures stops { IfOk result (λ o. (o ≡ None) ↔ (out.old.limit ≤ count_by is_answer (problem_events problem.entry.now))) }
     ensures counts { IfOk result (λ o. IfSome o (λ counts. CountsOf counts (problem_events problem.entry.now) (problem_cost problem.entry.now))) }
     ensures lines { OnOk result (Some (O.taken out.new.out.sink.now)
@@ -164,14 +170,16 @@ fn give_front<'p, 's, E: Lined, R: Threads + Wait + Sync, O: Sink, G: Gate>(
     answers_are_shown();
     match crew_first(team.rt, team.alloc, problem, team.workers, team.gate, out) {
         Ok(counts) => Ok(counts),
-        Err(CrewFault::Write) => Err(Refusal::Unwritable),
-        Err(CrewFault::OutOfMemory) => Err(Refusal::OutOfMemory),
+        // The outlet knows whether its sink failed.
+        Err(_) if out.out.failed => Err(Refusal::Unwritable),
+        Err(_) => Err(Refusal::OutOfMemory),
     }
 }
 
 // Writes the line of a run that stops after so many answers. After a refusal a prefix of it was written.
 fn write_stop<O: Sink>(answers: u32, sink: &mut O) -> Result<(), WriteFailed>
     ensures faults_kept { O.faults sink.old ≤ O.faults sink.new }
+    ensures quiet { OnOk result (O.faults sink.new ≡ O.faults sink.old) }
     ensures line { OnOk result (Some (O.taken sink.new) ≡ append_known (Some (O.taken sink.old)) (stopped_text answers)) }
     ensures failed { OnErr result (Rose (O.faults sink.old) (O.faults sink.new)) }
     ensures prefix { OnErr result (AppendsFront (Some (O.taken sink.old)) (stopped_text answers) (Some (O.taken sink.new))) }

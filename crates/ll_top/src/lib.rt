@@ -1,11 +1,14 @@
 //! The top call: everything that the program does.
 #![tactic(auto)]
 
+mod accepting;
+mod agreeing;
 mod deepening;
 mod first_run;
 mod indexes;
 mod made_runs;
 mod making;
+mod rewriting;
 mod run;
 mod session;
 mod team;
@@ -24,6 +27,7 @@ ghost use Rattle.ll_check.specs.Outcome.{IsProved, IsDenied, IsCoveredCall, IsUn
 ghost use Rattle.ll_top.specs.Outcome.{RunComesTo, text_of_run, status_of_run};
 ghost use Rattle.ll_top.specs.Calls.{ComesTo, Completes, Headline};
 ghost use Rattle.ll_judge.specs.CallEnds.{Ends};
+ghost use Rattle.ll_judge.specs.Told.{ShelfTold, SinkTold, StatusTold};
 ghost use Rattle.ll_top.specs.Endings.{status_of_found, RunEnds};
 ghost use Rattle.ll_top.specs.Running.{IsRunRefusal};
 ghost use Rattle.ll_top.specs.Proved.{WritesShown};
@@ -31,6 +35,11 @@ ghost use Rattle.ll_top.specs.Nothing.{AsksInVain};
 ghost use Rattle.ll_top.specs.Reads.{RunReads};
 ghost use Rattle.ll_top.specs.Shown.{SessionShown, DeepenShown};
 
+pub use accepting::{printed_is_accepted, printed_is_covered};
+pub use agreeing::{
+    deepening_is_run, derivation_is_printed, first_is_front, greater_bound_keeps, session_is_runs,
+    workers_change_nothing,
+};
 use deepening::serve_deepen;
 use first_run::run_first;
 use ll_check::serve_check;
@@ -46,6 +55,10 @@ use ll_words::{Command, RunCommand, read_command, workers_of};
 pub use made_runs::made_asks;
 use made_runs::serve_made_run;
 use making::serve_make;
+pub use rewriting::{
+    converted_comes_back, converted_is_judged_alike, layout_is_aside, printed_is_aside,
+    written_is_read_back,
+};
 use run::{Found, run};
 use session::serve_session;
 use std::alloc::Global;
@@ -126,6 +139,9 @@ pub fn lolli<R: Threads + Wait + Sync, F: Shelf, O: Sink, G: Gate>(
     ensures kept { ShelfKept F.texts F.faults F.absences F.log shelf.old shelf.new }
     ensures sink_faults_kept { O.faults sink.old ≤ O.faults sink.new }
 
+    // And no other status comes where there is such a cause: a failed write ends with 6, a failed read with 5, an absent text with 4.
+    ensures faults_told { StatusTold F.faults F.absences O.faults shelf.old shelf.new sink.old sink.new result }
+
     // Where the shelf tells its texts, they are texts that fit; and the sink may tell what was written.
     ensures told_outcome { Ends (ComesTo (word_texts words.now) (F.texts shelf.old) (Met F.absences F.log shelf.old shelf.new NoText)
         (Met F.faults F.log shelf.old shelf.new Unreadable)) (Rose (O.faults sink.old) (O.faults sink.new)) (O.written sink.old) (O.written sink.new) result }
@@ -161,6 +177,8 @@ pub fn lolli_real<R: Threads + Wait + Sync + Files + Print>(
         → (texts : Texts) → Agrees texts shelf.old.log shelf.new.log → WritesShown (Some texts) run (Some sink.old.taken) (Some sink.new.taken) }
     ensures nothing { (run : RunWords) → IsRun (word_texts words.now) run → result ≡ 1
         → (texts : Texts) → Agrees texts shelf.old.log shelf.new.log → AsksInVain (Some texts) run }
+    ensures faults_told { StatusTold (λ shelf. shelf.counts.faults) (λ shelf. shelf.counts.absences) (λ sink. sink.faults) shelf.old shelf.new sink.old
+        sink.new result }
 {
     lolli(rt, alloc, words, shelf, sink, &OpenGate)
 }
@@ -199,6 +217,7 @@ pub fn lolli_plain<F: Shelf, O: Sink>(
 
     ensures kept { ShelfKept F.texts F.faults F.absences F.log shelf.old shelf.new }
     ensures sink_faults_kept { O.faults sink.old ≤ O.faults sink.new }
+    ensures faults_told { IfSome result (StatusTold F.faults F.absences O.faults shelf.old shelf.new sink.old sink.new) }
 
     ensures told_outcome { IfSome result (Ends (ComesTo (word_texts words.now) (F.texts shelf.old) (Met F.absences F.log shelf.old shelf.new NoText)
         (Met F.faults F.log shelf.old shelf.new Unreadable)) (Rose (O.faults sink.old) (O.faults sink.new)) (O.written sink.old) (O.written sink.new)) }
@@ -237,6 +256,7 @@ fn serve<R: Threads + Wait + Sync, F: Shelf, O: Sink, G: Gate>(
 ) -> u8
     ensures kept { ShelfKept F.texts F.faults F.absences F.log shelf.old shelf.new }
     ensures sink_faults_kept { O.faults sink.old ≤ O.faults sink.new }
+    ensures faults_told { StatusTold F.faults F.absences O.faults shelf.old shelf.new sink.old sink.new result }
 
     ensures outcome { (told : Option Texts) → Fits told (F.log shelf.old) (F.log shelf.new)
         → Ends (ComesTo (word_texts words.now) told (Met F.absences F.log shelf.old shelf.new NoText)
@@ -275,6 +295,7 @@ fn serve_search<R: Threads + Wait + Sync, F: Shelf, O: Sink, G: Gate>(
 
     ensures kept { ShelfKept F.texts F.faults F.absences F.log shelf.old shelf.new }
     ensures sink_faults_kept { O.faults sink.old ≤ O.faults sink.new }
+    ensures faults_told { StatusTold F.faults F.absences O.faults shelf.old shelf.new sink.old sink.new result }
 
     ensures outcome { (told : Option Texts) → Fits told (F.log shelf.old) (F.log shelf.new)
         → Ends (ComesTo (word_texts words.now) told (Met F.absences F.log shelf.old shelf.new NoText)
@@ -327,6 +348,7 @@ fn serve_plain<F: Shelf, O: Sink>(
 
     ensures kept { ShelfKept F.texts F.faults F.absences F.log shelf.old shelf.new }
     ensures sink_faults_kept { O.faults sink.old ≤ O.faults sink.new }
+    ensures faults_told { IfSome result (StatusTold F.faults F.absences O.faults shelf.old shelf.new sink.old sink.new) }
 
     ensures outcome { IfSome result (λ status. (told : Option Texts) → Fits told (F.log shelf.old) (F.log shelf.new)
         → Ends (ComesTo (word_texts words.now) told (Met F.absences F.log shelf.old shelf.new NoText)
@@ -359,6 +381,7 @@ fn serve_run<R: Threads + Wait + Sync, F: Shelf, O: Sink, G: Gate>(
 
     ensures kept { ShelfKept F.texts F.faults F.absences F.log shelf.old shelf.new }
     ensures sink_faults_kept { O.faults sink.old ≤ O.faults sink.new }
+    ensures faults_told { StatusTold F.faults F.absences O.faults shelf.old shelf.new sink.old sink.new result }
 
     ensures ends { (told : Option Texts) → Fits told (F.log shelf.old) (F.log shelf.new)
         → Ends (RunComesTo told (Met F.absences F.log shelf.old shelf.new NoText) (Met F.faults F.log shelf.old shelf.new Unreadable) (shown_words run.now))
@@ -391,6 +414,8 @@ fn run_texts<R: Threads + Wait + Sync, F: Shelf, O: Sink, G: Gate>(
 
     ensures kept { ShelfKept F.texts F.faults F.absences F.log shelf.old shelf.new }
     ensures sink_faults_kept { O.faults sink.old ≤ O.faults sink.new }
+    ensures shelf_told { ShelfTold F.faults F.absences shelf.old shelf.new result }
+    ensures sink_told { SinkTold (O.faults sink.old) (O.faults sink.new) result }
 
     ensures ends { (told : Option Texts) → Fits told (F.log shelf.old) (F.log shelf.new)
         → RunEnds told (Met F.absences F.log shelf.old shelf.new NoText) (Met F.faults F.log shelf.old shelf.new Unreadable)
@@ -416,6 +441,7 @@ fn run_problem<R: Threads + Wait + Sync, O: Sink, G: Gate>(
     requires first { IfSome first (λ wanted. 0 < wanted) }
 
     ensures faults_kept { O.faults sink.old ≤ O.faults sink.new }
+    ensures sink_told { SinkTold (O.faults sink.old) (O.faults sink.new) result }
     ensures found { IfOk result (λ found. status_of_found found ≡ status_of_run first problem.now) }
     ensures text { OnOk result (Some (O.taken sink.new) ≡ append_known (Some (O.taken sink.old)) (text_of_run first proofs problem.now)) }
     ensures refused { IfErr result (IsRunRefusal (O.faults sink.old) (O.faults sink.new)) }

@@ -1,5 +1,5 @@
 //! A run of a program that is made from a kind and a number: the counts of its search.
-ghost use Rattle.std.specs.Prelude.{◌≡◌, ◌≤◌, ℕ, IfOk, IfErr, OnOk, OnErr, Some};
+ghost use Rattle.std.specs.Prelude.{◌≡◌, ◌<◌, ◌≤◌, ℕ, IfOk, IfErr, OnOk, OnErr, Some};
 ghost use Rattle.std.specs.Io.KnownBytes.{append_known};
 ghost use Rattle.ll_edge.specs.Counts.{Rose};
 ghost use Rattle.ll_edge.specs.Pieces.{AppendsFront};
@@ -18,6 +18,7 @@ ghost use Rattle.ll_words.specs.Words.{shown_made_run};
 ghost use Rattle.ll_top.specs.MadeRuns.{last_line, MadeRunComesTo};
 ghost use Rattle.ll_top.specs.MadeEnds.{MadeRunEnds};
 ghost use Rattle.ll_judge.specs.CallEnds.{Ends};
+ghost use Rattle.ll_judge.specs.Told.{SinkTold};
 ghost use Rattle.ll_top.specs.Endings.{status_of_found};
 ghost use Rattle.ll_top.specs.Running.{IsRunRefusal};
 
@@ -50,6 +51,7 @@ pub fn serve_made_run<R: Threads + Wait + Sync, O: Sink, G: Gate>(
     requires fits { Fits run.make.kind run.make.number }
     requires bound { run.bound ≤ 1000000 }
     ensures faults_kept { O.faults sink.old ≤ O.faults sink.new }
+    ensures write_told { O.faults sink.old < O.faults sink.new → result ≡ 6 }
     ensures ends { Ends (MadeRunComesTo (shown_made_run run)) (Rose (O.faults sink.old) (O.faults sink.new))
         (Some (O.taken sink.old)) (Some (O.taken sink.new)) result }
 {
@@ -82,6 +84,7 @@ fn run_made<R: Threads + Wait + Sync, O: Sink, G: Gate>(
     requires fits { Fits run.make.kind run.make.number }
     requires bound { run.bound ≤ 1000000 }
     ensures faults_kept { O.faults sink.old ≤ O.faults sink.new }
+    ensures sink_told { SinkTold (O.faults sink.old) (O.faults sink.new) result }
     ensures ends { MadeRunEnds (Rose (O.faults sink.old) (O.faults sink.new)) (shown_made_run run) (Some (O.taken sink.old)) (Some (O.taken sink.new)) result }
 {
     made_asks();
@@ -99,6 +102,7 @@ fn write_counts<R: Threads + Wait + Sync, O: Sink, G: Gate>(
 ) -> Result<Found, Refusal>
     requires valid { IsValid problem.now }
     ensures faults_kept { O.faults sink.old ≤ O.faults sink.new }
+    ensures sink_told { SinkTold (O.faults sink.old) (O.faults sink.new) result }
     ensures found { IfOk result (λ found. status_of_found found ≡ run_status problem.now) }
     ensures line { OnOk result (Some (O.taken sink.new) ≡ append_known (Some (O.taken sink.old)) (last_line problem.now)) }
     ensures refused { IfErr result (IsRunRefusal (O.faults sink.old) (O.faults sink.new)) }

@@ -1,5 +1,5 @@
 //! The text of a program that is made from a kind and a number.
-ghost use Rattle.std.specs.Prelude.{◌≤◌, Some};
+ghost use Rattle.std.specs.Prelude.{◌≡◌, ◌<◌, ◌≤◌, Some};
 ghost use Rattle.ll_edge.specs.Counts.{Rose};
 ghost use Rattle.ll_make.specs.Kinds.{Fits};
 ghost use Rattle.ll_words.specs.Words.{shown_make};
@@ -16,6 +16,7 @@ use std::alloc::Global;
 pub fn serve_make<O: Sink>(alloc: Global, make: MakeCommand, sink: &mut O) -> u8
     requires { Fits make.kind make.number }
     ensures faults_kept { O.faults sink.old ≤ O.faults sink.new }
+    ensures write_told { O.faults sink.old < O.faults sink.new → result ≡ 6 }
     ensures ends { Ends (MakeComesTo (shown_make make)) (Rose (O.faults sink.old) (O.faults sink.new))
         (Some (O.taken sink.old)) (Some (O.taken sink.new)) result }
 {

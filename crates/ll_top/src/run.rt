@@ -1,5 +1,5 @@
 // A run of a problem: its answers, written as they come, and the last line.
-ghost use Rattle.std.specs.Prelude.{◌≡◌, ◌≤◌, [], IfOk, IfErr, OnOk, OnErr, Some};
+ghost use Rattle.std.specs.Prelude.{◌≡◌, ◌≤◌, [], false, IfOk, IfErr, OnOk, OnErr, Some};
 ghost use Rattle.std.specs.Io.KnownBytes.{append_known};
 ghost use Rattle.std.specs.Arc.{arc_value};
 ghost use Rattle.ll_edge.specs.Pieces.{AppendsFront};
@@ -9,6 +9,7 @@ ghost use Rattle.ll_laws.specs.Problem.{problem_events, problem_cost};
 ghost use Rattle.ll_laws.specs.Valid.{IsValid};
 ghost use Rattle.ll_order.specs.Outlets.{CountsOf};
 ghost use Rattle.ll_outlet.specs.Running.{IsReady, all_lines};
+ghost use Rattle.ll_judge.specs.Told.{SinkTold};
 ghost use Rattle.ll_top.specs.Running.{status_of_counts, IsRunRefusal};
 ghost use Rattle.ll_top.specs.Endings.{status_of_found};
 ghost use Rattle.ll_top.specs.Outcome.{whole_text};
@@ -18,7 +19,6 @@ use crate::team::Team;
 use ll_crew::crew_with;
 use ll_edge::{Gate, Sink, write_all};
 use ll_index::Index;
-use ll_job::CrewFault;
 use ll_judge::Refusal;
 use ll_laws::{Counts, Event, Problem, answers_are_shown};
 use ll_outlet::{Asked, Line, Lined, Writing};
@@ -49,6 +49,7 @@ pub fn run<R: Threads + Wait + Sync, O: Sink, G: Gate>(
     requires valid { IsValid problem.now }
 
     ensures faults_kept { O.faults sink.old ≤ O.faults sink.new }
+    ensures sink_told { SinkTold (O.faults sink.old) (O.faults sink.new) result }
     ensures found { IfOk result (λ found. status_of_found found ≡ run_status problem.now) }
     ensures text { OnOk result (Some (O.taken sink.new) ≡ append_known (Some (O.taken sink.old)) (whole_text proofs problem.now)) }
     ensures refused { IfErr result (IsRunRefusal (O.faults sink.old) (O.faults sink.new)) }
@@ -70,6 +71,7 @@ pub fn run_with<R: Threads + Wait + Sync, O: Sink, G: Gate>(
     requires index { HasIndex problem.now.clauses (arc_value index.now) }
 
     ensures faults_kept { O.faults sink.old ≤ O.faults sink.new }
+    ensures sink_told { SinkTold (O.faults sink.old) (O.faults sink.new) result }
     ensures found { IfOk result (λ found. status_of_found found ≡ run_status problem.now) }
     ensures text { OnOk result (Some (O.taken sink.new) ≡ append_known (Some (O.taken sink.old)) (whole_text proofs problem.now)) }
     ensures refused { IfErr result (IsRunRefusal (O.faults sink.old) (O.faults sink.new)) }
@@ -97,6 +99,7 @@ pub fn write_summary<O: Sink>(
     sink: &mut O,
 ) -> Result<Found, Refusal>
     ensures faults_kept { O.faults sink.old ≤ O.faults sink.new }
+    ensures sink_told { SinkTold (O.faults sink.old) (O.faults sink.new) result }
     ensures found { IfOk result (λ found. status_of_found found ≡ status_of_counts counts.now.answers counts.now.reached) }
     ensures text { OnOk result (Some (O.taken sink.new) ≡ append_known (Some (O.taken sink.old))
         (counts_text counts.now.answers counts.now.reached counts.now.inferences)) }
@@ -127,6 +130,7 @@ fn write_events<K: Asked, R: Threads + Wait + Sync, O: Sink, G: Gate>(
     requires index { HasIndex problem.now.clauses (arc_value index.now) }
 
     ensures faults_kept { O.faults sink.old ≤ O.faults sink.new }
+    ensures sink_told { SinkTold (O.faults sink.old) (O.faults sink.new) result }
     ensures counts { IfOk result (λ counts. CountsOf counts (problem_events problem.now) (problem_cost problem.now)) }
     ensures lines { OnOk result (Some (O.taken sink.new) ≡ append_known (Some (O.taken sink.old)) (all_lines proofs problem.now 0
         (problem_events problem.now))) }
@@ -157,6 +161,7 @@ fn write_events_as<E: Lined, R: Threads + Wait + Sync, O: Sink, G: Gate>(
     requires index { HasIndex problem.now.clauses (arc_value index.now) }
 
     ensures faults_kept { O.faults sink.old ≤ O.faults sink.new }
+    ensures sink_told { SinkTold (O.faults sink.old) (O.faults sink.new) result }
     ensures counts { IfOk result (λ counts. CountsOf counts (problem_events problem.now) (problem_cost problem.now)) }
     ensures lines { OnOk result (Some (O.taken sink.new) ≡ append_known (Some (O.taken sink.old)) (all_lines proofs problem.now 0
         (problem_events problem.now))) }
@@ -171,6 +176,7 @@ fn write_events_as<E: Lined, R: Threads + Wait + Sync, O: Sink, G: Gate>(
         lines,
         waiting,
         answers: 0,
+        failed: false,
         of: PhantomData,
     };
     give_events(team, problem, index, &mut out)
@@ -188,11 +194,13 @@ fn give_events<'p, 's, E: Lined, R: Threads + Wait + Sync, O: Sink, G: Gate>(
     requires suits { E.suits problem.now }
     requires problem { out.old.problem.now ≡ problem.now }
     requires answers { out.old.answers ≡ 0 }
+    requires unfailed { out.old.failed ≡ false }
     requires ready { IsReady E.makes out.old.proofs out.old.problem.now out.old.waiting.now.items }
 
     ensures same_reference { out.new.sink.ghost_name ≡ out.old.sink.ghost_name }
     ensures none { out.new.waiting.now.items ≡ [] }
     ensures faults_kept { O.faults out.old.sink.now ≤ O.faults out.new.sink.now }
+    ensures sink_told { SinkTold (O.faults out.old.sink.now) (O.faults out.new.sink.now) result }
     ensures counts { IfOk result (λ counts. CountsOf counts (problem_events problem.entry.now) (problem_cost problem.entry.now)) }
     ensures lines { OnOk result (Some (O.taken out.new.sink.now) ≡ append_known (Some (O.taken out.old.sink.now))
         (all_lines out.old.proofs problem.entry.now 0 (problem_events problem.entry.now))) }
@@ -211,8 +219,9 @@ fn give_events<'p, 's, E: Lined, R: Threads + Wait + Sync, O: Sink, G: Gate>(
         out,
     ) {
         Ok(counts) => Ok(counts),
-        Err(CrewFault::Write) => Err(Refusal::Unwritable),
-        Err(CrewFault::OutOfMemory) => Err(Refusal::OutOfMemory),
+        // The outlet knows whether its sink failed.
+        Err(_) if out.failed => Err(Refusal::Unwritable),
+        Err(_) => Err(Refusal::OutOfMemory),
     }
 }
 

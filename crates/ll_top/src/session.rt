@@ -12,6 +12,7 @@ ghost use Rattle.ll_parser.specs.Raw.{ProgramTree};
 ghost use Rattle.ll_session.specs.Queries.{IsProgramOf, IsLoaded};
 ghost use Rattle.ll_session.specs.Replied.{Replies, RefusesLine};
 ghost use Rattle.ll_judge.specs.CallEnds.{Ends};
+ghost use Rattle.ll_judge.specs.Told.{ShelfTold, SinkTold, StatusTold};
 ghost use Rattle.ll_top.specs.OwnEnds.{EndsOwn, NoneFails};
 ghost use Rattle.ll_top.specs.Running.{IsRunRefusal};
 ghost use Rattle.ll_top.specs.Sessions.{reply_text, SessionComesTo};
@@ -48,6 +49,7 @@ pub fn serve_session<R: Threads + Wait + Sync, F: Shelf, O: Sink, G: Gate>(
 
     ensures kept { ShelfKept F.texts F.faults F.absences F.log shelf.old shelf.new }
     ensures sink_faults_kept { O.faults sink.old ≤ O.faults sink.new }
+    ensures faults_told { StatusTold F.faults F.absences O.faults shelf.old shelf.new sink.old sink.new result }
 
     ensures ends { (told : Option Texts) → Fits told (F.log shelf.old) (F.log shelf.new)
         → Ends (SessionComesTo told (Met F.absences F.log shelf.old shelf.new NoText) (Met F.faults F.log shelf.old shelf.new Unreadable)
@@ -89,6 +91,8 @@ fn reply_to_texts<R: Threads + Wait + Sync, F: Shelf, O: Sink, G: Gate>(
 
     ensures kept { ShelfKept F.texts F.faults F.absences F.log shelf.old shelf.new }
     ensures sink_faults_kept { O.faults sink.old ≤ O.faults sink.new }
+    ensures shelf_told { ShelfTold F.faults F.absences shelf.old shelf.new result }
+    ensures sink_told { SinkTold (O.faults sink.old) (O.faults sink.new) result }
 
     ensures ends { (told : Option Texts) → Fits told (F.log shelf.old) (F.log shelf.new)
         → EndsOwn (SessionComesTo told (Met F.absences F.log shelf.old shelf.new NoText) (Met F.faults F.log shelf.old shelf.new Unreadable)
@@ -118,6 +122,7 @@ fn reply_to_text<R: Threads + Wait + Sync, O: Sink, G: Gate>(
     requires text { length text.now ≤ 16777216 }
     requires bound { session.now.bound ≤ 1000000 }
     ensures faults_kept { O.faults sink.old ≤ O.faults sink.new }
+    ensures sink_told { SinkTold (O.faults sink.old) (O.faults sink.new) result }
     ensures ends { EndsOwn (TextsComeTo session.now.proofs session.now.queries.now program.now text.now session.now.bound) (λ done. 0)
         (RefusesProgram program.now) (Rose (O.faults sink.old) (O.faults sink.new)) (Some (O.taken sink.old)) (Some (O.taken sink.new)) result }
     ensures replied { OnOk result ((tree : ProgramTree) × IsFaultless program.now tree
@@ -141,6 +146,7 @@ fn reply_over<R: Threads + Wait + Sync, O: Sink, G: Gate>(
     requires text { length text.now ≤ 16777216 }
     requires bound { session.now.bound ≤ 1000000 }
     ensures faults_kept { O.faults sink.old ≤ O.faults sink.new }
+    ensures sink_told { SinkTold (O.faults sink.old) (O.faults sink.new) result }
     ensures ends { (program : ProgramTree) → IsProgramOf program loaded.now
         → EndsOwn (RepliesTo session.now.proofs session.now.queries.now program text.now session.now.bound) (λ done. 0) NoneFails
         (Rose (O.faults sink.old) (O.faults sink.new)) (Some (O.taken sink.old)) (Some (O.taken sink.new)) result }
@@ -168,6 +174,7 @@ fn reply_to_lines<R: Threads + Wait + Sync, O: Sink, G: Gate>(
     requires text { length text.now ≤ 16777216 }
     requires bound { session.now.bound ≤ 1000000 }
     ensures faults_kept { O.faults sink.old ≤ O.faults sink.new }
+    ensures sink_told { SinkTold (O.faults sink.old) (O.faults sink.new) result }
     ensures ends { (program : ProgramTree) → IsProgramOf program loaded.now
         → EndsOwn (RepliesTo session.now.proofs session.now.queries.now program text.now session.now.bound) (λ done. 0) NoneFails
         (Rose (O.faults sink.old) (O.faults sink.new)) (Some (O.taken sink.old)) (Some (O.taken sink.new)) result }
@@ -203,6 +210,7 @@ fn reply_to_line<R: Threads + Wait + Sync, O: Sink, G: Gate>(
     requires line { length line.now ≤ 16777216 }
     requires bound { session.now.bound ≤ 1000000 }
     ensures faults_kept { O.faults sink.old ≤ O.faults sink.new }
+    ensures sink_told { SinkTold (O.faults sink.old) (O.faults sink.new) result }
     ensures replies { OnOk result ((program : ProgramTree) → IsProgramOf program loaded.now
         → Replies (WritesReply session.now.proofs session.now.queries.now) (CutsReply session.now.proofs session.now.queries.now) program session.now.bound
         number line.now (Some (O.taken sink.old)) (Some (O.taken sink.new))) }
@@ -235,6 +243,7 @@ fn reply_with_run<R: Threads + Wait + Sync, O: Sink, G: Gate>(
     requires valid { IsValid problem.now }
     requires index { HasIndex problem.now.clauses (arc_value index.now) }
     ensures faults_kept { O.faults sink.old ≤ O.faults sink.new }
+    ensures sink_told { SinkTold (O.faults sink.old) (O.faults sink.new) result }
     ensures text { OnOk result (Some (O.taken sink.new) ≡ append_known (Some (O.taken sink.old))
         (reply_text session.now.proofs session.now.queries.now (record { line = number; asked = Ok problem.now }))) }
     ensures refused { IfErr result (IsRunRefusal (O.faults sink.old) (O.faults sink.new)) }
@@ -253,6 +262,7 @@ fn reply_with_fault<O: Sink>(
     sink: &mut O,
 ) -> Result<(), Refusal>
     ensures faults_kept { O.faults sink.old ≤ O.faults sink.new }
+    ensures sink_told { SinkTold (O.faults sink.old) (O.faults sink.new) result }
     ensures text { OnOk result (Some (O.taken sink.new) ≡ append_known (Some (O.taken sink.old))
         (reply_text session.now.proofs session.now.queries.now (record { line = fault.at.line; asked = Err fault }))) }
     ensures refused { IfErr result (IsRunRefusal (O.faults sink.old) (O.faults sink.new)) }

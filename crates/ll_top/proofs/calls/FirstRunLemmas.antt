@@ -18,7 +18,7 @@ use Rattle.ll_top.specs.Outcome.{status_of_run, text_of_run, stopped_text}
 use Rattle.ll_top.specs.Proved.{stop_or_summary, end_of_run}
 use Rattle.ll_outlet.specs.Running.{all_lines, OutletState, SameOutlet, Writes, BreaksOff}
 use Rattle.ll_top.proofs.calls.RunLemmas.{last-line}
-use Rattle.ll_outlet.proofs.CallerLemmas.{events-same, lines-written}
+use Rattle.ll_outlet.proofs.CallerLemmas.{events-same, events-quiet, lines-written}
 use Rattle.ll_top.proofs.calls.ProvedLemmas.{told-text}
 
 module _ (p : ProblemTree) (k : ℕ) where
@@ -77,3 +77,6 @@ module _ {W : Type 0} (state : W → OutletState) (limit answers : W → ℕ) wh
   pub first-written : (x y : W) (p : ProblemTree) (es : List Event) → (state x).problem ≡ p → (state x).answers ≡ 0 → Gives Takes x es y
       → (state y).written ≡ append_known (state x).written (all_lines (state x).proofs p 0 es)
   first-written x y p es e k g = lines-written Takes Breaks state writes breaks_off x y p es e k g
+
+  pub first-quiet : (x y : W) (es : List Event) → Gives Takes x es y → (state y).faults ≡ (state x).faults
+  first-quiet x y es g = events-quiet Takes Breaks state writes breaks_off x y es g

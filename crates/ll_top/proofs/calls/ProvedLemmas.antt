@@ -42,7 +42,7 @@ module _ (shown : AnswersAreShown) (terms : AnswersFollow) (covered : InstancesF
       }
 
   has-derivation : (a : Answered) → Contains (problem_events p) (Answer a) → (d : DerivationLines) × (dealt p a ≡ Some d) × ShowsAnswer p a d
-  has-derivation a h = let s = shown p a valid h in (s.0, s.1, record { asked = s.2; whole = s.3; shows = s.4; count = s.5 })
+  has-derivation a h = let s = shown p a valid h in (s.0, s.1, record { of_branch = s.1; asked = s.2; whole = s.3; shows = s.4; count = s.5 })
 
   event-among : (front es : List Event) (e : Event) → front ++ e ∷ es ≡ problem_events p → Contains (problem_events p) e
   event-among front es e h = subst (λ xs. Contains xs e) h (Contains-append_right front (e ∷ es) e (0, omega arith, refl))

@@ -95,3 +95,6 @@ returns-clause-replied g c = c.serve.ensures.replied
 
 pub returns-clause-deepened : goal.returns-clause-deepened
 returns-clause-deepened g c = c.serve.ensures.deepened
+
+pub returns-clause-faults_told : goal.returns-clause-faults_told
+returns-clause-faults_told g c = c.serve.ensures.faults_told

@@ -85,3 +85,6 @@ returns-clause-told_covered g c = λ f e. returns-clause-covered g c f e _ (text
 
 pub returns-clause-told_uncovered : goal.returns-clause-told_uncovered
 returns-clause-told_uncovered g c = λ e. returns-clause-uncovered g c e _ (texts-fit c.serve_plain.ensures.kept (g.met.F.Shelf.told c.serve_plain.new.shelf))
+
+pub returns-clause-faults_told : goal.returns-clause-faults_told
+returns-clause-faults_told g c = c.serve_plain.ensures.faults_told

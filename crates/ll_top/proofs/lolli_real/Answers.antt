@@ -12,3 +12,6 @@ returns-clause-proved g c = λ run is small texts agrees. c.lolli.ensures.proved
 
 pub returns-clause-nothing : goal.returns-clause-nothing
 returns-clause-nothing g c = λ run is one texts agrees. c.lolli.ensures.nothing run is one (Some texts) agrees
+
+pub returns-clause-faults_told : goal.returns-clause-faults_told
+returns-clause-faults_told g c = c.lolli.ensures.faults_told

@@ -81,7 +81,7 @@ one-check words c d h k =
     let b = one-bound words c.bound d.bound h.form k.form in
     λ i. record { program = p i; query = q i; proof = r i; bound = b i }
 
-one-convert : (words : List (List ℕ)) (c d : ConvertWords) → IsConvert words c → IsConvert words d → c ≡ d
+pub one-convert : (words : List (List ℕ)) (c d : ConvertWords) → IsConvert words c → IsConvert words d → c ≡ d
 one-convert words c d h k =
     let p = some-same c.proof d.proof (slice_get words 1) h.proof k.proof in
     let v = some-same c.version d.version (number_behind (codes "--to") words) h.version k.version in
@@ -93,7 +93,7 @@ one-make words m n h k =
     let v = some-same m.number n.number (option_map (digits_value 10) (slice_get words 2)) h.number k.number in
     λ i. record { kind = e i; number = v i }
 
-one-made-run : (words : List (List ℕ)) (m n : MadeRunWords) → IsMadeRun words m → IsMadeRun words n → m ≡ n
+pub one-made-run : (words : List (List ℕ)) (m n : MadeRunWords) → IsMadeRun words m → IsMadeRun words n → m ≡ n
 one-made-run words m n h k =
     let e = same-kind words m.make.kind n.make.kind (inr h.form) (inr k.form) in
     let v = some-same m.make.number n.make.number (option_map (digits_value 10) (slice_get words 2)) h.number k.number in

@@ -1,7 +1,8 @@
 use Rattle.std.proofs.Common.{refl, le_refl}
-use Rattle.std.proofs.lemmas.Result.{IfOk-from_err}
+use Rattle.std.proofs.lemmas.Result.{IfOk-from_err, err_from_is_err_and}
 use Rattle.ll_words.specs.Words.{shown_words}
 use Rattle.ll_top.proofs.outcomes.OutcomeLemmas.{run-ended-as, not-prepared, run-reads}
+use Rattle.ll_judge.proofs.CallerLemmas.{shelf-read, shelf-refused, sink-still}
 use Rattle.ll_top.proofs.run_texts.Goals as goal
 
 pub returns-clause-ends : goal.returns-clause-ends
@@ -33,3 +34,16 @@ returns-clause-run_reads g c =
 
 pub returns-in_err-problem-clause-run_reads : goal.returns-in_err-problem-clause-run_reads
 returns-in_err-problem-clause-run_reads g c = IfOk-from_err c.from_residual.result _ c.from_residual.ensures.0
+
+pub returns-in_err-problem-clause-shelf_told : goal.returns-in_err-problem-clause-shelf_told
+returns-in_err-problem-clause-shelf_told g c =
+    let p = err_from_is_err_and c.from_residual.result c.from_residual.ensures.1 in rw (p.1, p.2) (shelf-refused c.in_err-problem.ensures.shelf_told)
+
+pub returns-in_err-problem-clause-sink_told : goal.returns-in_err-problem-clause-sink_told
+returns-in_err-problem-clause-sink_told g c = sink-still _ _ c.from_residual.result refl
+
+pub returns-clause-shelf_told : goal.returns-clause-shelf_told
+returns-clause-shelf_told g c = shelf-read _ c.in_ok-problem.ensures.shelf_told
+
+pub returns-clause-sink_told : goal.returns-clause-sink_told
+returns-clause-sink_told g c = c.run_problem-found.ensures.sink_told

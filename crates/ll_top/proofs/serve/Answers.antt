@@ -62,3 +62,9 @@ returns-in-None-clause-replied g c = let u = c.in-None.ensures.untouched refl in
 
 pub returns-in-None-clause-deepened : goal.returns-in-None-clause-deepened
 returns-in-None-clause-deepened g c = let u = c.in-None.ensures.untouched refl in rw (u.0, u.1) at c.serve_search.ensures.deepened
+
+pub returns-in-Some-clause-faults_told : goal.returns-in-Some-clause-faults_told
+returns-in-Some-clause-faults_told g c = c.in-Some.ensures.faults_told
+
+pub returns-in-None-clause-faults_told : goal.returns-in-None-clause-faults_told
+returns-in-None-clause-faults_told g c = let u = c.in-None.ensures.untouched refl in rw (u.0, u.1) at c.serve_search.ensures.faults_told

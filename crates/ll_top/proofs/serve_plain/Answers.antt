@@ -11,6 +11,7 @@ use Rattle.ll_lists.proofs.CallerLemmas.{none_not_some}
 use Rattle.ll_words.proofs.CallerLemmas.{asked-workers, asked-alone, asked-in-form, workers-in-form, bad-not-in-form}
 use Rattle.ll_edge.proofs.CallerLemmas.{kept_none}
 use Rattle.ll_top.proofs.outcomes.CallLemmas.{print-call, check-call, convert-call, make-call, usage-call, usage-misused}
+use Rattle.ll_judge.proofs.CallerLemmas.{status-shelfless}
 use Rattle.ll_top.proofs.serve_plain.Goals as goal
 
 -- what is none of these says how many search
@@ -176,3 +177,21 @@ serve_convert-requires g c = record { version = subst IsBounded c.in-Convert.is 
 
 pub serve_make-requires : goal.serve_make-requires
 serve_make-requires g c = subst IsBounded c.in-Make.is c.in-Ok.ensures.bound
+
+pub returns-in-Print-clause-faults_told : goal.returns-in-Print-clause-faults_told
+returns-in-Print-clause-faults_told g c = c.serve_print.ensures.faults_told
+
+pub returns-in-Check-clause-faults_told : goal.returns-in-Check-clause-faults_told
+returns-in-Check-clause-faults_told g c = c.serve_check.ensures.faults_told
+
+pub returns-in-Convert-clause-faults_told : goal.returns-in-Convert-clause-faults_told
+returns-in-Convert-clause-faults_told g c = c.serve_convert.ensures.faults_told
+
+pub returns-in-Make-clause-faults_told : goal.returns-in-Make-clause-faults_told
+returns-in-Make-clause-faults_told g c = status-shelfless _ c.serve_make.ensures.write_told
+
+pub returns-in_default-clause-faults_told : goal.returns-in_default-clause-faults_told
+returns-in_default-clause-faults_told g c = tt
+
+pub returns-in-Err-clause-faults_told : goal.returns-in-Err-clause-faults_told
+returns-in-Err-clause-faults_told g c = status-shelfless _ c.refuse.ensures.write_told

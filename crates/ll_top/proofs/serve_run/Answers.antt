@@ -7,6 +7,7 @@ use Rattle.ll_top.proofs.outcomes.OutcomeLemmas.{found-ends, cut-ends, memory-en
 use Rattle.ll_judge.proofs.CallerLemmas.{refuses-later}
 use Rattle.ll_top.proofs.calls.ProvedLemmas.{run-shown, refused-past, six-past, ten-past, six-apart, ten-apart}
 use Rattle.ll_top.proofs.calls.NothingLemmas.{asks-in-vain}
+use Rattle.ll_judge.proofs.CallerLemmas.{status-done, status-unwritable, status-memory, status-refused}
 use Rattle.ll_top.proofs.serve_run.Goals as goal
 
 pub returns-in-Ok-clause-ends : goal.returns-in-Ok-clause-ends
@@ -95,3 +96,19 @@ returns-in-Err-Unwritable-clause-run_reads g c = λ h. six-past h
 
 pub returns-in-Err-OutOfMemory-clause-run_reads : goal.returns-in-Err-OutOfMemory-clause-run_reads
 returns-in-Err-OutOfMemory-clause-run_reads g c = λ h. ten-past h
+
+pub returns-in-Ok-clause-faults_told : goal.returns-in-Ok-clause-faults_told
+returns-in-Ok-clause-faults_told g c = status-done _ c.in-Ok.ensures.shelf_told c.in-Ok.ensures.sink_told
+
+pub returns-in-Err-Text-clause-faults_told : goal.returns-in-Err-Text-clause-faults_told
+returns-in-Err-Text-clause-faults_told g c =
+    status-refused _ _ c.in-Err-Text.refusal _ _ _ _ _ (rw c.in-Err-Text.field-0-is at c.in-Err-Text.ensures.shelf_told)
+    (rw c.in-Err-Text.field-0-is at c.in-Err-Text.ensures.sink_told) c.refuse.ensures.write_told c.cause.ensures c.refuse.ensures.refuses
+
+pub returns-in-Err-Unwritable-clause-faults_told : goal.returns-in-Err-Unwritable-clause-faults_told
+returns-in-Err-Unwritable-clause-faults_told g c = status-unwritable
+
+pub returns-in-Err-OutOfMemory-clause-faults_told : goal.returns-in-Err-OutOfMemory-clause-faults_told
+returns-in-Err-OutOfMemory-clause-faults_told g c =
+    status-memory (rw c.in-Err-OutOfMemory.field-0-is at c.in-Err-OutOfMemory.ensures.shelf_told)
+    (rw c.in-Err-OutOfMemory.field-0-is at c.in-Err-OutOfMemory.ensures.sink_told)

@@ -14,6 +14,7 @@ use Rattle.ll_edge.proofs.CallerLemmas.{kept_none}
 use Rattle.ll_top.proofs.outcomes.CallLemmas.{run-call, session-call, deepen-call, made-run-call}
 use Rattle.ll_top.proofs.calls.ProvedLemmas.{shown-run, same-reads, shown-session, shown-deepen}
 use Rattle.ll_top.proofs.calls.NothingLemmas.{vain-run}
+use Rattle.ll_judge.proofs.CallerLemmas.{status-shelfless}
 use Rattle.ll_top.proofs.serve_search.Goals as goal
 
 -- what says how many search is one of these
@@ -216,3 +217,15 @@ returns-in-MadeRun-clause-deepened g c = λ deepen is small told fits.
     let words = word_texts c.args.words.now in
     let cmd = subst (IsCommand words) c.in-MadeRun.is c.in-Ok.ensures.command in
     absurd (let k = sym (deepen-kind words is.form) ∙ made-run-kind words (shown_made_run c.in-MadeRun.made).make.kind cmd.form in cc)
+
+pub returns-in-Run-clause-faults_told : goal.returns-in-Run-clause-faults_told
+returns-in-Run-clause-faults_told g c = c.serve_run.ensures.faults_told
+
+pub returns-in-Session-clause-faults_told : goal.returns-in-Session-clause-faults_told
+returns-in-Session-clause-faults_told g c = c.serve_session.ensures.faults_told
+
+pub returns-in-Deepen-clause-faults_told : goal.returns-in-Deepen-clause-faults_told
+returns-in-Deepen-clause-faults_told g c = c.serve_deepen.ensures.faults_told
+
+pub returns-in-MadeRun-clause-faults_told : goal.returns-in-MadeRun-clause-faults_told
+returns-in-MadeRun-clause-faults_told g c = status-shelfless _ c.serve_made_run.ensures.write_told

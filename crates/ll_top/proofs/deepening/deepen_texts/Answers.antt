@@ -1,10 +1,11 @@
 use Rattle.ll_edge.specs.Counts.{Rose}
 use Rattle.std.specs.Prelude.{Some}
-use Rattle.std.proofs.Common.{le_refl}
+use Rattle.std.proofs.Common.{refl, le_refl}
 use Rattle.std.proofs.lemmas.Result.{IfOk-from_err, err_from_is_err_and}
 use Rattle.ll_words.specs.Words.{shown_deepen}
 use Rattle.ll_top.proofs.calls.DeepenLemmas.{not-deepened, texts-deepened}
 use Rattle.ll_top.proofs.calls.RightLemmas.{FollowingLaws, texts-shown}
+use Rattle.ll_judge.proofs.CallerLemmas.{shelf-read, shelf-refused, sink-still}
 use Rattle.ll_top.proofs.deepening.deepen_texts.Goals as goal
 
 pub returns-in_err-problem-clause-ends : goal.returns-in_err-problem-clause-ends
@@ -47,3 +48,16 @@ returns-clause-deepened g c =
     texts-shown laws (shown_deepen c.args.deepen.now) c.in_ok-problem.problem _ _ _ _ (Some (g.O.Sink.taken c.args.sink.now))
     (Some (g.O.Sink.taken c.run_deepened.new.sink)) c.run_deepened.result c.in_ok-problem.ensures.valid
     c.requires.series.greatest c.in_ok-problem.ensures.prepares c.run_deepened.ensures.ends
+
+pub returns-in_err-problem-clause-shelf_told : goal.returns-in_err-problem-clause-shelf_told
+returns-in_err-problem-clause-shelf_told g c =
+    let p = err_from_is_err_and c.from_residual.result c.from_residual.ensures.1 in rw (p.1, p.2) (shelf-refused c.in_err-problem.ensures.shelf_told)
+
+pub returns-in_err-problem-clause-sink_told : goal.returns-in_err-problem-clause-sink_told
+returns-in_err-problem-clause-sink_told g c = sink-still _ _ c.from_residual.result refl
+
+pub returns-clause-shelf_told : goal.returns-clause-shelf_told
+returns-clause-shelf_told g c = shelf-read _ c.in_ok-problem.ensures.shelf_told
+
+pub returns-clause-sink_told : goal.returns-clause-sink_told
+returns-clause-sink_told g c = c.run_deepened.ensures.sink_told

@@ -3,6 +3,7 @@ use Rattle.std.proofs.Common.{refl, le_refl, le_trans}
 use Rattle.std.proofs.lemmas.Result.{err_from_is_err_and}
 use Rattle.ll_judge.specs.CallEnds.{nothing}
 use Rattle.ll_top.proofs.calls.DeepenLemmas.{line-cut, run-deepened}
+use Rattle.ll_judge.proofs.CallerLemmas.{sink-still, sink-later}
 use Rattle.ll_top.proofs.deepening.run_deepened.Goals as goal
 
 pub returns-in_err-write_heading-clause-ends : goal.returns-in_err-write_heading-clause-ends
@@ -31,3 +32,9 @@ returns-in_err-write_heading-clause-faults_kept g c = c.in_err-write_heading.ens
 
 pub returns-clause-faults_kept : goal.returns-clause-faults_kept
 returns-clause-faults_kept g c = le_trans c.in_ok-write_heading.ensures.faults_kept c.run.ensures.faults_kept
+
+pub returns-in_err-bound-clause-sink_told : goal.returns-in_err-bound-clause-sink_told
+returns-in_err-bound-clause-sink_told g c = sink-still _ _ c.from_residual.result refl
+
+pub returns-clause-sink_told : goal.returns-clause-sink_told
+returns-clause-sink_told g c = sink-later _ _ _ _ c.in_ok-write_heading.ensures.quiet c.run.ensures.sink_told

@@ -8,6 +8,7 @@ use Rattle.ll_judge.proofs.CallerLemmas.{refuses-later}
 use Rattle.ll_top.proofs.outcomes.OwnLemmas.{done-ends, cut-ends, memory-ends}
 use Rattle.ll_top.proofs.calls.DeepenLemmas.{deepen-refused}
 use Rattle.ll_top.proofs.calls.ProvedLemmas.{refused-past, six-past, ten-past}
+use Rattle.ll_judge.proofs.CallerLemmas.{status-done, status-unwritable, status-memory, status-refused}
 use Rattle.ll_top.proofs.deepening.serve_deepen.Goals as goal
 
 pub returns-in-Ok-clause-ends : goal.returns-in-Ok-clause-ends
@@ -64,3 +65,19 @@ returns-in-Err-Unwritable-clause-deepened g c = λ h. six-past h
 
 pub returns-in-Err-OutOfMemory-clause-deepened : goal.returns-in-Err-OutOfMemory-clause-deepened
 returns-in-Err-OutOfMemory-clause-deepened g c = λ h. ten-past h
+
+pub returns-in-Ok-clause-faults_told : goal.returns-in-Ok-clause-faults_told
+returns-in-Ok-clause-faults_told g c = status-done _ c.in-Ok.ensures.shelf_told c.in-Ok.ensures.sink_told
+
+pub returns-in-Err-Text-clause-faults_told : goal.returns-in-Err-Text-clause-faults_told
+returns-in-Err-Text-clause-faults_told g c =
+    status-refused _ _ c.in-Err-Text.refusal _ _ _ _ _ (rw c.in-Err-Text.field-0-is at c.in-Err-Text.ensures.shelf_told)
+    (rw c.in-Err-Text.field-0-is at c.in-Err-Text.ensures.sink_told) c.refuse.ensures.write_told c.cause.ensures c.refuse.ensures.refuses
+
+pub returns-in-Err-Unwritable-clause-faults_told : goal.returns-in-Err-Unwritable-clause-faults_told
+returns-in-Err-Unwritable-clause-faults_told g c = status-unwritable
+
+pub returns-in-Err-OutOfMemory-clause-faults_told : goal.returns-in-Err-OutOfMemory-clause-faults_told
+returns-in-Err-OutOfMemory-clause-faults_told g c =
+    status-memory (rw c.in-Err-OutOfMemory.field-0-is at c.in-Err-OutOfMemory.ensures.shelf_told)
+    (rw c.in-Err-OutOfMemory.field-0-is at c.in-Err-OutOfMemory.ensures.sink_told)

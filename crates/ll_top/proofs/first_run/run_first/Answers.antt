@@ -11,6 +11,7 @@ use Rattle.ll_outlet.proofs.CallerLemmas.{on_ok_map, on_err_map}
 use Rattle.ll_top.proofs.calls.RunLemmas.{run-status}
 use Rattle.ll_top.proofs.calls.FirstRunLemmas.{stop-end, stop-status, whole-end, whole-status, text-ended, text-cut, not-stopped}
 use Rattle.ll_top.proofs.outcomes.OwnLemmas.{refused-later}
+use Rattle.ll_judge.proofs.CallerLemmas.{sink-later}
 use Rattle.ll_top.proofs.first_run.run_first.Goals as goal
 
 pub returns-in-Some-clause-found : goal.returns-in-Some-clause-found
@@ -97,3 +98,13 @@ returns-in_err-write_stop-in-None-clause-refused g c =
 
 pub returns-clause-faults_kept : goal.returns-clause-faults_kept
 returns-clause-faults_kept g c = le_trans c.in_ok-counts.ensures.faults_kept c.in_ok-write_stop-in-None.ensures.faults_kept
+
+pub returns-in_err-counts-clause-sink_told : goal.returns-in_err-counts-clause-sink_told
+returns-in_err-counts-clause-sink_told g c =
+    let p = err_from_is_err_and c.from_residual.result c.from_residual.ensures.1 in rw (p.1, p.2) (c.in_err-counts.ensures.sink_told)
+
+pub returns-in-Some-clause-sink_told : goal.returns-in-Some-clause-sink_told
+returns-in-Some-clause-sink_told g c = sink-later _ _ _ _ c.in_ok-counts.ensures.sink_told c.write_summary.ensures.sink_told
+
+pub returns-clause-sink_told : goal.returns-clause-sink_told
+returns-clause-sink_told g c = c.in_ok-write_stop-in-None.ensures.quiet ∙ c.in_ok-counts.ensures.sink_told

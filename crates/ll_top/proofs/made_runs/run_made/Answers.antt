@@ -1,7 +1,8 @@
-use Rattle.std.proofs.Common.{◌∙◌}
+use Rattle.std.proofs.Common.{refl, ◌∙◌}
 use Rattle.ll_make.proofs.CallerLemmas.{program_short, query_short}
 use Rattle.ll_words.specs.Words.{shown_made_run}
 use Rattle.ll_top.proofs.calls.MadeRunLemmas.{unjudged, counted-ends}
+use Rattle.ll_judge.proofs.CallerLemmas.{sink-still}
 use Rattle.ll_top.proofs.made_runs.run_made.Goals as goal
 
 pub problem_of-requires-clause-program : goal.problem_of-requires-clause-program
@@ -22,3 +23,12 @@ returns-clause-ends g c =
     let asks = rw (c.deref.ensures.value, c.in_ok-text.ensures, c.as_bytes-asked.ensures.value, c.query.ensures) at c.in_ok-problem.ensures.judges in
     counted-ends (shown_made_run c.args.run) _ _ _ _ _ _ asks c.write_counts.ensures.found c.write_counts.ensures.line c.write_counts.ensures.refused
     c.write_counts.ensures.prefix
+
+pub returns-in_err-text-clause-sink_told : goal.returns-in_err-text-clause-sink_told
+returns-in_err-text-clause-sink_told g c = sink-still _ _ c.from_residual.result refl
+
+pub returns-in_err-problem-clause-sink_told : goal.returns-in_err-problem-clause-sink_told
+returns-in_err-problem-clause-sink_told g c = sink-still _ _ c.from_residual-in_err-problem.result refl
+
+pub returns-clause-sink_told : goal.returns-clause-sink_told
+returns-clause-sink_told g c = c.write_counts.ensures.sink_told

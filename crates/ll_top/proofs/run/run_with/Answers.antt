@@ -6,6 +6,7 @@ use Rattle.ll_top.specs.Endings.{status_of_found}
 use Rattle.ll_outlet.proofs.CallerLemmas.{on_ok_map, on_err_map}
 use Rattle.ll_top.proofs.calls.RunLemmas.{whole-written, last-broken, run-status}
 use Rattle.ll_top.proofs.outcomes.OwnLemmas.{refused-later}
+use Rattle.ll_judge.proofs.CallerLemmas.{sink-later}
 use Rattle.ll_top.proofs.run.run_with.Goals as goal
 
 pub returns-clause-found : goal.returns-clause-found
@@ -45,3 +46,10 @@ returns-clause-faults_kept g c = le_trans c.in_ok-counts.ensures.faults_kept c.w
 
 pub returns-clause-refused : goal.returns-clause-refused
 returns-clause-refused g c = refused-later _ _ _ _ c.in_ok-counts.ensures.faults_kept c.write_summary.ensures.refused
+
+pub returns-in_err-counts-clause-sink_told : goal.returns-in_err-counts-clause-sink_told
+returns-in_err-counts-clause-sink_told g c =
+    let p = err_from_is_err_and c.from_residual.result c.from_residual.ensures.1 in rw (p.1, p.2) (c.in_err-counts.ensures.sink_told)
+
+pub returns-clause-sink_told : goal.returns-clause-sink_told
+returns-clause-sink_told g c = sink-later _ _ _ _ c.in_ok-counts.ensures.sink_told c.write_summary.ensures.sink_told

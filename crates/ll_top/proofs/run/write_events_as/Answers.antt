@@ -21,3 +21,6 @@ give_events-requires-clause-ready g c κs within = c.requires.ready
 
 pub returns-clause-counts : goal.returns-clause-counts
 returns-clause-counts g c = c.give_events.ensures.counts
+
+pub give_events-requires-clause-unfailed : goal.give_events-requires-clause-unfailed
+give_events-requires-clause-unfailed g c κs within = refl

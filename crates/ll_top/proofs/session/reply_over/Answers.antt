@@ -1,6 +1,7 @@
 use Rattle.std.proofs.Common.{refl}
 use Rattle.std.proofs.lemmas.Result.{IfOk-from_err, err_from_is_err_and}
 use Rattle.ll_judge.specs.CallEnds.{nothing}
+use Rattle.ll_judge.proofs.CallerLemmas.{sink-still}
 use Rattle.ll_top.proofs.session.reply_over.Goals as goal
 
 pub returns-in_err-index-clause-ends : goal.returns-in_err-index-clause-ends
@@ -12,3 +13,9 @@ returns-in_err-index-clause-replied g c = IfOk-from_err c.from_residual.result _
 
 pub returns-clause-replied : goal.returns-clause-replied
 returns-clause-replied g c = c.reply_to_lines.ensures.replied
+
+pub returns-in_err-index-clause-sink_told : goal.returns-in_err-index-clause-sink_told
+returns-in_err-index-clause-sink_told g c = sink-still _ _ c.from_residual.result refl
+
+pub returns-clause-sink_told : goal.returns-clause-sink_told
+returns-clause-sink_told g c = c.reply_to_lines.ensures.sink_told

@@ -7,6 +7,7 @@ use Rattle.ll_session.specs.Queries.{IsProgramOf, on_line}
 use Rattle.ll_session.specs.Replied.{Replies, RefusesLine, line_refused}
 use Rattle.ll_top.specs.SessionEnds.{WritesReply, CutsReply}
 use Rattle.ll_top.proofs.calls.SessionLemmas.{query-indexed}
+use Rattle.ll_judge.proofs.CallerLemmas.{sink-still}
 use Rattle.ll_top.proofs.session.reply_to_line.Goals as goal
 
 pub reply_with_run-reply-requires-clause-valid : goal.reply_with_run-reply-requires-clause-valid
@@ -77,3 +78,12 @@ returns-in-Err-Text-clause-cut g c =
       cause program (c.in_ok-part.ensures ∙ is.is),
       refl,
     ) broke) asked
+
+pub returns-in_err-part-clause-sink_told : goal.returns-in_err-part-clause-sink_told
+returns-in_err-part-clause-sink_told g c = sink-still _ _ c.from_residual.result refl
+
+pub returns-in-Ok-clause-sink_told : goal.returns-in-Ok-clause-sink_told
+returns-in-Ok-clause-sink_told g c = c.reply_with_run-reply.ensures.sink_told
+
+pub returns-in-Err-Text-clause-sink_told : goal.returns-in-Err-Text-clause-sink_told
+returns-in-Err-Text-clause-sink_told g c = c.reply_with_fault.ensures.sink_told

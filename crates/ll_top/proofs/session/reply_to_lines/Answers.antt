@@ -1,12 +1,13 @@
 use Rattle.std.specs.Prelude.{Some}
 use denote.Builtin.{unit}
-use Rattle.std.proofs.Common.{sym, arith, le_refl, le_trans, length}
+use Rattle.std.proofs.Common.{refl, sym, ◌∙◌, arith, le_refl, le_trans, length, Err}
 use Rattle.std.proofs.lemmas.Bool.Decides.{Decides-eqb}
 use Rattle.std.proofs.lemmas.Result.{IfOk-from_err, err_from_is_err_and}
 use Rattle.ll_session.proofs.CallerLemmas.{none-answered, line-passed, line-answered, line-refused, all-answered}
 use Rattle.ll_top.specs.SessionEnds.{WritesReply, CutsReply}
 use Rattle.ll_top.proofs.outcomes.OwnLemmas.{refusal-later}
 use Rattle.ll_top.proofs.calls.SessionLemmas.{replies-written, replies-valid, lines-stopped}
+use Rattle.ll_judge.proofs.CallerLemmas.{sink-later}
 use Rattle.ll_top.proofs.session.reply_to_lines.Goals as goal
 
 pub loop-rest-init : goal.loop-rest-init
@@ -18,6 +19,7 @@ loop-rest-init g c =
             (Some (g.O.Sink.taken c.args.sink.now)),
       );
       faults_kept = le_refl _;
+      quiet = refl;
       few = let h = c.requires.text in omega arith;
     }
 
@@ -33,6 +35,7 @@ loop-rest-preserved-in-Continue-1 g c =
             (c.in_ok-reply_to_line.ensures.replies program is),
       );
       faults_kept = le_trans i.faults_kept c.in_ok-reply_to_line.ensures.faults_kept;
+      quiet = c.in_ok-reply_to_line.ensures.sink_told ∙ i.quiet;
       few = let a = i.few in let b = c.split_line.ensures.shorter in omega arith;
     }
 
@@ -47,6 +50,7 @@ loop-rest-preserved g c =
             c.split_line.ensures.lines a.1 (sym c.if-is_query_line.ensures),
       );
       faults_kept = i.faults_kept;
+      quiet = i.quiet;
       few = let a = i.few in let b = c.split_line.ensures.shorter in omega arith;
     }
 
@@ -87,3 +91,11 @@ returns-clause-replied g c = λ program is.
     (all-answered (WritesReply proofs name) (CutsReply proofs name) program c.args.text.now c.args.session.now.bound (Some (g.O.Sink.taken c.args.sink.now))
     c.loop-rest.number a.0 c.loop-rest.rest.now (Some (g.O.Sink.taken c.loop-rest.sink))
     ((Decides-eqb (length c.loop-rest.rest.now) 0).0 (sym c.loop-rest-test.ensures)) a.1)
+
+pub returns-in_err-reply_to_line-clause-sink_told : goal.returns-in_err-reply_to_line-clause-sink_told
+returns-in_err-reply_to_line-clause-sink_told g c =
+    let p = err_from_is_err_and c.from_residual.result c.from_residual.ensures.1 in
+    rw (p.1, p.2) (sink-later {A = unit.Denot} _ _ _ (Err _) c.loop-rest.invariant.quiet c.in_err-reply_to_line.ensures.sink_told)
+
+pub returns-clause-sink_told : goal.returns-clause-sink_told
+returns-clause-sink_told g c = c.loop-rest.invariant.quiet

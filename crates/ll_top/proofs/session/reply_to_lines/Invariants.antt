@@ -1,5 +1,5 @@
 use Rattle.std.specs.Prelude.{Some}
-use Rattle.std.proofs.Common.{ℕ, ◌≤◌, ◌+◌, length}
+use Rattle.std.proofs.Common.{◌≡◌, ℕ, ◌≤◌, ◌+◌, length}
 use Rattle.ll_parser.specs.Raw.{ProgramTree}
 use Rattle.ll_session.specs.Queries.{IsProgramOf}
 use Rattle.ll_session.specs.Replied.{IsAnsweredTo}
@@ -12,6 +12,7 @@ invariant-loop-rest g l = record {
       → (count : ℕ) × IsAnsweredTo (WritesReply l.session.proofs l.session.queries.now) (CutsReply l.session.proofs l.session.queries.now) program l.text
       l.session.bound (Some (g.O.Sink.taken l.initial.sink)) l.number count l.rest (Some (g.O.Sink.taken l.sink));
   faults_kept : g.O.Sink.faults l.initial.sink ≤ g.O.Sink.faults l.sink;
+  quiet : g.O.Sink.faults l.sink ≡ g.O.Sink.faults l.initial.sink;
   few : l.number + length l.rest ≤ 16777216;
 }
 

@@ -1,11 +1,13 @@
 use Rattle.ll_edge.specs.Counts.{Rose}
 use denote.Builtin.{unit}
-use Rattle.std.specs.Prelude.{Some}
+use Rattle.std.specs.Prelude.{Some, Err}
+use Rattle.std.proofs.Common.{refl}
 use Rattle.ll_lists.proofs.CallerLemmas.{OnOk-weaker as on-ok}
 use Rattle.ll_parser.specs.Raw.{ProgramTree}
 use Rattle.ll_judge.specs.Judging.{IsFaultless}
 use Rattle.ll_top.specs.Shown.{WritesReplies}
 use Rattle.ll_top.proofs.calls.SessionLemmas.{loaded-program, lines-ended, not-loaded}
+use Rattle.ll_judge.proofs.CallerLemmas.{sink-still}
 use Rattle.ll_top.proofs.session.reply_to_text.Goals as goal
 
 pub reply_over-requires-clause-loaded : goal.reply_over-requires-clause-loaded
@@ -31,3 +33,9 @@ returns-in-Ok-clause-replied g c =
 
 pub returns-in-Err-clause-replied : goal.returns-in-Err-clause-replied
 returns-in-Err-clause-replied g c = _
+
+pub returns-in-Err-clause-sink_told : goal.returns-in-Err-clause-sink_told
+returns-in-Err-clause-sink_told g c = sink-still {A = unit.Denot} _ _ (Err c.refusal.result) refl
+
+pub returns-in-Ok-clause-sink_told : goal.returns-in-Ok-clause-sink_told
+returns-in-Ok-clause-sink_told g c = c.reply_over.ensures.sink_told

@@ -1,6 +1,6 @@
 use Rattle.ll_edge.specs.Counts.{Rose}
 use denote.Builtin.{unit}
-use Rattle.std.proofs.Common.{None, le_refl}
+use Rattle.std.proofs.Common.{None, refl, le_refl}
 use Rattle.std.proofs.lemmas.Result.{IfOk-from_err, err_from_is_err_and}
 use Rattle.ll_words.specs.Words.{shown_session}
 use Rattle.ll_judge.proofs.CallerLemmas.{not-read-after}
@@ -12,6 +12,7 @@ use Rattle.std.specs.Prelude.{Option, Some}
 use Rattle.ll_edge.specs.Log.{Fits}
 use Rattle.ll_edge.specs.Texts.{Texts}
 use Rattle.ll_lists.proofs.CallerLemmas.{OnOk-weaker as on-ok}
+use Rattle.ll_judge.proofs.CallerLemmas.{shelf-read, shelf-later, shelf-refused, sink-still}
 use Rattle.ll_top.proofs.session.reply_to_texts.Goals as goal
 
 pub returns-in_err-program-clause-ends : goal.returns-in_err-program-clause-ends
@@ -89,3 +90,24 @@ returns-clause-replied g c =
     (λ written told fits. session-shown laws told session program text written.0 _ _
     (c.in_ok-program.ensures.read told (fits_first told _ _ _ c.in_ok-text.ensures.kept.grew fits))
     (c.in_ok-text.ensures.read told (fits_second told _ _ _ c.in_ok-program.ensures.kept.grew fits)) written.1 written.2) replied
+
+pub returns-in_err-program-clause-shelf_told : goal.returns-in_err-program-clause-shelf_told
+returns-in_err-program-clause-shelf_told g c =
+    let p = err_from_is_err_and c.from_residual.result c.from_residual.ensures.1 in rw (p.1, p.2) (shelf-refused c.in_err-program.ensures.shelf_told)
+
+pub returns-in_err-text-clause-shelf_told : goal.returns-in_err-text-clause-shelf_told
+returns-in_err-text-clause-shelf_told g c =
+    let p = err_from_is_err_and c.from_residual-in_err-text.result c.from_residual-in_err-text.ensures.1 in
+    rw (p.1, p.2) (shelf-later _ c.in_ok-program.ensures.shelf_told (shelf-refused c.in_err-text.ensures.shelf_told))
+
+pub returns-clause-shelf_told : goal.returns-clause-shelf_told
+returns-clause-shelf_told g c = shelf-read _ (shelf-later _ c.in_ok-program.ensures.shelf_told c.in_ok-text.ensures.shelf_told)
+
+pub returns-in_err-program-clause-sink_told : goal.returns-in_err-program-clause-sink_told
+returns-in_err-program-clause-sink_told g c = sink-still _ _ c.from_residual.result refl
+
+pub returns-in_err-text-clause-sink_told : goal.returns-in_err-text-clause-sink_told
+returns-in_err-text-clause-sink_told g c = sink-still _ _ c.from_residual-in_err-text.result refl
+
+pub returns-clause-sink_told : goal.returns-clause-sink_told
+returns-clause-sink_told g c = c.reply_to_text.ensures.sink_told

@@ -1,5 +1,5 @@
 use Rattle.std.specs.Prelude.{Some}
-use Rattle.std.proofs.Common.{le_trans}
+use Rattle.std.proofs.Common.{◌∙◌, le_trans}
 use Rattle.std.proofs.lemmas.Result.{IfOk-from_err, err_from_is_err_and}
 use Rattle.std.specs.Prelude.{codes, decimal, ◌++◌}
 use Rattle.ll_lists.proofs.CallerLemmas.{OnErr-always as on_err}
@@ -47,3 +47,6 @@ returns-in_err-write_line-clause-refused g c =
 
 pub returns-clause-faults_kept : goal.returns-clause-faults_kept
 returns-clause-faults_kept g c = le_trans c.in_ok-write_heading.ensures.faults_kept c.in_ok-write_line.ensures.faults_kept
+
+pub returns-clause-sink_told : goal.returns-clause-sink_told
+returns-clause-sink_told g c = c.in_ok-write_line.ensures.quiet ∙ c.in_ok-write_heading.ensures.quiet

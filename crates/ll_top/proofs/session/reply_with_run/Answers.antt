@@ -1,5 +1,6 @@
+use denote.Builtin.{unit}
 use Rattle.std.specs.Prelude.{Some}
-use Rattle.std.proofs.Common.{le_trans}
+use Rattle.std.proofs.Common.{◌∙◌, le_trans, Err}
 use Rattle.std.proofs.lemmas.Result.{IfOk-from_err, err_from_is_err_and}
 use Rattle.std.specs.Prelude.{codes, decimal, ◌++◌}
 use Rattle.ll_lists.proofs.CallerLemmas.{OnErr-always as on_err}
@@ -7,6 +8,7 @@ use Rattle.ll_laws.specs.Output.{line}
 use Rattle.ll_top.specs.Outcome.{whole_text}
 use Rattle.ll_edge.proofs.CallerLemmas.{both-written, first-cut, second-cut}
 use Rattle.ll_top.proofs.outcomes.OwnLemmas.{refusal-later}
+use Rattle.ll_judge.proofs.CallerLemmas.{sink-later}
 use Rattle.ll_top.proofs.session.reply_with_run.Goals as goal
 
 pub returns-in_err-write_heading-clause-prefix : goal.returns-in_err-write_heading-clause-prefix
@@ -48,3 +50,11 @@ returns-in_err-run_with-clause-text g c = IfOk-from_err c.from_residual-in_err-r
 
 pub returns-clause-faults_kept : goal.returns-clause-faults_kept
 returns-clause-faults_kept g c = le_trans c.in_ok-write_heading.ensures.faults_kept c.in_ok-run_with.ensures.faults_kept
+
+pub returns-in_err-run_with-clause-sink_told : goal.returns-in_err-run_with-clause-sink_told
+returns-in_err-run_with-clause-sink_told g c =
+    let p = err_from_is_err_and c.from_residual-in_err-run_with.result c.from_residual-in_err-run_with.ensures.1 in
+    rw (p.1, p.2) (sink-later {A = unit.Denot} _ _ _ (Err _) c.in_ok-write_heading.ensures.quiet c.in_err-run_with.ensures.sink_told)
+
+pub returns-clause-sink_told : goal.returns-clause-sink_told
+returns-clause-sink_told g c = c.in_ok-run_with.ensures.sink_told ∙ c.in_ok-write_heading.ensures.quiet

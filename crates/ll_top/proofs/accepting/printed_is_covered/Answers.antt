@@ -1,0 +1,20 @@
+use Rattle.ll_judge.proofs.CallerLemmas.{one-grammar-fault, no-grammar-fault}
+use Rattle.ll_top.proofs.outcomes.LawLemmas.{Laws}
+use Rattle.ll_top.proofs.Covered.{printed-covered}
+use Rattle.ll_top.proofs.accepting.printed_is_covered.Goals as goal
+
+pub returns : goal.returns
+returns c =
+    let laws : Laws = record {
+      same = c.one_reading.ensures.tokens;
+      one = c.one_reading.ensures.fault;
+      not_both = c.one_reading.ensures.not_both;
+      one_grammar = one-grammar-fault c.one_program.ensures.fault c.one_query.ensures.fault;
+      no_grammar = no-grammar-fault c.one_program.ensures.not_both c.one_query.ensures.not_both;
+      one_tree = c.one_program.ensures.tree;
+      one_goal = c.one_query.ensures.tree;
+      one_derivation = c.one_derivation_in_any.ensures.reading;
+      one_proof = c.one_derivation_in_any.ensures.fault;
+      no_proof_fault = c.one_derivation_in_any.ensures.not_both;
+    } in
+    printed-covered laws c.answers_are_shown.ensures c.answers_are_spelled.ensures.spelled c.answers_are_spelled.ensures.read

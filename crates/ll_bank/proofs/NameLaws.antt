@@ -1,12 +1,11 @@
 -- Numbers of texts: what callers know of them, and how a table of texts has them.
-use Rattle.std.proofs.Common.{◌≡◌, ℕ, ◌+◌, ◌<◌, ◌≤◌, Bool, true, false, not, cond, eqb, ltb, List, [], ◌∷◌, ◌++◌, length, map, slice_get, position}
+use Rattle.std.proofs.Common.{◌≡◌, ℕ, ◌+◌, ◌<◌, ◌≤◌, ◌||◌, Bool, true, false, not, cond, eqb, ltb, List, [], ◌∷◌, ◌++◌, length, map, slice_get, position}
 use Rattle.std.proofs.Common.{Option, Some, None, get_or, refl, ap, sym, subst, ◌∙◌, arith, true≢false, if◌then◌else◌, length-append, append_assoc}
 use Rattle.std.specs.List.{list_any, position_or_len, IsDistinct, AllByRecursion, AllZip}
-use Rattle.std.specs.Map.{lookup, update}
 use Rattle.std.specs.Str.{bytes_eq}
 use Rattle.std.proofs.lemmas.Bool.{false_from_ne_true, ltb-false, le-ltb, or_parts}
 use Rattle.std.proofs.lemmas.Bool.Decides.{Decides-ltb, Decides-eqb}
-use Rattle.std.proofs.lemmas.List.{append-nil, get_or-append-add}
+use Rattle.std.proofs.lemmas.List.{append-nil, get_or-append-add, length-map}
 use Rattle.std.proofs.lemmas.List.Quantifiers.{position-Some}
 use Rattle.std.proofs.lemmas.List.Folds.{list_any_at, position_or_len_push}
 use Rattle.std.proofs.lemmas.List.Sums.{prefix_len-le-length, position_or_len_is}
@@ -15,7 +14,7 @@ use Rattle.std.proofs.lemmas.Option.{slice_get-get_or, get_or_from_slice_get, sl
 use Rattle.std.proofs.lemmas.Slice.Eq.{bytes_eq-Decides}
 use Rattle.std.proofs.Math.ListN.{get_or-append}
 use Rattle.ll_lists.proofs.CallerLemmas.{position_within}
-use Rattle.ll_bank.specs.Names.{number_of, ArePlaced, with_name, with_names}
+use Rattle.ll_bank.specs.Names.{number_of, with_name, with_names}
 
 -- ---- the first place at which a test passes
 
@@ -224,42 +223,24 @@ same_texts bytes [] (c ∷ copies) h = elim h [ ]
 same_texts bytes (k ∷ keys) [] h = elim h [ ]
 same_texts bytes (k ∷ keys) (c ∷ copies) h = λ i. h.0 i ∷ same_texts bytes keys copies h.1 i
 
--- and in a table the same places
-pub same_places : {K : Type 0} (bytes : K → List ℕ) (rows copies : List (K × ℕ)) (text : List ℕ)
-    → AllZip (λ r c. (bytes c.0 ≡ bytes r.0) × (c.1 ≡ r.1)) rows copies
-    → lookup (λ k. bytes_eq text (bytes k)) copies ≡ lookup (λ k. bytes_eq text (bytes k)) rows
-same_places bytes [] [] text h = refl
-same_places bytes [] (c ∷ copies) text h = elim h [ ]
-same_places bytes (r ∷ rows) [] text h = elim h [ ]
-same_places bytes (r ∷ rows) (c ∷ copies) text h =
-    λ i. cond (bytes_eq text (h.0.0 i)) (Some (h.0.1 i)) (same_places bytes rows copies text h.1 i)
-
--- no texts
-pub placed_none : ArePlaced [] (λ _. None)
-unfolding IsDistinct
-placed_none = record { distinct = tt; number = λ text. refl }
-
--- a text that is put behind the others, with the next place
-pub placed_push : (texts : List (List ℕ)) (old new : List ℕ → Option ℕ) (text : List ℕ) → ArePlaced texts old → number_of texts text ≡ None
-    → ((other : List ℕ) → new other ≡ update bytes_eq old text (Some (length texts)) other) → ArePlaced (texts ++ text ∷ []) new
-placed_push texts old new text placed none updates =
-    record {
-      distinct = IsDistinct-pushed texts text placed.distinct none;
-      number = λ other. updates other ∙ by other (bytes_eq text other) refl;
-    }
+-- a test of the texts of keys finds the same place
+pub position_of_text : {K : Type 0} (bytes : K → List ℕ) (test : List ℕ → Bool) (keys : List K)
+    → position (λ k. test (bytes k)) keys ≡ position test (map bytes keys)
+position_of_text {K} bytes test keys =
+    let same = sym (length-map keys bytes) in λ i. cond (ltb (first keys i) (same i)) (Some (first keys i)) None
   where
-    behind : (other : List ℕ) → bytes_eq other text ≡ false → number_of (text ∷ []) other ≡ None
-    behind other e = ap (λ b. let n = cond (not b) 1 0 in let o : Option ℕ = cond (ltb n 1) (Some n) None in o) e
+    first : (ks : List K) → position_or_len (λ k. test (bytes k)) ks ≡ position_or_len test (map bytes ks)
+    first [] = refl
+    first (k ∷ ks) = ap (λ n. cond (not (test (bytes k))) (1 + n) 0) (first ks)
 
-    apart : (other : List ℕ) → bytes_eq text other ≡ false → (found : Option ℕ) → number_of texts other ≡ found
-        → found ≡ number_of (texts ++ text ∷ []) other
-    apart other e (Some n) f = sym (number_of-front texts (text ∷ []) other n f)
-    apart other e None f = sym (number_of-neither texts (text ∷ []) other f (behind other (flipped text other e)))
-
-    by : (other : List ℕ) (b : Bool) → bytes_eq text other ≡ b → cond b (Some (length texts)) (old other) ≡ number_of (texts ++ text ∷ []) other
-    by other true e =
-        subst (λ t. Some (length texts) ≡ number_of (texts ++ text ∷ []) t) ((bytes_eq-Decides text other).0 e) (sym (number_of-pushed texts text none))
-    by other false e = placed.number other ∙ apart other e (number_of texts other) refl
+-- and one that finds none in the texts finds none in the keys
+pub absent_key : {K : Type 0} (bytes : K → List ℕ) (keys : List K) (text : List ℕ) → number_of (map bytes keys) text ≡ None
+    → list_any (λ k. bytes_eq text (bytes k)) keys ≡ false
+absent_key {K} bytes keys text none = any keys ∙ absent (map bytes keys) text none
+  where
+    any : (ks : List K) → list_any (λ k. bytes_eq text (bytes k)) ks ≡ list_any (bytes_eq text) (map bytes ks)
+    any [] = refl
+    any (k ∷ ks) = ap (λ b. bytes_eq text (bytes k) || b) (any ks)
 
 -- for callers that add texts
 pub ruleset name_laws = (length-with_name, slice_get-number_of, slice_get-with_name, number_of-with_name_old)

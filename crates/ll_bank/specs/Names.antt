@@ -1,19 +1,14 @@
 -- Names, seen as the list of their texts' bytes, each at its number.
-use Rattle.std.specs.Prelude.{◌≡◌, ℕ, List, [], ◌∷◌, ◌++◌, Option, Some, None, position, fold, if◌then◌else◌}
+use Rattle.std.specs.Prelude.{ℕ, List, [], ◌∷◌, ◌++◌, Option, Some, None, position, fold, if◌then◌else◌}
 use Rattle.std.specs.Arc.{arc_value}
 use Rattle.std.specs.declared.sync.Arc.{Arc}
 use Rattle.std.specs.declared.alloc.Global.{Global}
-use Rattle.std.specs.List.{list_any, IsDistinct}
+use Rattle.std.specs.List.{list_any}
 use Rattle.std.specs.Str.{bytes_eq}
 
 -- the number of a text: the place of the first text that is equal to it
 abbrev pub number_of : List (List ℕ) → List ℕ → Option ℕ
 number_of texts text = position (bytes_eq text) texts
-
--- texts that differ, where a table finds the place of each
-pub record ArePlaced (texts : List (List ℕ)) (place : List ℕ → Option ℕ) : Type 0 where
-  pub distinct : IsDistinct bytes_eq texts
-  pub number : (text : List ℕ) → place text ≡ number_of texts text
 
 -- the texts after one is added: it goes last unless it is among them
 abbrev pub with_name : List (List ℕ) → List ℕ → List (List ℕ)

@@ -5,28 +5,27 @@ ghost use Rattle.std.specs.Str.{bytes_eq};
 ghost use Rattle.ll_bank.specs.Names.{number_of};
 
 use crate::OutOfMemory;
+use indexmap::IndexSet;
 use std::alloc::Global;
-use std::collections::HashMap;
 use std::marker::Model;
 
-/// Texts that differ, with a table of their places. Contracts see the list of the texts' bytes.
+/// Texts that differ, each found by its place and each place by its text. Contracts see the list of the texts' bytes.
 #[derive(Drop)]
 pub(crate) struct Texts {
-    texts: Vec<String>,
-    places: HashMap<String, usize>,
+    texts: IndexSet<String>,
 }
 
 impl Model for Texts {
     ghost use Rattle.std.specs.Prelude.{ℕ, List, map};
-    ghost use Rattle.std.specs.HashMap.{get_by_text};
+    ghost use Rattle.std.specs.List.{IsDistinct};
+    ghost use Rattle.std.specs.Str.{bytes_eq};
     ghost use Rattle.std.specs.String.{string_bytes};
-    ghost use Rattle.ll_bank.specs.Names.{ArePlaced};
 
     ghost Value = { List (List ℕ) };
 
-    ghost view = { λ texts. map string_bytes texts.texts.items };
+    ghost view = { λ texts. map string_bytes texts.texts.keys };
 
-    ghost invariant = { λ texts. ArePlaced (map string_bytes texts.texts.items) (get_by_text texts.places) };
+    ghost invariant = { λ texts. IsDistinct bytes_eq (map string_bytes texts.texts.keys) };
 }
 
 impl Texts {
@@ -35,8 +34,7 @@ impl Texts {
         ensures { result ≡ [] }
     {
         Texts {
-            texts: Vec::new(alloc),
-            places: HashMap::new(alloc),
+            texts: IndexSet::new(alloc),
         }
     }
 
@@ -58,7 +56,7 @@ impl Texts {
     pub(crate) fn find(&self, text: &str) -> Option<usize>
         ensures { result ≡ number_of self.now text.now }
     {
-        self.places.get(text).copied()
+        self.texts.get_index_of(text)
     }
 
     /// Puts a text that is not there behind the others. After a refusal the texts are as before.
@@ -68,11 +66,7 @@ impl Texts {
         ensures refused { OnErr result (self.new ≡ self.old) }
     {
         let owned = String::from_str(self.allocator(), text)?;
-        let key = owned.clone()?;
-        // Room first, so that the text is in both or in neither.
-        self.texts.reserve(1)?;
-        self.places.insert(key, self.texts.len())?;
-        self.texts.push(owned)?;
+        self.texts.insert(owned)?;
         Ok(())
     }
 
@@ -90,7 +84,6 @@ impl Texts {
     {
         Ok(Texts {
             texts: self.texts.clone()?,
-            places: self.places.clone()?,
         })
     }
 }

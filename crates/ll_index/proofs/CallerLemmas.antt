@@ -73,6 +73,7 @@ module _ {old new : Nodes} (e : Extends old new) where
     stored = λ k d h. stored-extends x.premises _ (is.stored k d h);
     predicates = subst (λ ks. IsChained ks x.predicates) (sym (keys-extend false x.premises x.leaves.items is.stored)) is.predicates;
     signs = subst (λ ks. IsChained ks x.signs) (sym (keys-extend true x.premises x.leaves.items is.stored)) is.signs;
+    keys = is.keys ∙ sym (keys-extend true x.premises x.leaves.items is.stored);
   }
 
 -- ---- the program's entries at the end of a context

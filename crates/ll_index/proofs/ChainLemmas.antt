@@ -5,8 +5,15 @@ use Rattle.std.specs.Prelude.{◌||◌, if◌then◌else◌, slice_index, slice_
 use Rattle.std.proofs.lemmas.Bool.{eq-eqb, ne_eqb, cases_lt, or_left, or_right}
 use Rattle.std.proofs.lemmas.List.{drop-set}
 use Rattle.std.proofs.Math.Seq.{drop-cons}
-use Rattle.ll_lists.proofs.CallerLemmas.{eq-refl as here}
 use Rattle.ll_index.specs.Chained.{first_from, links_from, behind, linked_from}
+
+-- ---- reads
+
+-- what stands at a place of a list of numbers, whatever stands for want of it
+pub index-same : (xs : List ℕ) (i d : ℕ) → i < length xs → slice_index xs i ≡ slice_index_or xs i d
+index-same [] i d h = absurd (omega arith)
+index-same (x ∷ xs) zero d h = refl
+index-same (x ∷ xs) (suc i) d h = index-same xs i d (omega arith)
 
 -- ---- tests of places
 

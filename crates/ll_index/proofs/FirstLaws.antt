@@ -1,6 +1,6 @@
 -- Atoms whose first arguments have outermost signs that clash have no unifier.
 use Rattle.std.proofs.Common.{◌≡◌, ℕ, zero, suc, ◌+◌, refl, ap, sym, ◌∙◌, Bool, true, false, List, [], ◌∷◌, length, nat_eq, All, map, arith}
-use Rattle.std.specs.Prelude.{◌&&◌, not, if◌then◌else◌, Option, Some, None, option_map, option_and_then, slice_get, unwrap_or, replicate, ◌++◌}
+use Rattle.std.specs.Prelude.{◌&&◌, if◌then◌else◌, Option, Some, None, option_map, option_and_then, slice_get, unwrap_or, replicate, ◌++◌}
 use Rattle.std.specs.Ordering.{int_eq}
 use Rattle.std.proofs.Math.Dec.{eqb-suc-suc}
 use Rattle.std.proofs.lemmas.List.Elements.{All-cons}

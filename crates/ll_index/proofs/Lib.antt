@@ -5,5 +5,7 @@ pub mod KeyLemmas
 pub mod ChainLemmas
 pub mod WalkLemmas
 pub mod Matching
+pub mod PlaceLemmas
+pub mod RowLemmas
 pub mod IndexLemmas
 pub mod CallerLemmas

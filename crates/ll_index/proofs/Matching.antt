@@ -40,13 +40,13 @@ use Rattle.ll_index.proofs.ChainLemmas.{kept}
 
 -- ---- keys
 
-first_same : (x y : First) → (first_eq).it x y ≡ true → x ≡ y
+pub first_same : (x y : First) → (first_eq).it x y ≡ true → x ≡ y
 first_same Open Open e = refl
 first_same (IntSign y) (IntSign z) e = ap IntSign ((Decides-int_eq y z).0 e)
 first_same (NameSign n k) (NameSign m j) e = let p = and_parts (nat_eq n m) (nat_eq k j) e in λ i. NameSign (eqb-true n m p.0 i) (eqb-true k j p.1 i)
 first_same _ _ e = cc
 
-first_refl : (x : First) → (first_eq).it x x ≡ true
+pub first_refl : (x : First) → (first_eq).it x x ≡ true
 first_refl Open = refl
 first_refl (IntSign y) = (Decides-int_eq y y).1 refl
 first_refl (NameSign n k) = and_from (nat_eq n n) (nat_eq k k) (eq-eqb n n refl) (eq-eqb k k refl)
@@ -59,7 +59,7 @@ same_key (Named n k f) (Named m j g) e =
     λ i. Named (eqb-true n m p.0 i) (eqb-true k j q.0 i) (first_same f g q.1 i)
 same_key _ _ e = cc
 
-key_refl : (x : Key) → key_eq x x ≡ true
+pub key_refl : (x : Key) → key_eq x x ≡ true
 key_refl Unnamed = refl
 key_refl (Named n k f) = and_from (nat_eq n n) (nat_eq k k && (first_eq).it f f) (eq-eqb n n refl)
     (and_from (nat_eq k k) ((first_eq).it f f) (eq-eqb k k refl) (first_refl f))

@@ -1,9 +1,8 @@
 -- The walk through a clause: its steps, and what stays as lists of premises grow.
 use Rattle.std.proofs.Common.{◌≡◌, ◌<◌, ℕ, suc, ◌+◌, List, [], ◌∷◌, ◌++◌, length, map, refl, ap, sym, subst, ◌∙◌, arith, All, append_assoc, take, add-one}
 use Rattle.std.specs.Prelude.{sum_by, slice_index_or}
-use Rattle.std.proofs.lemmas.List.{append-nil, map-append, length_push, get_or_push, length-map, length-take-le}
+use Rattle.std.proofs.lemmas.List.{append-nil, map-append, length-map, length-take-le}
 use Rattle.std.proofs.Math.Seq.{take-suc}
-use Rattle.std.proofs.Math.ListN.{get_or-append}
 use Rattle.std.proofs.lemmas.List.Sums.{sum_by-append}
 use Rattle.std.proofs.lemmas.List.Elements.{All-head, All-tail, All-push, All-cons, All-append}
 use Rattle.ll_lists.proofs.CallerLemmas.{All-front as All-before, All-last as All-last-of}

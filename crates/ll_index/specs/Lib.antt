@@ -4,5 +4,6 @@ pub mod Listed
 pub mod Walks
 pub mod Chained
 pub mod Keys
+pub mod Rows
 pub mod Index
 pub mod Context

@@ -1,14 +1,16 @@
 //! The index of a program's clauses.
-ghost use Rattle.std.specs.Prelude.{◌≡◌, ◌<◌, ◌^◌, length};
+ghost use Rattle.std.specs.Prelude.{◌≡◌, ◌<◌, ◌^◌, length, map};
 ghost use Rattle.ll_index.specs.declared.laws.First.TheVariants.{Open};
 ghost use Rattle.ll_index.specs.declared.key.Key.TheVariants.{Named};
-ghost use Rattle.ll_index.specs.Keys.{first_place};
+ghost use Rattle.ll_index.specs.Keys.{first_place, IsChained};
+ghost use Rattle.ll_index.specs.Rows.{HasRows, has_sign, without_sign};
 
 use crate::chains::Chains;
 use crate::key::{Key, in_32_bits};
 use crate::laws::First;
 use crate::leaves::{Leaf, Premise, leaves_of};
-use crate::linking::{chains_between, place_behind};
+use crate::linking::{keys_of, place_behind};
+use crate::rows::{LONG, Row, row_of, rows_of};
 use ll_agenda::{Agenda, Top};
 use ll_bank::{Bank, OutOfMemory};
 use ll_laws::{Clause, Problem};
@@ -17,16 +19,24 @@ use std::alloc::Global;
 /// The leaves of a program's clauses, in order, found by the predicate of their heads and the outermost sign of the first argument.
 ///
 /// It has no lists but those of the premises: each leaf leads to the next one of its predicate, and to the next one of its predicate and
-/// sign. `IsIndex` says of which clauses it is, and in which bank its places are.
+/// sign. For each name a row says where its leaves begin, so that most look-ups take no hash. `IsIndex` says of which clauses it is, and
+/// in which bank its places are.
 pub struct Index {
     leaves: Vec<Leaf>,
     premises: Agenda<Premise>,
     // By predicate, and by predicate and sign.
     predicates: Chains,
     signs: Chains,
+    // The leaves' keys by predicate and sign, and a row for each name.
+    keys: Vec<Key>,
+    rows: Vec<Row>,
     ghost places: { length leaves.items < 2 ^ 32 },
     ghost by_predicate: { length predicates.next.items ≡ length leaves.items },
     ghost by_sign: { length signs.next.items ≡ length leaves.items },
+    ghost by_key: { length keys.items ≡ length leaves.items },
+    ghost chained: { IsChained (map without_sign keys.items) predicates },
+    ghost signed: { IsChained keys.items signs },
+    ghost named: { HasRows keys.items rows.items },
 }
 
 // Written out, so that a proof sees one call where it goes, and not one for each part.
@@ -37,6 +47,8 @@ impl Drop for Index {
             premises: _,
             predicates: _,
             signs: _,
+            keys: _,
+            rows: _,
         } = self;
     }
 }
@@ -51,10 +63,10 @@ pub struct Cursor {
 }
 
 impl Index {
-    ghost use Rattle.std.specs.Prelude.{◌≡◌, ◌∷◌, ◌↔◌, [], map, IfOk, IfSome, IsNone};
+    ghost use Rattle.std.specs.Prelude.{◌≡◌, ◌∷◌, ◌↔◌, ℕ, [], map, IfOk, IfSome, IsNone};
     ghost use Rattle.ll_agenda.specs.Frames.{items_at, HasTop, BeginsWith};
     ghost use Rattle.ll_laws.specs.Shown.{clause_tree, HasClauses};
-    ghost use Rattle.ll_index.specs.Index.{HasIndex, IsIndex, IsLeafOf, ListsMatches, chains_of, premises_of, left};
+    ghost use Rattle.ll_index.specs.Index.{HasIndex, IsIndex, IsLeafOf, IsFoundAt, ListsMatches, chains_of, premises_of, left};
 
     /// The index of a problem's program clauses.
     pub fn build(alloc: Global, problem: &Problem) -> Result<Index, OutOfMemory>
@@ -63,38 +75,66 @@ impl Index {
         Index::over(alloc, &problem.bank, &problem.clauses)
     }
 
-    /// The index of program clauses that are places of a bank, in time linear in the clauses. Their labels are their places in the list.
+    /// The index of program clauses that are places of a bank, in time and memory linear in the clauses and in the greatest number of a
+    /// name in front of a leaf's head. Their labels are their places in the list.
     pub fn over(alloc: Global, bank: &Bank, clauses: &[Clause]) -> Result<Index, OutOfMemory>
         requires { HasClauses bank.now clauses.now }
         ensures { IfOk result (IsIndex bank.now (map (clause_tree bank.now) clauses.now)) }
     {
         let (leaves, premises) = leaves_of(alloc, bank, clauses)?;
         in_32_bits(leaves.len())?;
-        let predicates = chains_between(alloc, bank, &leaves, false)?;
-        let signs = chains_between(alloc, bank, &leaves, true)?;
+        let by_predicate = keys_of(alloc, bank, &leaves, false)?;
+        let predicates = Chains::build(alloc, &by_predicate)?;
+        let keys = keys_of(alloc, bank, &leaves, true)?;
+        let signs = Chains::build(alloc, &keys)?;
+        let rows = rows_of(alloc, &keys)?;
         Ok(Index {
             leaves,
             premises,
             predicates,
             signs,
+            keys,
+            rows,
         })
     }
 
     /// The leaves whose heads can match an atom: those of its predicate, less those whose first arguments have an outermost sign that
     /// clashes with this one. They are in the order of labels, and within a clause from left to right.
     ///
-    /// It takes no memory, and no longer for more leaves.
+    /// It takes no memory, and no longer for more leaves. At most one hash is taken where the leaves of the name have one number of
+    /// arguments, and none where they are fewer than 8 or no sign is asked for.
     pub fn candidates(&self, name: u32, arity: u32, first: First) -> Cursor
         ensures { ListsMatches self.now name arity first result }
     {
         let end = self.leaves.len() as u32;
+        let row = row_of(&self.rows, name, end);
+        if row.mixed {
+            return self.looked_up(name, arity, first, end);
+        }
         let by_sign = first != First::Open;
-        let chains = self.chains(by_sign);
-        let own = chains.first(Key::Named { name, arity, first }, end);
+        if arity != row.arity {
+            return Cursor {
+                by_sign,
+                first: end,
+                second: end,
+            };
+        }
+        if !by_sign {
+            return Cursor {
+                by_sign,
+                first: row.first,
+                second: row.first,
+            };
+        }
+        let own = if row.count < LONG {
+            self.walked(row.first, first)
+        } else {
+            self.signs.first(Key::Named { name, arity, first }, end)
+        };
         Cursor {
             by_sign,
             first: own,
-            second: first_open(chains, name, arity, first, own, end),
+            second: row.signless,
         }
     }
 
@@ -128,6 +168,35 @@ impl Index {
         self.premises.item(premises)
     }
 
+    // The cursor for an atom, by its key: two look-ups by a hash.
+    fn looked_up(&self, name: u32, arity: u32, first: First, end: u32) -> Cursor
+        ensures { IsFoundAt self.now name arity first end result }
+    {
+        let by_sign = first != First::Open;
+        let chains = self.chains(by_sign);
+        let own = chains.first(Key::Named { name, arity, first }, end);
+        Cursor {
+            by_sign,
+            first: own,
+            second: first_open(chains, name, arity, first, own, end),
+        }
+    }
+
+    // The first leaf with a sign, by a walk along the chain of its predicate from its first leaf on.
+    fn walked(&self, from: u32, first: First) -> u32
+        ensures { (name arguments : ℕ) → from ≡ first_place self.now.predicates (Named name arguments Open) (length self.now.keys.items)
+            → result ≡ first_place self.now.signs (Named name arguments first) (length self.now.keys.items) }
+    {
+        let mut at = from;
+        'walk: while (at as usize) < self.keys.len() {
+            if has_sign(&self.keys[at as usize], first) {
+                return at;
+            }
+            at = self.predicates.next[at as usize];
+        }
+        at
+    }
+
     // By predicate and sign, or by predicate.
     fn chains(&self, by_sign: bool) -> &Chains
         ensures { result.now ≡ chains_of self.now by_sign }
@@ -154,5 +223,15 @@ fn first_open(chains: &Chains, name: u32, arity: u32, first: First, found: u32, 
         First::Open => found,
         First::Int(_) => chains.first(open, end),
         First::Head(_, _) => chains.first(open, end),
+    }
+}
+
+// Whether a key has this sign.
+fn has_sign(key: &Key, first: First) -> bool
+    ensures { result ≡ has_sign first key.now }
+{
+    match *key {
+        Key::Unnamed => false,
+        Key::Named { first: other, .. } => other == first,
     }
 }

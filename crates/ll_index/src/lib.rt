@@ -11,6 +11,7 @@ mod key;
 mod laws;
 mod leaves;
 mod linking;
+mod rows;
 
 pub use index::{Cursor, Index};
 pub use laws::{First, clashes_give_nothing, leaves_stand};

@@ -2,30 +2,29 @@
 ghost use Rattle.std.specs.Prelude.{◌≡◌, All, IfOk};
 ghost use Rattle.ll_bank.specs.Nodes.{HasTerm};
 ghost use Rattle.ll_index.specs.Chained.{behind};
-ghost use Rattle.ll_index.specs.Keys.{IsChained, leaf_keys};
+ghost use Rattle.ll_index.specs.Keys.{leaf_keys};
 
-use crate::chains::Chains;
-use crate::key::key_at;
+use crate::key::{Key, key_at};
 use crate::leaves::Leaf;
 use ll_bank::{Bank, OutOfMemory};
 use std::alloc::Global;
 
-/// The chains of leaves, by predicate and sign or by predicate alone.
-pub(crate) fn chains_between(
+/// The keys of leaves, by predicate and sign or by predicate alone.
+pub(crate) fn keys_of(
     alloc: Global,
     bank: &Bank,
     leaves: &[Leaf],
     by_sign: bool,
-) -> Result<Chains, OutOfMemory>
+) -> Result<Vec<Key>, OutOfMemory>
     requires { All (λ l. HasTerm bank.now l.head.0) leaves.now }
-    ensures { IfOk result (IsChained (leaf_keys bank.now by_sign leaves.now)) }
+    ensures { IfOk result (λ keys. keys.items ≡ leaf_keys bank.now by_sign leaves.now) }
 {
     let mut keys = Vec::new(alloc);
     for leaf in leaves {
         let key = key_at(bank, leaf.head, by_sign)?;
         keys.push(key)?;
     }
-    Chains::build(alloc, &keys)
+    Ok(keys)
 }
 
 /// A place, or the next one where it is the one that is taken.

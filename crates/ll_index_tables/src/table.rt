@@ -34,7 +34,7 @@ fn first_of(label: u32) -> First {
 }
 
 // A term with this sign, under one quantifier.
-fn term_of(bank: &mut Bank, first: First) -> Result<At, OutOfMemory>
+pub(crate) fn term_of(bank: &mut Bank, first: First) -> Result<At, OutOfMemory>
     ensures inside { IfOk result (λ at. HasTerm bank.new at.0) }
     ensures forms { length bank.old.forms ≤ length bank.new.forms }
 {
@@ -78,7 +78,7 @@ fn shared<T: Send + Sync>(value: T) -> T {
 }
 
 // Whether no term has both signs.
-fn clash(first: First, other: First) -> bool {
+pub(crate) fn clash(first: First, other: First) -> bool {
     first != First::Open && other != First::Open && first != other
 }
 
@@ -94,14 +94,15 @@ fn walked(alloc: Global, name: u32, first: First) -> Result<Vec<u32>, OutOfMemor
 }
 
 // The labels of the clauses that match, by the index.
-fn looked_up(
+pub(crate) fn looked_up(
     alloc: Global,
     index: &Index,
     name: u32,
+    arity: u32,
     first: First,
 ) -> Result<Vec<u32>, OutOfMemory> {
     let mut found = Vec::new(alloc);
-    let mut cursor = index.candidates(name, 1, first);
+    let mut cursor = index.candidates(name, arity, first);
     for _ in 0..CLAUSES {
         let Some((leaf, next)) = index.next(cursor) else {
             return Ok(found);
@@ -125,7 +126,7 @@ fn finds_what_a_walk_finds(rt: HostRuntime) -> Result<(), Fail> {
             First::Head(6, 1),
         ] {
             let walked = walked(alloc, name, first)?;
-            let looked_up = looked_up(alloc, &index, name, first)?;
+            let looked_up = looked_up(alloc, &index, name, 1, first)?;
             assert_eq!(rt; looked_up.as_slice(), walked.as_slice(), "name {name}");
         }
     }
@@ -136,9 +137,12 @@ fn finds_what_a_walk_finds(rt: HostRuntime) -> Result<(), Fail> {
 fn finds_so_many(rt: HostRuntime) -> Result<(), Fail> {
     let alloc = rt.alloc();
     let index = index_of_all(alloc)?;
-    assert_eq!(rt; looked_up(alloc, &index, 0, First::Open)?.len(), 14_286);
-    assert_eq!(rt; looked_up(alloc, &index, 0, First::Int(3))?.len(), 2_198);
-    assert_eq!(rt; looked_up(alloc, &index, 6, First::Int(99))?.len(), 1_099);
-    assert_eq!(rt; looked_up(alloc, &index, 7, First::Open)?.len(), 0);
+    assert_eq!(rt; looked_up(alloc, &index, 0, 1, First::Open)?.len(), 14_286);
+    assert_eq!(rt; looked_up(alloc, &index, 0, 1, First::Int(3))?.len(), 2_198);
+    assert_eq!(rt;
+        looked_up(alloc, &index, 6, 1, First::Int(99))?.len(),
+        1_099
+    );
+    assert_eq!(rt; looked_up(alloc, &index, 7, 1, First::Open)?.len(), 0);
     Ok(())
 }

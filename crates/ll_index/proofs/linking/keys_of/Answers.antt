@@ -1,11 +1,11 @@
 use Rattle.std.proofs.lemmas.Result.{IfOk-from_err}
-use Rattle.std.proofs.Common.{◌≡◌, ◌<◌, ℕ, ◌+◌, List, [], ◌∷◌, ◌++◌, length, map, take, get_or, sym, ap, subst, ◌∙◌, IfOk}
+use Rattle.std.proofs.Common.{◌≡◌, ◌<◌, ℕ, ◌+◌, List, [], ◌∷◌, ◌++◌, length, map, take, get_or, sym, ap, ◌∙◌}
 use Rattle.std.proofs.lemmas.List.{map-append, take_more, take_all}
 use Rattle.ll_bank.specs.Nodes.{term_tree}
 use Rattle.ll_index.specs.declared.leaves.Leaf.{Leaf}
 use Rattle.ll_index.specs.declared.key.Key.{Key}
-use Rattle.ll_index.specs.Keys.{key_of, leaf_keys, IsChained}
-use Rattle.ll_index.proofs.linking.chains_between.Goals as goal
+use Rattle.ll_index.specs.Keys.{key_of, leaf_keys}
+use Rattle.ll_index.proofs.linking.keys_of.Goals as goal
 
 keys-more : (f : Leaf → Key) (ls : List Leaf) (i : ℕ) (d : Leaf) (key : Key) (now next : List Key) → i < length ls → now ≡ map f (take i ls)
     → key ≡ f (get_or ls i d) → next ≡ now ++ key ∷ [] → next ≡ map f (take (i + 1) ls)
@@ -29,7 +29,4 @@ loop-leaf-preserved c =
     c.loop-leaf.invariant c.in_ok-key.ensures c.in_ok-push.ensures.items
 
 pub returns : goal.returns
-returns c =
-    subst (λ ks. IfOk c.build.result (IsChained ks)) (c.deref.ensures.value
-    ∙ (c.loop-leaf.invariant ∙ ap (leaf_keys c.args.bank.now c.args.by_sign) (take_all c.loop-leaf.leaf-index c.args.leaves.now c.loop-leaf-test.false)))
-    c.build.ensures
+returns c = c.loop-leaf.invariant ∙ ap (leaf_keys c.args.bank.now c.args.by_sign) (take_all c.loop-leaf.leaf-index c.args.leaves.now c.loop-leaf-test.false)

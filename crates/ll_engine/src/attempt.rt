@@ -74,6 +74,7 @@ pub fn attempt(
 }
 
 /// Makes the items in front of the rest the agenda of a machine, and notes one inference. After a refusal the machine is spent.
+#[inline(always)]
 pub fn go_on(
     machine: &mut Machine<'_>,
     items: &[Item],
@@ -86,12 +87,14 @@ pub fn go_on(
     ensures later { OnOk result (Later machine.old machine.new) }
 {
     machine.top = push_all(&mut machine.agenda, items, rest)?;
-    machine.steps.push(step)?;
+    machine.steps.reserve(1)?;
+    machine.steps.push_reserved(step);
     machine.left -= 1;
     Ok(())
 }
 
 // The list of these items in front of another list.
+#[inline(always)]
 fn push_all(agenda: &mut Agenda<Item>, items: &[Item], rest: Top) -> Result<Top, OutOfMemory>
     requires { HasTop agenda.old rest }
     ensures shows { IfOk result (λ top. ShowsItems agenda.new top (items.now ++ items_at agenda.old rest)) }

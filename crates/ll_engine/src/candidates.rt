@@ -1,5 +1,6 @@
 //! The candidates for a goal.
-ghost use Rattle.std.specs.Prelude.{◌≡◌, ℕ, ◌+◌, ◌-◌, ◌^◌, ◌≤◌, ◌<◌, ◌++◌, [], Some, length, All, IfOk, OnOk, map, flat_map, take, drop, MatchResult};
+ghost use Rattle.std.specs.Prelude.{◌≡◌, ℕ, ◌+◌, ◌-◌, ◌^◌, ◌≤◌, ◌<◌, ◌++◌, ◌∷◌, [], Some, length, All, IsTrue, IfOk, OnOk};
+ghost use Rattle.std.specs.Prelude.{map, flat_map, take, drop, MatchResult};
 ghost use Rattle.ll_bank.specs.declared.Head.TheVariants.{Name};
 ghost use Rattle.ll_bank.specs.Nodes.{form_tree, HasForm};
 ghost use Rattle.ll_bank.specs.Term.{Term, head_of, arity};
@@ -33,6 +34,7 @@ use std::alloc::{AllocError, Global};
 /// The candidates for the goal in front that can match, in the order in which they are tried; none where no goal is in front.
 ///
 /// Those of loaded entries are found by their keys, those of the program's clauses by the index. A single one takes no memory.
+#[inline(always)]
 pub fn candidates(machine: &Machine<'_>, index: &Index, alloc: Global) -> Result<Found, OutOfMemory>
     requires fits { Fits (parts_of machine.now) }
     requires index { IsIndexOf machine.now.problem.now index.now }
@@ -55,7 +57,26 @@ pub fn candidates(machine: &Machine<'_>, index: &Index, alloc: Global) -> Result
     }
 }
 
+/// Whether the goal in front has one candidate, whatever there is: it is neither an atom nor `;`.
+pub fn is_sure(machine: &Machine<'_>) -> bool
+    requires fits { Fits (parts_of machine.now) }
+    ensures { IsTrue result → matches (state_of (parts_of machine.now)) ≡ record { label = 0; leaf = 0 } ∷ [] }
+{
+    let Some((item, _)) = machine.agenda.item(machine.top) else {
+        return false;
+    };
+    let Item::Goal(goal) = item else {
+        return false;
+    };
+    match machine.store.bank.form_at(goal) {
+        FormNode::Atom(_) => false,
+        FormNode::Plus(_, _) => false,
+        _ => true,
+    }
+}
+
 /// The candidates for the atom in front that can match, in order.
+#[inline(always)]
 fn atom_candidates(
     machine: &Machine<'_>,
     index: &Index,
@@ -73,11 +94,30 @@ fn atom_candidates(
     };
     let problem = machine.problem;
     let loaded = machine.context.len() - problem.clauses.len();
-    add_loaded(alloc, &machine.store, &machine.context, asked, &mut found)?;
+    add_newer(machine, alloc, loaded, asked, &mut found)?;
     if let Head::Name(name) = asked.predicate.head {
         add_program(machine, index, loaded, name, asked, &mut found)?;
     }
     Ok(found)
+}
+
+/// Adds the candidates among the loaded entries, of which there are so many.
+fn add_newer(
+    machine: &Machine<'_>,
+    alloc: Global,
+    loaded: usize,
+    asked: Asked,
+    found: &mut Found,
+) -> Result<(), OutOfMemory>
+    requires fits { Fits (parts_of machine.now) }
+    requires count { length machine.now.context.present.entries - length machine.now.problem.now.clauses ≡ loaded }
+    ensures { OnOk result (all_found found.new ≡ all_found found.old ++ flat_map (open_tries (head_fits machine.now.store asked))
+        (map (standing_entry machine.now.store.bank) (take loaded machine.now.context.present.entries))) }
+{
+    if loaded == 0 {
+        return Ok(());
+    }
+    add_loaded(alloc, &machine.store, &machine.context, asked, found)
 }
 
 /// Adds the candidates among the loaded entries of a context.
@@ -105,6 +145,7 @@ fn add_loaded(
 }
 
 /// Adds the candidates of an entry. `waiting` is as for `add_leaves`.
+#[inline(always)]
 fn add_entry(
     store: &Store,
     asked: Asked,

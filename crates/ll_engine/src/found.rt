@@ -57,6 +57,9 @@ impl Found {
     {
         let first = self.first?;
         let mut others = self.others;
+        if others.len() < 2 {
+            return Some((first, others));
+        }
         others.reverse();
         Some((first, others))
     }

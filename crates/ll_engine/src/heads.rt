@@ -45,6 +45,7 @@ pub fn asked_by(store: &Store, atom: At) -> Result<Option<Asked>, OutOfMemory>
 }
 
 /// Whether the head of a clause can match an atom that asks for this.
+#[inline(always)]
 pub fn can_match(store: &Store, asked: Asked, head: At) -> Result<bool, OutOfMemory>
     requires table { IsTable store.now.bank (table_of store.now.cells.cells) }
     requires inside { HasTerm store.now.bank head.0 }

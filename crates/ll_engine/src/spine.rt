@@ -14,7 +14,7 @@ ghost use Rattle.ll_engine.specs.Turned.{has_none, is_empty, answers, starting, 
 use crate::ancestor::Ancestor;
 use crate::answer::{Workshop, answers, branch, is_empty};
 use crate::attempt::attempt;
-use crate::candidates::candidates;
+use crate::candidates::{candidates, is_sure};
 use crate::settle::settle;
 use ll_bank::OutOfMemory;
 use ll_freeze::{ChoiceMark, Machine};
@@ -137,6 +137,10 @@ impl<'p> Spine<'p> {
         ensures sound { IfOk result (λ running. IsSound running self.new) }
         ensures expands { IfOk result (λ running. Expands (spine_of self.old) running (spine_of self.new)) }
     {
+        if is_sure(&self.machine) {
+            let first = Candidate { label: 0, leaf: 0 };
+            return self.choose(first, Vec::new(self.alloc));
+        }
         let found = candidates(&self.machine, &self.index, self.alloc)?;
         let Some((candidate, untried)) = found.split() else {
             return Ok(false);
@@ -171,6 +175,7 @@ impl<'p> Spine<'p> {
 
     // Takes the first goal apart by this candidate, and keeps the others, the first one last, in a choice point; false where it gives
     // nothing.
+    #[inline(always)]
     fn choose(&mut self, candidate: Candidate, untried: Vec<Candidate>) -> Result<bool, OutOfMemory>
         requires open { IsOpen self.old.problem.now (parts_of self.old.machine) }
         requires index { IsIndexOf self.old.problem.now (arc_value self.old.index) }
@@ -188,6 +193,7 @@ impl<'p> Spine<'p> {
 }
 
 // Keeps a mark of a machine and its untried candidates, the first one last, in a choice point, if there are any.
+#[inline(always)]
 fn keep(
     points: &mut VecDeque<Kept>,
     machine: &Machine<'_>,
@@ -203,9 +209,10 @@ fn keep(
     if untried.is_empty() {
         return Ok(());
     }
-    points.push_back(Kept {
+    points.reserve(1)?;
+    points.push_back_reserved(Kept {
         mark: machine.mark(),
         untried,
-    })?;
+    });
     Ok(())
 }

@@ -236,7 +236,8 @@ fn take_leaf_of(
         return Ok(false);
     }
     use_entry(&mut machine.context, label, place, entry)?;
-    machine.steps.push(Step::Clause { label, leaf })?;
+    machine.steps.reserve(1)?;
+    machine.steps.push_reserved(Step::Clause { label, leaf });
     machine.top = opened.top;
     machine.left -= 1;
     Ok(true)

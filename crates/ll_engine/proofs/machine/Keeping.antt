@@ -1,5 +1,5 @@
 -- What a machine's parts do to the marks of the machine.
-use Rattle.std.proofs.Common.{◌≡◌, List, [], ◌∷◌, ◌++◌, refl, sym, ◌∙◌}
+use Rattle.std.proofs.Common.{◌≡◌, List, [], ◌∷◌, ◌++◌, refl, ap, sym, ◌∙◌}
 use Rattle.std.proofs.lemmas.List.{append-nil}
 use Rattle.ll_bank.specs.declared.At.{At}
 use Rattle.ll_bank.specs.declared.FormAt.{FormAt}
@@ -14,6 +14,10 @@ use Rattle.ll_freeze.specs.declared.machine.Machine.{Machine}
 use Rattle.ll_freeze.specs.declared.machine.Item.{Item}
 use Rattle.ll_freeze.specs.Parts.{Later}
 use Rattle.ll_freeze.proofs.CallerLemmas.{store_same, context_same}
+
+-- one element more, behind a list that room was made for
+pub pushed : {A : Type 0} (xs ys zs : List A) (x : A) → zs ≡ ys ++ x ∷ [] → ys ≡ xs → zs ≡ xs ++ x ∷ []
+pushed xs ys zs x e h = e ∙ ap (λ us. us ++ x ∷ []) h
 
 -- marks of a store
 pub store_extends : (s t : Store) → Extends s.bank t.bank → t.cells ≡ s.cells → KeepsStoreMarks (stored s) (stored t)

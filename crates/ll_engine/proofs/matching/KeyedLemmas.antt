@@ -1,8 +1,8 @@
 -- Entries that are not found by the key of an atom have no head that fits it.
-use Rattle.std.proofs.Common.{◌≡◌, ℕ, zero, suc, ◌+◌, ◌-◌, ◌<◌, ◌≤◌, ◌%◌, ◌^◌, Bool, true, false, ◌||◌, ◌&&◌, nat_eq}
+use Rattle.std.proofs.Common.{◌≡◌, ℕ, zero, suc, ◌+◌, ◌-◌, ◌%◌, ◌^◌, Bool, true, false, ◌||◌, ◌&&◌, nat_eq}
 use Rattle.std.proofs.Common.{List, [], ◌∷◌, ◌++◌, map, flat_map, length, take, All}
 use Rattle.std.proofs.Common.{refl, ap, sym, subst, ◌∙◌, inl, inr, arith}
-use Rattle.std.specs.Prelude.{Option, Some, None, nat_lt, if◌then◌else◌, not}
+use Rattle.std.specs.Prelude.{Option, Some, None, if◌then◌else◌, not}
 use Rattle.std.proofs.lemmas.Bool.{cases_lt, eqb-true, eq-eqb, lt-ltb, le-ltb, false≢true, and_parts}
 use Rattle.ll_bank.specs.declared.FormAt.{FormAt}
 use Rattle.ll_bank.specs.declared.Head.{Head}
@@ -15,14 +15,14 @@ use Rattle.ll_bank.specs.declared.FormNode.{FormNode}
 use Rattle.ll_bank.specs.declared.FormNode.TheVariants.{Top as TopView, One as OneView, Atom as AtomView, With as WithView, Tensor as TensorView}
 use Rattle.ll_bank.specs.declared.FormNode.TheVariants.{Plus as PlusView, Bang as BangView, Lolli as LolliView, Imp as ImpView, Forall as ForallView}
 use Rattle.ll_bank.specs.declared.FormNode.TheVariants.{Exists as ExistsView, Use as UseView, Is as IsView, Less as LessView, Most as MostView}
-use Rattle.ll_bank.specs.Nodes.{Nodes, HasForm, term_trees, form_tree, form_of}
+use Rattle.ll_bank.specs.Nodes.{Nodes, form_tree, form_of}
 use Rattle.ll_laws.specs.declared.Candidate.{Candidate}
 use Rattle.ll_laws.specs.Settle.{Entry}
 use Rattle.ll_laws.specs.Attempt.{is_open}
 use Rattle.ll_resources.specs.Resources.{Resources}
 use Rattle.std.proofs.lemmas.List.Elements.{All-nil, All-cons, All-head, All-tail}
 use Rattle.ll_resources.specs.declared.keyed.Keyed.{Keyed}
-use Rattle.ll_resources.specs.Keys.{has_key, is_found, open_found, found_by, comes, open_coming, to_come}
+use Rattle.ll_resources.specs.Keys.{is_found, open_found, found_by, comes, open_coming, to_come}
 use Rattle.ll_freeze.specs.Keyed.{head_key, key_of_head, clause_key, keys_in, AreKeyed}
 use Rattle.ll_store.specs.declared.store.Store.{Store}
 use Rattle.ll_index.specs.First.{first_of, signs_clash}

@@ -1,13 +1,12 @@
-use Rattle.std.proofs.Common.{◌≡◌, ◌++◌, flat_map, take, map as map_of, length, refl, ap, subst, ◌∙◌, arith, ◌-◌}
-use Rattle.ll_engine.specs.Leaves.{open_tries, standing_entry}
+use Rattle.std.proofs.Common.{length, refl, ap, subst, ◌∙◌, arith, ◌-◌}
 use Rattle.std.proofs.lemmas.List.{length-map}
 use Rattle.std.proofs.lemmas.Result.{IfOk-from_err}
 use Rattle.ll_laws.specs.Shown.{clause_tree}
 use Rattle.ll_freeze.specs.Parts.{parts_of}
 use Rattle.ll_freeze.specs.Reading.{read_term}
 use Rattle.ll_bank.specs.Nodes.{term_tree}
-use Rattle.ll_engine.specs.Matches.{Asks, AsksFor, all_found, head_fits}
-use Rattle.ll_engine.proofs.inferences.AtomLemmas.{atom_front, splits, heads_below, has_head, name_read, arity_read, all_matches, loaded_match}
+use Rattle.ll_engine.specs.Matches.{Asks, AsksFor, all_found}
+use Rattle.ll_engine.proofs.inferences.AtomLemmas.{atom_front, splits, has_head, name_read, arity_read, all_matches, loaded_match}
 use Rattle.ll_engine.proofs.machine.ReadLemmas.{fits_table}
 use Rattle.ll_engine.proofs.candidates.atom_candidates.Goals as goal
 use Rattle.ll_engine.proofs.candidates.atom_candidates.Goals.{in-Name+in_ok-add_program, in_default-head}
@@ -24,14 +23,17 @@ asked_by-requires-clause-inside c = c.requires.front.1.seen.parts
 pub returns-in_err-asked : goal.returns-in_err-asked
 returns-in_err-asked c = IfOk-from_err c.from_residual.result _ c.from_residual.ensures.0
 
-pub add_loaded-requires-clause-table : goal.add_loaded-requires-clause-table
-add_loaded-requires-clause-table c = fits_table (parts_of c.args.machine.now) c.requires.fits
+pub add_newer-requires-clause-fits : goal.add_newer-requires-clause-fits
+add_newer-requires-clause-fits c = c.requires.fits
 
-pub add_loaded-requires-clause-inside : goal.add_loaded-requires-clause-inside
-add_loaded-requires-clause-inside c = c.requires.fits.clauses
+pub add_newer-requires-clause-count : goal.add_newer-requires-clause-count
+add_newer-requires-clause-count c =
+    let clauses = ap (λ p. length p.clauses) c.problem.view_is in
+    let map = length-map c.problem.inside.clauses.items (clause_tree c.problem.inside.bank) in
+    let a = c.len.ensures in let b = c.len-2.ensures in let d = c.problem.inside.clauses.ok.0 in omega arith
 
-pub returns-in_err-add_loaded : goal.returns-in_err-add_loaded
-returns-in_err-add_loaded c = IfOk-from_err c.from_residual-in_err-add_loaded.result _ c.from_residual-in_err-add_loaded.ensures.0
+pub returns-in_err-add_newer : goal.returns-in_err-add_newer
+returns-in_err-add_newer c = IfOk-from_err c.from_residual-in_err-add_newer.result _ c.from_residual-in_err-add_newer.ensures.0
 
 pub add_program-requires-clause-index : goal.add_program-requires-clause-index
 add_program-requires-clause-index c = c.requires.index
@@ -51,9 +53,6 @@ overflow_sub-loaded c =
     let map = length-map c.problem.inside.clauses.items (clause_tree c.problem.inside.bank) in
     let enough = w.enough in let a = c.len.ensures in let b = c.len-2.ensures in let d = c.problem.inside.clauses.ok.0 in omega arith
 
-pub add_loaded-requires-clause-cells : goal.add_loaded-requires-clause-cells
-add_loaded-requires-clause-cells c = heads_below (parts_of c.args.machine.now) c.requires.fits
-
 pub add_program-requires-clause-program : goal.add_program-requires-clause-program
 add_program-requires-clause-program c =
     let clauses = ap (λ p. length p.clauses) c.problem.view_is in
@@ -70,19 +69,14 @@ returns c =
     let clauses = ap (λ p. length p.clauses) c.problem.view_is in
     let map = length-map c.problem.inside.clauses.items (clause_tree c.problem.inside.bank) in
     let a = c.len.ensures in let b = c.len-2.ensures in let d = c.problem.inside.clauses.ok.0 in
-    let same : length k.context.present.entries - length (parts_of k).problem.clauses ≡ n = omega arith in
-    let added : all_found c.add_loaded.new.found ≡ all_found c.none-found.result
-    ++ flat_map (open_tries (head_fits k.store c.in-Some.asked)) (map_of (standing_entry k.store.bank) (take n k.context.present.entries)) =
-    subst (λ j. all_found c.add_loaded.new.found ≡ all_found c.none-found.result
-    ++ flat_map (open_tries (head_fits k.store c.in-Some.asked)) (map_of (standing_entry k.store.bank) (take j k.context.present.entries))) same
-    (c.in_ok-add_loaded.ensures (length (parts_of k).problem.clauses) f.keyed) in
+    let added = c.in_ok-add_newer.ensures in
     elim c.match-asked.branch [
-      | in-Name+in_ok-add_program v ↦ all_matches k c.args.atom c.in-Some.asked f w asks n (all_found c.none-found.result) (all_found c.add_loaded.new.found)
+      | in-Name+in_ok-add_program v ↦ all_matches k c.args.atom c.in-Some.asked f w asks n (all_found c.none-found.result) (all_found c.add_newer.new.found)
           (all_found c.match-asked.found) c.none-found.ensures added
           (ap all_found v.found-is
           ∙ v.in_ok-add_program.ensures (read_term (parts_of k).bank (parts_of k).bound c.args.atom)
           (name_read k c.args.atom c.in-Some.asked f w asks v.in-Name.name v.in-Name.is) (arity_read k c.args.atom c.in-Some.asked f w asks))
-      | in_default-head v ↦ loaded_match k c.args.atom c.in-Some.asked f w asks n (all_found c.none-found.result) (all_found c.add_loaded.new.found)
+      | in_default-head v ↦ loaded_match k c.args.atom c.in-Some.asked f w asks n (all_found c.none-found.result) (all_found c.add_newer.new.found)
           (all_found c.match-asked.found) (splits (parts_of k) n f (omega arith)).of v.in_default-head.not-Name
           c.none-found.ensures added (ap all_found v.found-is)
     ]

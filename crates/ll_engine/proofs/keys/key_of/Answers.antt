@@ -1,6 +1,5 @@
-use Rattle.std.proofs.Common.{◌≡◌, ℕ, ◌<◌, length, ap, sym, ◌∙◌, arith}
+use Rattle.std.proofs.Common.{ℕ, ◌<◌, length, ap, sym, ◌∙◌, arith}
 use Rattle.ll_bank.specs.Form.{Form}
-use Rattle.ll_bank.specs.Nodes.{form_tree}
 use Rattle.ll_freeze.specs.Keyed.{clause_key}
 use Rattle.ll_engine.proofs.matching.KeyedLemmas.{no_key}
 use Rattle.ll_engine.proofs.keys.key_of.Goals as goal

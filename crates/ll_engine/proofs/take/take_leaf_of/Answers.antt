@@ -8,7 +8,7 @@ use Rattle.ll_resources.specs.Seen.{resource}
 use Rattle.ll_freeze.specs.Fits.{allowed}
 use Rattle.ll_freeze.specs.Parts.{parts_of}
 use Rattle.ll_freeze.proofs.CallerLemmas.{store_then, context_same}
-use Rattle.ll_engine.proofs.machine.Keeping.{store_extends, later_of}
+use Rattle.ll_engine.proofs.machine.Keeping.{store_extends, later_of, pushed}
 use Rattle.ll_engine.proofs.inferences.TakingLemmas.{variable_count, clause_inside, clause_sorted, count_is}
 use Rattle.ll_engine.proofs.inferences.LeafTaking.{LeafFacts, leaf_facts}
 use Rattle.ll_engine.proofs.take.take_leaf_of.Goals as goal
@@ -128,7 +128,7 @@ returns-clause-attempts c =
       top_new = refl;
       terms_new = refl;
       eigens = refl;
-      steps = c.in_ok-push.ensures.items;
+      steps = pushed _ _ _ _ c.push_reserved.ensures.items c.in_ok-reserve.ensures.items;
       left = one_less c.args.machine.now.left c.requires.left;
     })
 
@@ -137,7 +137,8 @@ returns-clause-later c =
     let m = c.args.machine.now in let e = c.in_ok-opened.ensures.frames in let t = c.in_ok-opened.ensures.more in
     later_of m _ refl refl (store_then _ _ _ (store_then _ _ _
     (store_extends m.store (record (m.store) { bank = c.open_leaf.new.bank }) c.in_ok-opened.ensures.keeps refl) c.add_cells.ensures.marks)
-    c.unify_leaf.ensures.marks) c.use_entry.ensures.marks e.more e.frames t.more t.is _ c.in_ok-push.ensures.items
+    c.unify_leaf.ensures.marks) c.use_entry.ensures.marks e.more e.frames t.more t.is _
+    (pushed _ _ _ _ c.push_reserved.ensures.items c.in_ok-reserve.ensures.items)
 
 pub returns-in_err-opened-clause-attempts : goal.returns-in_err-opened-clause-attempts
 returns-in_err-opened-clause-attempts c = IfOk-from_err c.from_residual.result _ c.from_residual.ensures.0
@@ -163,11 +164,11 @@ returns-in_err-use_entry-clause-attempts c = IfOk-from_err c.from_residual-in_er
 pub returns-in_err-use_entry-clause-later : goal.returns-in_err-use_entry-clause-later
 returns-in_err-use_entry-clause-later c = IfOk-from_err c.from_residual-in_err-use_entry.result _ c.from_residual-in_err-use_entry.ensures.0
 
-pub returns-in_err-push-clause-attempts : goal.returns-in_err-push-clause-attempts
-returns-in_err-push-clause-attempts c = IfOk-from_err c.from_residual-in_err-push.result _ c.from_residual-in_err-push.ensures.0
+pub returns-in_err-reserve-clause-attempts : goal.returns-in_err-reserve-clause-attempts
+returns-in_err-reserve-clause-attempts c = IfOk-from_err c.from_residual-in_err-reserve.result _ c.from_residual-in_err-reserve.ensures.0
 
-pub returns-in_err-push-clause-later : goal.returns-in_err-push-clause-later
-returns-in_err-push-clause-later c = IfOk-from_err c.from_residual-in_err-push.result _ c.from_residual-in_err-push.ensures.0
+pub returns-in_err-reserve-clause-later : goal.returns-in_err-reserve-clause-later
+returns-in_err-reserve-clause-later c = IfOk-from_err c.from_residual-in_err-reserve.result _ c.from_residual-in_err-reserve.ensures.0
 
 pub open_leaf-requires-clause-among : goal.open_leaf-requires-clause-among
 open_leaf-requires-clause-among c = c.requires.among

@@ -1,23 +1,21 @@
 -- Texts piece by piece.
-use Rattle.std.proofs.Common.{◌≡◌, ℕ, suc, ◌+◌, ◌*◌, ◌<◌, Bool, true, false, ◌&&◌, eqb, List, [], ◌∷◌, ◌++◌, length, All, get_or, drop, refl, ap, sym, subst}
+use Rattle.std.proofs.Common.{◌≡◌, ℕ, zero, suc, ◌+◌, ◌*◌, ◌<◌, ◌≤◌, Bool, true, false, ◌&&◌, eqb, List, [], ◌∷◌, ◌++◌, length}
+use Rattle.std.proofs.Common.{All, get_or, take, drop, refl, ap, sym}
 use Rattle.std.proofs.Common.{◌∙◌, arith, append_assoc, if◌then◌else◌, codes, not}
-use Rattle.std.specs.Prelude.{Result, Ok, Err, OnErr}
-use Rattle.std.proofs.lemmas.List.{append-nil, drop_more, length-map, length_push, get_or_push}
-use Rattle.std.proofs.Math.ListN.{get_or-append}
-use Rattle.std.proofs.lemmas.List.Elements.{All-head, All-tail, All-cons, All-append, All-push}
-use Rattle.std.proofs.lemmas.Bool.{cond-true, cond-false, ne_eqb, eqb-true, and_parts}
-use Rattle.ll_lists.proofs.CallerLemmas.{OnErr-always as on_err}
+use Rattle.std.proofs.lemmas.List.{append-nil, drop_more, length-map}
+use Rattle.std.proofs.lemmas.List.Elements.{All-head, All-tail, All-cons, All-append, All-push, All-drop}
+use Rattle.std.proofs.lemmas.Bool.{cond-true, cond-false, ne_eqb, eqb-true, and_parts, true≢false}
 use Rattle.ll_bank.specs.declared.At.{At}
 use Rattle.ll_bank.specs.declared.Head.{Head}
-use Rattle.ll_bank.specs.Term.{Term, Con, Ap, app, apply}
+use Rattle.ll_bank.specs.Term.{Term, Var, Int, Con, Ap, app, apply}
 use Rattle.ll_bank.specs.Nodes.{Nodes, term_tree, term_trees, HasTerm, AllInTerms}
 use Rattle.ll_laws.specs.Output.{term_text, applied_text, argument_text, head_text, bracket_if, has_arguments, is_cons, is_cons_head}
 use Rattle.ll_printer.specs.declared.pieces.Piece.{Piece}
-use Rattle.ll_printer.specs.declared.pieces.Piece.TheVariants.{Term as TermPiece, Argument as ArgumentPiece, Item as ItemPiece, Sign as SignPiece}
+use Rattle.ll_printer.specs.declared.pieces.Piece.TheVariants.{Term as TermPiece, Argument as ArgumentPiece, Rest as RestPiece}
 use Rattle.ll_printer.specs.declared.pieces.Piece.TheVariants.{Bracket as BracketPiece}
 use Rattle.ll_printer.specs.Pieces.{BeginsText}
 use Rattle.ll_printer.specs.Stack.{piece_text, stack_text, HasPiece, term_size, piece_weight, stack_weight, Moves, arguments_text, arguments_weight}
-use Rattle.ll_printer.specs.Stack.{argument_pieces, cons_pieces, IsPrinting}
+use Rattle.ll_printer.specs.Stack.{argument_pieces, IsPrinting, cell_text, cell_weight, opening_text, closing_pieces}
 
 -- ---- the stack
 
@@ -133,7 +131,7 @@ module _ (names : List (List ℕ)) (bank : Nodes) (text : List ℕ) (weight : �
     lighter = let a = ap (stack_weight bank) e in let b = stack_weight-append names bank old qs in omega arith;
   }
 
-  -- the term alone is left
+  -- the term alone is left, and goes on at once
   pub moved_term : (at : At) → HasTerm bank at.0 → new ≡ old ++ TermPiece at ∷ [] → text ≡ prefix ++ term_text names (term_tree bank at.0)
       → 2 * term_size (term_tree bank at.0) < weight
       → Moves names bank text weight old start new end
@@ -154,63 +152,254 @@ pub argument_is : (t : Term) (text : List ℕ) (b : Bool) → has_arguments t �
 argument_is t text true e = ap (λ b. codes " " ++ bracket_if b text) e
 argument_is t text false e = ap (λ b. codes " " ++ bracket_if b text) e
 
--- the text of what stands in front of a `::`
-pub item_is : (names : List (List ℕ)) (t : Term) (text : List ℕ) (b : Bool) → is_cons names t ≡ b
-    → bracket_if (is_cons names t) text ≡ (if b then codes "(" ++ (text ++ codes ")") else text)
-item_is names t text true e = ap (λ b. bracket_if b text) e
-item_is names t text false e = ap (λ b. bracket_if b text) e
+-- ---- refusals
 
--- two arguments of a `::`
-pub cons_moves : (names : List (List ℕ)) (bank : Nodes) (h : Head) (args : List At) (tree : Term) (old new : List Piece) (start : List ℕ)
-    → All (HasPiece bank) old → AllInTerms bank args
-    → tree ≡ app h (term_trees bank args) → (eqb (length args) 2 && is_cons_head names h) ≡ true → new ≡ old ++ cons_pieces args
-    → Moves names bank (term_text names tree) (2 * term_size tree) old start new start
-cons_moves names bank h [] tree old new start before inside is test e = absurd (let x : ⊥ = cc in x)
-cons_moves names bank h (x ∷ []) tree old new start before inside is test e = absurd (let x : ⊥ = cc in x)
-cons_moves names bank h (x ∷ y ∷ []) tree old new start before inside is test e =
-    subst (λ t. Moves names bank (term_text names t) (2 * term_size t) old start new start) (sym is)
-    (moved names bank (term_text names (app h (term_trees bank (x ∷ y ∷ [])))) (2 * term_size (app h (term_trees bank (x ∷ y ∷ [])))) old new start start before
-    [] (sym (append-nil start))
-    (TermPiece y ∷ SignPiece ∷ ItemPiece x ∷ []) e
-    (let first = All-head (λ (a : At). a.0 < length bank.terms) x (y ∷ []) inside in
-    let second = All-head (λ (a : At). a.0 < length bank.terms) y [] (All-tail (λ (a : At). a.0 < length bank.terms) x (y ∷ []) inside) in
-    All-cons (HasPiece bank) (TermPiece y) (SignPiece ∷ ItemPiece x ∷ []) second
-    (All-cons (HasPiece bank) SignPiece (ItemPiece x ∷ []) tt (All-cons (HasPiece bank) (ItemPiece x) [] first (λ k d l. absurd (omega arith)))))
-    (cons_text names h (term_tree bank x.0) (term_tree bank y.0) test) (omega arith))
-cons_moves names bank h (x ∷ y ∷ z ∷ args) tree old new start before inside is test e =
-    absurd (let p = eqb-true (suc (suc (suc (length args)))) 2 (and_parts (eqb (suc (suc (suc (length args)))) 2) (is_cons_head names h) test).0 in omega arith)
-
--- a head was printed, and its arguments are left
-pub head_moves : (names : List (List ℕ)) (bank : Nodes) (h : Head) (args : List At) (tree : Term) (old new : List Piece) (start end : List ℕ)
-    → All (HasPiece bank) old → AllInTerms bank args
-    → tree ≡ app h (term_trees bank args) → (eqb (length args) 2 && is_cons_head names h) ≡ false → end ≡ start ++ head_text names h
-    → new ≡ old ++ argument_pieces args
-    → Moves names bank (term_text names tree) (2 * term_size tree) old start new end
-head_moves names bank h args tree old new start end before inside is test written e =
-    subst (λ t. Moves names bank (term_text names t) (2 * term_size t) old start new end) (sym is)
-    (moved names bank (term_text names (app h (term_trees bank args))) (2 * term_size (app h (term_trees bank args))) old new start end before
-    (head_text names h) written
-    (argument_pieces args) e (argument_pieces-inside names bank args inside)
-    (app_text names h (term_trees bank args) (ap (λ n. eqb n 2 && is_cons_head names h) (length-map args (λ (a : At). term_tree bank a.0)) ∙ test)
-    ∙ ap (λ u. head_text names h ++ u) (sym (argument_text-pieces names bank args)))
-    (let a = argument_weight-pieces names bank args in let b = size-apply (Con h) (term_trees bank args) in omega arith))
-
--- a refusal behind the head
-pub head_begins : (names : List (List ℕ)) (bank : Nodes) (h : Head) (args : List At) (tree : Term) (start end : List ℕ) → tree ≡ app h (term_trees bank args)
-    → (eqb (length args) 2 && is_cons_head names h) ≡ false → BeginsText (head_text names h) start end → BeginsText (term_text names tree) start end
-head_begins names bank h args tree start end is test b = record {
-  written = b.written;
-  rest = b.rest ++ arguments_text names (term_trees bank args);
-  is = b.is;
-  begun = ap (term_text names) is ∙ (app_text names h (term_trees bank args)
-      (ap (λ n. eqb n 2 && is_cons_head names h) (length-map args (λ (a : At). term_tree bank a.0)) ∙ test)
-      ∙ (ap (λ u. u ++ arguments_text names (term_trees bank args)) b.begun ∙ append_assoc b.written b.rest (arguments_text names (term_trees bank args))));
+-- behind what was written of a text
+pub begins_on : (text start middle end first rest : List ℕ) → middle ≡ start ++ first → text ≡ first ++ rest → BeginsText rest middle end
+    → BeginsText text start end
+begins_on text start middle end first rest e t b = record {
+  written = first ++ b.written;
+  rest = b.rest;
+  is = b.is ∙ (ap (λ xs. xs ++ b.written) e ∙ append_assoc start first b.written);
+  begun = t ∙ (ap (λ u. first ++ u) b.begun ∙ sym (append_assoc first b.written b.rest));
 }
 
--- nothing was printed yet, or all that is to be
-pub begins_none : (text start : List ℕ) → BeginsText text start start
-begins_none text start = record { written = []; rest = text; is = sym (append-nil start); begun = refl }
+-- within the first part of a text
+pub begins_first : (text start end first rest : List ℕ) → text ≡ first ++ rest → BeginsText first start end → BeginsText text start end
+begins_first text start end first rest t b = record {
+  written = b.written;
+  rest = b.rest ++ rest;
+  is = b.is;
+  begun = t ∙ (ap (λ u. u ++ rest) b.begun ∙ append_assoc b.written b.rest rest);
+}
 
+-- a term in front of a `::` by its brackets
+item_brackets : (names : List (List ℕ)) (bank : Nodes) (x l : At) (b : Bool) (text : List ℕ)
+    → bracket_if b text ++ (codes "::" ++ term_text names (term_tree bank l.0))
+    ≡ opening_text b ++ (text ++ (stack_text names bank (closing_pieces b) ++ (codes "::" ++ term_text names (term_tree bank l.0))))
+item_brackets names bank x l true text =
+    append_assoc (codes "(") (text ++ codes ")") (codes "::" ++ term_text names (term_tree bank l.0))
+    ∙ ap (λ u. codes "(" ++ u) (append_assoc text (codes ")") (codes "::" ++ term_text names (term_tree bank l.0)))
+item_brackets names bank x l false text = refl
+
+closing-inside : (bank : Nodes) (b : Bool) → All (HasPiece bank) (closing_pieces b)
+closing-inside bank true = All-cons (HasPiece bank) BracketPiece [] tt (λ k d l. absurd (omega arith))
+closing-inside bank false = λ k d l. absurd (omega arith)
+
+closing-light : (bank : Nodes) (b : Bool) → stack_weight bank (closing_pieces b) ≤ 1
+closing-light bank true = omega arith
+closing-light bank false = omega arith
+
+-- a term without arguments in front of a `::` has no brackets
+cell_plain : (names : List (List ℕ)) (t u : Term) → has_arguments t ≡ false
+    → bracket_if (is_cons names t) (term_text names t) ++ (codes "::" ++ term_text names u) ≡ term_text names t ++ (codes "::" ++ term_text names u)
+cell_plain names (Var n) u h = refl
+cell_plain names (Int z) u h = refl
+cell_plain names (Con c) u h = refl
+cell_plain names (Ap f a) u h = absurd (true≢false h)
+
+module _ (names : List (List ℕ)) (bank : Nodes) where
+  -- the first of the two arguments of a `::` goes on, and the other one is left behind the sign
+  pub cell_opens : (x l : At) (old middle new : List Piece) (start end : List ℕ) → All (HasPiece bank) old → HasTerm bank x.0 → HasTerm bank l.0
+      → middle ≡ old ++ RestPiece l ∷ [] → new ≡ middle ++ closing_pieces (is_cons names (term_tree bank x.0))
+      → end ≡ start ++ opening_text (is_cons names (term_tree bank x.0))
+      → Moves names bank (cell_text names (term_trees bank (x ∷ l ∷ []))) (cell_weight (term_trees bank (x ∷ l ∷ []))) old start (new ++ TermPiece x ∷ []) end
+  cell_opens x l old middle new start end before hx hl d e is =
+      let b : Bool = is_cons names (term_tree bank x.0) in
+      let text : List ℕ = term_text names (term_tree bank x.0) in
+      let qs : List Piece = RestPiece l ∷ closing_pieces b ++ TermPiece x ∷ [] in
+      let placed : new ++ TermPiece x ∷ [] ≡ old ++ qs =
+      ap (λ ps. ps ++ TermPiece x ∷ []) (e ∙ (ap (λ ps. ps ++ closing_pieces b) d ∙ append_assoc old (RestPiece l ∷ []) (closing_pieces b)))
+      ∙ append_assoc old (RestPiece l ∷ closing_pieces b) (TermPiece x ∷ []) in
+      let shown : stack_text names bank qs ≡ text ++ (stack_text names bank (closing_pieces b) ++ (codes "::" ++ term_text names (term_tree bank l.0))) =
+      ap (λ u. u ++ (codes "::" ++ term_text names (term_tree bank l.0))) (stack_text-append names bank (closing_pieces b) (TermPiece x ∷ []))
+      ∙ append_assoc text (stack_text names bank (closing_pieces b)) (codes "::" ++ term_text names (term_tree bank l.0)) in
+      moved names bank (cell_text names (term_trees bank (x ∷ l ∷ []))) (cell_weight (term_trees bank (x ∷ l ∷ []))) old (new ++ TermPiece x ∷ []) start end
+      before (opening_text b) is qs placed
+      (All-cons (HasPiece bank) (RestPiece l) (closing_pieces b ++ TermPiece x ∷ []) hl
+      (All-push (HasPiece bank) (closing_pieces b) (TermPiece x) (closing-inside bank b) hx))
+      (append_assoc (bracket_if b text) (codes "::") (term_text names (term_tree bank l.0))
+      ∙ (item_brackets names bank x l b text ∙ ap (λ u. opening_text b ++ u) (sym shown)))
+      (let w = stack_weight-append names bank (closing_pieces b) (TermPiece x ∷ []) in let c = closing-light bank b in omega arith)
+
+  -- the first one was printed with the sign, and the other one goes on
+  pub cell_goes : (x l : At) (old new : List Piece) (start end : List ℕ) → All (HasPiece bank) old → HasTerm bank l.0
+      → has_arguments (term_tree bank x.0) ≡ false → new ≡ old → end ≡ start ++ (term_text names (term_tree bank x.0) ++ codes "::")
+      → Moves names bank (cell_text names (term_trees bank (x ∷ l ∷ []))) (cell_weight (term_trees bank (x ∷ l ∷ []))) old start (new ++ TermPiece l ∷ []) end
+  cell_goes x l old new start end before hl h e is =
+      let text : List ℕ = term_text names (term_tree bank x.0) in
+      moved_term names bank (cell_text names (term_trees bank (x ∷ l ∷ []))) (cell_weight (term_trees bank (x ∷ l ∷ []))) old (new ++ TermPiece l ∷ [])
+      start end before (text ++ codes "::") is l hl (ap (λ ps. ps ++ TermPiece l ∷ []) e)
+      (append_assoc (bracket_if (is_cons names (term_tree bank x.0)) text) (codes "::") (term_text names (term_tree bank l.0))
+      ∙ (cell_plain names (term_tree bank x.0) (term_tree bank l.0) h ∙ sym (append_assoc text (codes "::") (term_text names (term_tree bank l.0)))))
+      (omega arith)
+
+-- by the list of both arguments
+module _ (names : List (List ℕ)) (bank : Nodes) where
+  pub cons_opens : (args : List At) (d : At) (old middle new : List Piece) (start end : List ℕ) → length args ≡ 2 → All (HasPiece bank) old
+      → AllInTerms bank args → middle ≡ old ++ RestPiece (get_or args 1 d) ∷ []
+      → new ≡ middle ++ closing_pieces (is_cons names (term_tree bank (get_or args 0 d).0))
+      → end ≡ start ++ opening_text (is_cons names (term_tree bank (get_or args 0 d).0))
+      → Moves names bank (cell_text names (term_trees bank args)) (cell_weight (term_trees bank args)) old start (new ++ TermPiece (get_or args 0 d) ∷ []) end
+  cons_opens [] d old middle new start end two before inside m e is = absurd (omega (arith, two))
+  cons_opens (x ∷ []) d old middle new start end two before inside m e is = absurd (omega (arith, two))
+  cons_opens (x ∷ y ∷ z ∷ args) d old middle new start end two before inside m e is = absurd (omega (arith, two))
+  cons_opens (x ∷ l ∷ []) d old middle new start end two before inside m e is =
+      let first = All-head (λ (a : At). a.0 < length bank.terms) x (l ∷ []) inside in
+      let second = All-head (λ (a : At). a.0 < length bank.terms) l [] (All-tail (λ (a : At). a.0 < length bank.terms) x (l ∷ []) inside) in
+      cell_opens names bank x l old middle new start end before first second m e is
+
+  pub cons_goes : (args : List At) (d : At) (old : List Piece) (start middle end : List ℕ) → length args ≡ 2 → All (HasPiece bank) old
+      → AllInTerms bank args → has_arguments (term_tree bank (get_or args 0 d).0) ≡ false
+      → middle ≡ start ++ term_text names (term_tree bank (get_or args 0 d).0) → end ≡ middle ++ codes "::"
+      → Moves names bank (cell_text names (term_trees bank args)) (cell_weight (term_trees bank args)) old start (old ++ TermPiece (get_or args 1 d) ∷ []) end
+  cons_goes [] d old start middle end two before inside h m e = absurd (omega (arith, two))
+  cons_goes (x ∷ []) d old start middle end two before inside h m e = absurd (omega (arith, two))
+  cons_goes (x ∷ y ∷ z ∷ args) d old start middle end two before inside h m e = absurd (omega (arith, two))
+  cons_goes (x ∷ l ∷ []) d old start middle end two before inside h m e =
+      let second = All-head (λ (a : At). a.0 < length bank.terms) l [] (All-tail (λ (a : At). a.0 < length bank.terms) x (l ∷ []) inside) in
+      cell_goes names bank x l old old start end before second h refl
+      (e ∙ (ap (λ u. u ++ codes "::") m ∙ append_assoc start (term_text names (term_tree bank x.0)) (codes "::")))
+
+  -- a refusal within the bracket in front
+  pub cons_begins : (args : List At) (d : At) (start end : List ℕ) → length args ≡ 2
+      → BeginsText (opening_text (is_cons names (term_tree bank (get_or args 0 d).0))) start end
+      → BeginsText (cell_text names (term_trees bank args)) start end
+  cons_begins [] d start end two b = absurd (omega (arith, two))
+  cons_begins (x ∷ []) d start end two b = absurd (omega (arith, two))
+  cons_begins (x ∷ y ∷ z ∷ args) d start end two b = absurd (omega (arith, two))
+  cons_begins (x ∷ l ∷ []) d start end two b =
+      let c : Bool = is_cons names (term_tree bank x.0) in
+      let text : List ℕ = term_text names (term_tree bank x.0) in
+      begins_first (cell_text names (term_trees bank (x ∷ l ∷ []))) start end (opening_text c)
+      (text ++ (stack_text names bank (closing_pieces c) ++ (codes "::" ++ term_text names (term_tree bank l.0))))
+      (append_assoc (bracket_if c text) (codes "::") (term_text names (term_tree bank l.0)) ∙ item_brackets names bank x l c text) b
+
+-- arguments in front, and those behind them
+pub arguments_parts : (names : List (List ℕ)) (bank : Nodes) (args : List At) (i : ℕ)
+    → arguments_text names (term_trees bank args) ≡ arguments_text names (term_trees bank (take i args)) ++ arguments_text names (term_trees bank (drop i args))
+arguments_parts names bank [] zero = refl
+arguments_parts names bank [] (suc i) = refl
+arguments_parts names bank (a ∷ args) zero = refl
+arguments_parts names bank (a ∷ args) (suc i) =
+    let t : List ℕ = argument_text (term_tree bank a.0) (term_text names (term_tree bank a.0)) in
+    ap (λ u. codes " " ++ (t ++ u)) (arguments_parts names bank args i)
+    ∙ sym (ap (λ u. codes " " ++ u)
+    (append_assoc t (arguments_text names (term_trees bank (take i args))) (arguments_text names (term_trees bank (drop i args)))))
+
+-- one without arguments more in front
+pub arguments_more : (names : List (List ℕ)) (bank : Nodes) (args : List At) (i j : ℕ) (d : At) → i < length args → j ≡ suc i
+    → has_arguments (term_tree bank (get_or args i d).0) ≡ false
+    → arguments_text names (term_trees bank (take j args))
+    ≡ arguments_text names (term_trees bank (take i args)) ++ (codes " " ++ term_text names (term_tree bank (get_or args i d).0))
+arguments_more names bank args i j d l e h = ap (λ k. arguments_text names (term_trees bank (take k args))) e ∙ go args i l h
+  where
+    go : (as' : List At) (k : ℕ) → k < length as' → has_arguments (term_tree bank (get_or as' k d).0) ≡ false
+        → arguments_text names (term_trees bank (take (suc k) as'))
+        ≡ arguments_text names (term_trees bank (take k as')) ++ (codes " " ++ term_text names (term_tree bank (get_or as' k d).0))
+    go [] k l h = absurd (omega (arith, l))
+    go (a ∷ as') zero l h =
+        let t : List ℕ = term_text names (term_tree bank a.0) in
+        ap (λ b. codes " " ++ (bracket_if b t ++ [])) h ∙ ap (λ u. codes " " ++ u) (append-nil t)
+    go (a ∷ as') (suc k) l h =
+        let t : List ℕ = argument_text (term_tree bank a.0) (term_text names (term_tree bank a.0)) in
+        ap (λ u. codes " " ++ (t ++ u)) (go as' k (omega (arith, l)) h)
+        ∙ sym (ap (λ u. codes " " ++ u)
+        (append_assoc t (arguments_text names (term_trees bank (take k as'))) (codes " " ++ term_text names (term_tree bank (get_or as' k d).0))))
+
+-- a head was printed with its arguments in front, and then one more
+pub applied_more : (names : List (List ℕ)) (bank : Nodes) (head : List ℕ) (args : List At) (i j : ℕ) (d : At) (old now next : List ℕ) → i < length args
+    → j ≡ suc i → has_arguments (term_tree bank (get_or args i d).0) ≡ false
+    → now ≡ old ++ (head ++ arguments_text names (term_trees bank (take i args)))
+    → next ≡ now ++ (codes " " ++ term_text names (term_tree bank (get_or args i d).0))
+    → next ≡ old ++ (head ++ arguments_text names (term_trees bank (take j args)))
+applied_more names bank head args i j d old now next l e h p q =
+    let front : List ℕ = arguments_text names (term_trees bank (take i args)) in
+    let one : List ℕ = codes " " ++ term_text names (term_tree bank (get_or args i d).0) in
+    q
+    ∙ (ap (λ u. u ++ one) p
+    ∙ (append_assoc old (head ++ front) one
+    ∙ ap (λ u. old ++ u) (append_assoc head front one ∙ ap (λ u. head ++ u) (sym (arguments_more names bank args i j d l e h)))))
+
+-- a refusal within that one
+pub applied_begins : (names : List (List ℕ)) (bank : Nodes) (head : List ℕ) (args : List At) (i : ℕ) (d : At) (old now next : List ℕ) → i < length args
+    → has_arguments (term_tree bank (get_or args i d).0) ≡ false
+    → now ≡ old ++ (head ++ arguments_text names (term_trees bank (take i args)))
+    → BeginsText (codes " " ++ term_text names (term_tree bank (get_or args i d).0)) now next
+    → BeginsText (head ++ arguments_text names (term_trees bank args)) old next
+applied_begins names bank head args i d old now next l h p b =
+    let front : List ℕ = arguments_text names (term_trees bank (take i args)) in
+    let one : List ℕ = codes " " ++ term_text names (term_tree bank (get_or args i d).0) in
+    let behind : List ℕ = arguments_text names (term_trees bank (drop (suc i) args)) in
+    let whole : arguments_text names (term_trees bank args) ≡ front ++ (one ++ behind) =
+    arguments_parts names bank args (suc i)
+    ∙ (ap (λ u. u ++ behind) (arguments_more names bank args i (suc i) d l refl h) ∙ append_assoc front one behind) in
+    begins_on (head ++ arguments_text names (term_trees bank args)) old now next (head ++ front) (one ++ behind) p
+    (ap (λ u. head ++ u) whole ∙ sym (append_assoc head front (one ++ behind)))
+    (begins_first (one ++ behind) now next one behind refl b)
+
+-- fewer arguments are no more work
+arguments_light : (bank : Nodes) (args : List At) (i : ℕ) → arguments_weight (term_trees bank (drop i args)) ≤ arguments_weight (term_trees bank args)
+arguments_light bank [] zero = omega arith
+arguments_light bank [] (suc i) = omega arith
+arguments_light bank (a ∷ args) zero = omega arith
+arguments_light bank (a ∷ args) (suc i) = let h = arguments_light bank args i in omega arith
+
+-- the text of a head with its arguments
+pub applied_is : (names : List (List ℕ)) (bank : Nodes) (h : Head) (args : List At) (tree : Term) → tree ≡ app h (term_trees bank args)
+    → (eqb (length args) 2 && is_cons_head names h) ≡ false → term_text names tree ≡ head_text names h ++ arguments_text names (term_trees bank args)
+applied_is names bank h args tree is test =
+    ap (term_text names) is
+    ∙ app_text names h (term_trees bank args) (ap (λ n. eqb n 2 && is_cons_head names h) (length-map args (λ (a : At). term_tree bank a.0)) ∙ test)
+
+-- by those in front and those behind them
+pub applied_parts : (names : List (List ℕ)) (bank : Nodes) (h : Head) (args : List At) (count : ℕ) (tree : Term) → tree ≡ app h (term_trees bank args)
+    → (eqb (length args) 2 && is_cons_head names h) ≡ false
+    → term_text names tree
+    ≡ (head_text names h ++ arguments_text names (term_trees bank (take count args))) ++ arguments_text names (term_trees bank (drop count args))
+applied_parts names bank h args count tree is test =
+    applied_is names bank h args tree is test
+    ∙ (ap (λ u. head_text names h ++ u) (arguments_parts names bank args count)
+    ∙ sym (append_assoc (head_text names h) (arguments_text names (term_trees bank (take count args)))
+    (arguments_text names (term_trees bank (drop count args)))))
+
+-- and of one with none
+pub plain_is : (names : List (List ℕ)) (bank : Nodes) (h : Head) (args : List At) (tree : Term) → tree ≡ app h (term_trees bank args)
+    → has_arguments tree ≡ false → term_text names tree ≡ head_text names h
+plain_is names bank h [] tree is e = ap (term_text names) is
+plain_is names bank h (a ∷ args) tree is e =
+    absurd (true≢false (sym (ap has_arguments is ∙ has_arguments-apply (Con h) (term_tree bank a.0) (term_trees bank args)) ∙ e))
+
+-- a head was printed with its arguments in front, and the others are left
+pub head_moves : (names : List (List ℕ)) (bank : Nodes) (h : Head) (args : List At) (count : ℕ) (tree : Term) (old new : List Piece) (start end : List ℕ)
+    → All (HasPiece bank) old → AllInTerms bank args
+    → tree ≡ app h (term_trees bank args) → (eqb (length args) 2 && is_cons_head names h) ≡ false
+    → end ≡ start ++ (head_text names h ++ arguments_text names (term_trees bank (take count args))) → new ≡ old ++ argument_pieces (drop count args)
+    → Moves names bank (term_text names tree) (2 * term_size tree) old start new end
+head_moves names bank h args count tree old new start end before inside is test written e =
+    let front : List ℕ = arguments_text names (term_trees bank (take count args)) in
+    moved names bank (term_text names tree) (2 * term_size tree) old new start end before (head_text names h ++ front) written
+    (argument_pieces (drop count args)) e
+    (argument_pieces-inside names bank (drop count args) (All-drop (λ (a : At). a.0 < length bank.terms) count args inside))
+    (applied_parts names bank h args count tree is test
+    ∙ ap (λ u. (head_text names h ++ front) ++ u) (sym (argument_text-pieces names bank (drop count args))))
+    (let a = argument_weight-pieces names bank (drop count args) in let l = arguments_light bank args count in
+    let b = size-apply (Con h) (term_trees bank args) in let c = ap term_size is in omega arith)
+
+-- the text and the work of a `::` with its arguments
+pub cell_is : (names : List (List ℕ)) (bank : Nodes) (h : Head) (args : List At) (tree : Term) → tree ≡ app h (term_trees bank args)
+    → (eqb (length args) 2 && is_cons_head names h) ≡ true
+    → (term_text names tree ≡ cell_text names (term_trees bank args)) × (2 * term_size tree ≡ cell_weight (term_trees bank args))
+cell_is names bank h [] tree is test = absurd (let x : ⊥ = cc in x)
+cell_is names bank h (x ∷ []) tree is test = absurd (let x : ⊥ = cc in x)
+cell_is names bank h (x ∷ l ∷ []) tree is test = (
+  ap (term_text names) is ∙ cons_text names h (term_tree bank x.0) (term_tree bank l.0) test,
+  let e = ap term_size is in omega arith,
+)
+cell_is names bank h (x ∷ y ∷ z ∷ args) tree is test =
+    absurd (let p = eqb-true (suc (suc (suc (length args)))) 2 (and_parts (eqb (suc (suc (suc (length args)))) 2) (is_cons_head names h) test).0 in omega arith)
+
+-- nothing was printed yet, or all that is to be
 pub begins_same : (text start end : List ℕ) → end ≡ start → BeginsText text start end
 begins_same text start end e = record { written = []; rest = text; is = e ∙ sym (append-nil start); begun = refl }
 
@@ -260,15 +449,6 @@ pub printing_ends : (names : List (List ℕ)) (bank : Nodes) (text start now : L
     → pieces ≡ [] → now ≡ start ++ text
 printing_ends names bank text start now pieces c e =
     c.is ∙ ap (λ u. start ++ u) (sym (append-nil c.written) ∙ (ap (λ ps. c.written ++ stack_text names bank ps) (sym e) ∙ c.rest))
-
-pub printing_inside : (names : List (List ℕ)) (bank : Nodes) (text start now : List ℕ) (pieces popped : List Piece) (p : Piece)
-    → IsPrinting names bank text start now pieces → pieces ≡ popped ++ p ∷ []
-    → All (HasPiece bank) popped × HasPiece bank p
-printing_inside names bank text start now pieces popped p c e =
-    let all = subst (All (HasPiece bank)) e c.inside in (
-      (λ k d l. subst (HasPiece bank) (get_or-append popped (p ∷ []) d k l) (all k d (let q = length_push popped p in omega arith))),
-      subst (HasPiece bank) (get_or_push popped p p (length popped) refl) (all (length popped) p (let q = length_push popped p in omega arith)),
-    )
 
 pub weight_falls : (names : List (List ℕ)) (bank : Nodes) (now next : List ℕ) (pieces popped left : List Piece) (p : Piece) → pieces ≡ popped ++ p ∷ []
     → Moves names bank (piece_text names bank p) (piece_weight bank p) popped now left next → stack_weight bank left < stack_weight bank pieces

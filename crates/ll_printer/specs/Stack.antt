@@ -1,19 +1,18 @@
 -- The pieces of a text that are still to be printed, the last one first.
-use Rattle.std.specs.Prelude.{◌≡◌, ℕ, ◌+◌, ◌*◌, ◌<◌, List, [], ◌∷◌, ◌++◌, All, codes}
+use Rattle.std.specs.Prelude.{◌≡◌, ℕ, ◌+◌, ◌*◌, ◌<◌, Bool, true, false, List, [], ◌∷◌, ◌++◌, Option, Some, None, All, codes}
 use Rattle.ll_bank.specs.declared.At.{At}
 use Rattle.ll_bank.specs.Term.{Term, Var, Int, Con, Ap}
 use Rattle.ll_bank.specs.Nodes.{Nodes, term_tree, HasTerm}
 use Rattle.ll_laws.specs.Output.{term_text, argument_text, bracket_if, is_cons}
 use Rattle.ll_printer.specs.declared.pieces.Piece.{Piece}
-use Rattle.ll_printer.specs.declared.pieces.Piece.TheVariants.{Term as TermPiece, Argument as ArgumentPiece, Item as ItemPiece, Sign as SignPiece}
+use Rattle.ll_printer.specs.declared.pieces.Piece.TheVariants.{Term as TermPiece, Argument as ArgumentPiece, Rest as RestPiece}
 use Rattle.ll_printer.specs.declared.pieces.Piece.TheVariants.{Bracket as BracketPiece}
 
 -- the text of a piece
 abbrev pub piece_text : List (List ℕ) → Nodes → Piece → List ℕ
 piece_text names bank (TermPiece at) = term_text names (term_tree bank at.0)
 piece_text names bank (ArgumentPiece at) = codes " " ++ argument_text (term_tree bank at.0) (term_text names (term_tree bank at.0))
-piece_text names bank (ItemPiece at) = bracket_if (is_cons names (term_tree bank at.0)) (term_text names (term_tree bank at.0))
-piece_text names bank SignPiece = codes "::"
+piece_text names bank (RestPiece at) = codes "::" ++ term_text names (term_tree bank at.0)
 piece_text names bank BracketPiece = codes ")"
 
 -- the text of all pieces, of which the last one comes first
@@ -25,8 +24,7 @@ stack_text names bank (p ∷ ps) = stack_text names bank ps ++ piece_text names 
 abbrev pub HasPiece : Nodes → Piece → Type 0
 HasPiece bank (TermPiece at) = HasTerm bank at.0
 HasPiece bank (ArgumentPiece at) = HasTerm bank at.0
-HasPiece bank (ItemPiece at) = HasTerm bank at.0
-HasPiece bank SignPiece = Unit {0}
+HasPiece bank (RestPiece at) = HasTerm bank at.0
 HasPiece bank BracketPiece = Unit {0}
 
 -- the number of signs in a term
@@ -40,8 +38,7 @@ term_size (Ap f a) = term_size f + term_size a + 1
 abbrev pub piece_weight : Nodes → Piece → ℕ
 piece_weight bank (TermPiece at) = 2 * term_size (term_tree bank at.0)
 piece_weight bank (ArgumentPiece at) = 2 * term_size (term_tree bank at.0) + 2
-piece_weight bank (ItemPiece at) = 2 * term_size (term_tree bank at.0) + 2
-piece_weight bank SignPiece = 1
+piece_weight bank (RestPiece at) = 2 * term_size (term_tree bank at.0) + 1
 piece_weight bank BracketPiece = 1
 
 abbrev pub stack_weight : Nodes → List Piece → ℕ
@@ -79,7 +76,32 @@ abbrev pub argument_pieces : List At → List Piece
 argument_pieces [] = []
 argument_pieces (a ∷ args) = argument_pieces args ++ ArgumentPiece a ∷ []
 
--- the pieces of a `::` with its two arguments
-abbrev pub cons_pieces : List At → List Piece
-cons_pieces (x ∷ l ∷ []) = TermPiece l ∷ SignPiece ∷ ItemPiece x ∷ []
-cons_pieces _ = []
+-- the text of a `::` with its two arguments
+abbrev pub cell_text : List (List ℕ) → List Term → List ℕ
+cell_text names (x ∷ l ∷ []) = bracket_if (is_cons names x) (term_text names x) ++ codes "::" ++ term_text names l
+cell_text names _ = []
+
+-- how much work it is
+abbrev pub cell_weight : List Term → ℕ
+cell_weight (x ∷ l ∷ []) = 2 * term_size x + 2 * term_size l + 6
+cell_weight _ = 0
+
+-- the bracket in front of a term that stands in brackets where a test holds
+abbrev pub opening_text : Bool → List ℕ
+opening_text true = codes "("
+opening_text false = []
+
+-- and the piece that is left for the one behind it
+abbrev pub closing_pieces : Bool → List Piece
+closing_pieces true = BracketPiece ∷ []
+closing_pieces false = []
+
+-- the pieces, with one on top of them, if there is one
+abbrev pub on_top : List Piece → Option Piece → List Piece
+on_top ps None = ps
+on_top ps (Some p) = ps ++ p ∷ []
+
+-- the pieces, with a term that goes on at once on top of them, if there is one
+abbrev pub with_next : List Piece → Option At → List Piece
+with_next ps None = ps
+with_next ps (Some at) = ps ++ TermPiece at ∷ []

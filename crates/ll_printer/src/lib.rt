@@ -15,7 +15,7 @@ mod words;
 
 pub use crate::answers::title;
 use crate::answers::{has_names, write_bindings, write_yes};
-use crate::pieces::{Piece, print_piece};
+use crate::pieces::{Piece, next_piece, print_piece};
 pub use crate::programs::program;
 use crate::words::write_number;
 use ll_bank::{At, Bank, Names, OutOfMemory};
@@ -38,9 +38,10 @@ pub fn term(
     ensures begun { BeginsText (term_text names.now (term_tree bank.now at.0)) out.old.items out.new.items }
 {
     let mut pieces = Vec::new(alloc);
-    pieces.push(Piece::Term(at))?;
-    while let Some(piece) = pieces.pop() {
-        print_piece(names, bank, piece, &mut pieces, out)?;
+    let mut next = Some(Piece::Term(at));
+    while let Some(piece) = next {
+        let left = print_piece(names, bank, piece, &mut pieces, out)?;
+        next = next_piece(left, &mut pieces);
     }
     Ok(())
 }

@@ -1,9 +1,10 @@
 //! The pieces of a text that are still to be printed.
-ghost use Rattle.std.specs.Prelude.{◌≡◌, ◌+◌, ◌*◌, ◌++◌, ◌&&◌, OnOk, OnErr, All, length, nat_eq};
-ghost use Rattle.ll_bank.specs.Nodes.{term_tree, HasTerm};
-ghost use Rattle.ll_laws.specs.Output.{has_arguments, is_cons, is_cons_head, term_text};
+ghost use Rattle.std.specs.Prelude.{◌≡◌, ◌≤◌, ◌+◌, ◌*◌, ◌++◌, ◌&&◌, [], false, IfOk, OnOk, OnErr, IsNone, All, length, nat_eq, take, codes};
+ghost use Rattle.ll_bank.specs.Nodes.{term_tree, term_trees, HasTerm, AllInTerms};
+ghost use Rattle.ll_laws.specs.Output.{has_arguments, is_cons, is_cons_head, head_text, term_text};
 ghost use Rattle.ll_printer.specs.Pieces.{BeginsText};
-ghost use Rattle.ll_printer.specs.Stack.{piece_text, piece_weight, term_size, cons_pieces, argument_pieces, HasPiece, Moves};
+ghost use Rattle.ll_printer.specs.Stack.{piece_text, piece_weight, term_size, cell_text, cell_weight, argument_pieces, arguments_text, HasPiece, Moves};
+ghost use Rattle.ll_printer.specs.Stack.{with_next, on_top, opening_text, closing_pieces};
 
 use crate::words::{is_cons_sign, write_head, write_integer, write_signed_number};
 use ll_bank::{At, Bank, Head, Names, OutOfMemory, TermView};
@@ -15,34 +16,49 @@ pub(crate) enum Piece {
     Term(At),
     /// A space and a term, in brackets where it has arguments.
     Argument(At),
-    /// A term, in brackets where it is of the form `X::L`.
-    Item(At),
-    /// `::`.
-    Sign,
+    /// `::` and a term.
+    Rest(At),
     /// `)`.
     Bracket,
 }
 
-/// Prints the beginning of a piece, and puts what is left of it on the stack.
+/// Prints the beginning of a piece, and puts what is left of it on the stack, but for a term that goes on at once: that is the
+/// answer.
 pub(crate) fn print_piece(
     names: &Names,
     bank: &Bank,
     piece: Piece,
     pieces: &mut Vec<Piece>,
     out: &mut Vec<u8>,
-) -> Result<(), OutOfMemory>
+) -> Result<Option<At>, OutOfMemory>
     requires piece { HasPiece bank.now piece }
     requires pieces { All (HasPiece bank.now) pieces.old.items }
-    ensures moves { OnOk result (Moves names.now bank.now (piece_text names.now bank.now piece) (piece_weight bank.now piece) pieces.old.items out.old.items
-        pieces.new.items out.new.items) }
+    ensures moves { IfOk result (λ next. Moves names.now bank.now (piece_text names.now bank.now piece) (piece_weight bank.now piece)
+        pieces.old.items out.old.items (with_next pieces.new.items next) out.new.items) }
     ensures begun { OnErr result (BeginsText (piece_text names.now bank.now piece) out.old.items out.new.items) }
 {
     match piece {
         Piece::Term(at) => print_term(names, bank, at, pieces, out),
         Piece::Argument(at) => print_argument(names, bank, at, pieces, out),
-        Piece::Item(at) => print_item(names, bank, at, pieces, out),
-        Piece::Sign => write_all(b"::", out),
-        Piece::Bracket => write_all(b")", out),
+        Piece::Rest(at) => {
+            write_all(b"::", out)?;
+            Ok(Some(at))
+        }
+        Piece::Bracket => {
+            write_all(b")", out)?;
+            Ok(None)
+        }
+    }
+}
+
+/// The piece that is printed next: the term that goes on, or else the top of the stack, which is taken off.
+pub(crate) fn next_piece(next: Option<At>, pieces: &mut Vec<Piece>) -> Option<Piece>
+    ensures top { on_top pieces.new.items result ≡ with_next pieces.old.items next }
+    ensures none { IsNone result → pieces.new.items ≡ [] }
+{
+    match next {
+        Some(at) => Some(Piece::Term(at)),
+        None => pieces.pop(),
     }
 }
 
@@ -54,53 +70,52 @@ fn write_all(bytes: &[u8], out: &mut Vec<u8>) -> Result<(), OutOfMemory>
     out.extend_from_slice(bytes)
 }
 
-/// Prints a space, and leaves the term, in brackets where it has arguments.
+/// Prints a space and a term without arguments, or else a space and a bracket, and the term goes on.
 fn print_argument(
     names: &Names,
     bank: &Bank,
     at: At,
     pieces: &mut Vec<Piece>,
     out: &mut Vec<u8>,
-) -> Result<(), OutOfMemory>
+) -> Result<Option<At>, OutOfMemory>
     requires at { HasTerm bank.now at.0 }
     requires pieces { All (HasPiece bank.now) pieces.old.items }
-    ensures moves { OnOk result (Moves names.now bank.now (piece_text names.now bank.now (Piece.Argument at)) (2 * term_size (term_tree bank.now at.0) + 2)
-        pieces.old.items out.old.items pieces.new.items out.new.items) }
+    ensures moves { IfOk result (λ next. Moves names.now bank.now (piece_text names.now bank.now (Piece.Argument at))
+        (2 * term_size (term_tree bank.now at.0) + 2) pieces.old.items out.old.items (with_next pieces.new.items next) out.new.items) }
     ensures begun { OnErr result (BeginsText (piece_text names.now bank.now (Piece.Argument at)) out.old.items out.new.items) }
 {
     if has_any_arguments(bank, at) {
         write_all(b" (", out)?;
         pieces.push(Piece::Bracket)?;
-        pieces.push(Piece::Term(at))?;
-    } else {
-        write_all(b" ", out)?;
-        pieces.push(Piece::Term(at))?;
+        return Ok(Some(at));
     }
-    Ok(())
+    write_short(names, bank, at, out)?;
+    Ok(None)
 }
 
-/// Leaves the term in front of a `::`, in brackets where it is itself of the form `X::L`.
-fn print_item(
-    names: &Names,
-    bank: &Bank,
-    at: At,
-    pieces: &mut Vec<Piece>,
-    out: &mut Vec<u8>,
-) -> Result<(), OutOfMemory>
+/// Appends a space and a term without arguments. After a refusal some first bytes of them may have been appended.
+fn write_short(names: &Names, bank: &Bank, at: At, out: &mut Vec<u8>) -> Result<(), OutOfMemory>
     requires at { HasTerm bank.now at.0 }
-    requires pieces { All (HasPiece bank.now) pieces.old.items }
-    ensures moves { OnOk result (Moves names.now bank.now (piece_text names.now bank.now (Piece.Item at)) (2 * term_size (term_tree bank.now at.0) + 2)
-        pieces.old.items out.old.items pieces.new.items out.new.items) }
-    ensures begun { OnErr result (BeginsText (piece_text names.now bank.now (Piece.Item at)) out.old.items out.new.items) }
+    requires plain { has_arguments (term_tree bank.now at.0) ≡ false }
+    ensures text { OnOk result (out.new.items ≡ out.old.items ++ (codes " " ++ term_text names.now (term_tree bank.now at.0))) }
+    ensures begun { OnErr result (BeginsText (codes " " ++ term_text names.now (term_tree bank.now at.0)) out.old.items out.new.items) }
 {
-    if is_cons_at(names, bank, at) {
-        write_all(b"(", out)?;
-        pieces.push(Piece::Bracket)?;
-        pieces.push(Piece::Term(at))?;
-    } else {
-        pieces.push(Piece::Term(at))?;
+    write_all(b" ", out)?;
+    write_plain(names, bank, at, out)
+}
+
+/// Appends a term without arguments. After a refusal some first bytes of it may have been appended.
+fn write_plain(names: &Names, bank: &Bank, at: At, out: &mut Vec<u8>) -> Result<(), OutOfMemory>
+    requires at { HasTerm bank.now at.0 }
+    requires plain { has_arguments (term_tree bank.now at.0) ≡ false }
+    ensures text { OnOk result (out.new.items ≡ out.old.items ++ term_text names.now (term_tree bank.now at.0)) }
+    ensures begun { OnErr result (BeginsText (term_text names.now (term_tree bank.now at.0)) out.old.items out.new.items) }
+{
+    match bank.term_at(at) {
+        TermView::Var(number) => write_signed_number(b'?', number, out),
+        TermView::Int(value) => write_integer(value, out),
+        TermView::App(head, _) => write_head(names, head, out),
     }
-    Ok(())
 }
 
 /// Whether a term has arguments.
@@ -134,44 +149,112 @@ fn is_cons_of(names: &Names, head: Head, args: &[At]) -> bool
     args.len() == 2 && is_cons_sign(names, head)
 }
 
-/// Prints the beginning of a term, and leaves its arguments.
+/// Prints the beginning of a term, and leaves its arguments. Those in front that have no arguments are printed with it.
 fn print_term(
     names: &Names,
     bank: &Bank,
     at: At,
     pieces: &mut Vec<Piece>,
     out: &mut Vec<u8>,
-) -> Result<(), OutOfMemory>
+) -> Result<Option<At>, OutOfMemory>
     requires at { HasTerm bank.now at.0 }
     requires pieces { All (HasPiece bank.now) pieces.old.items }
-    ensures moves { OnOk result (Moves names.now bank.now (term_text names.now (term_tree bank.now at.0)) (2 * term_size (term_tree bank.now at.0))
-        pieces.old.items out.old.items pieces.new.items out.new.items) }
+    ensures moves { IfOk result (λ next. Moves names.now bank.now (term_text names.now (term_tree bank.now at.0)) (2 * term_size (term_tree bank.now at.0))
+        pieces.old.items out.old.items (with_next pieces.new.items next) out.new.items) }
     ensures begun { OnErr result (BeginsText (term_text names.now (term_tree bank.now at.0)) out.old.items out.new.items) }
 {
     match bank.term_at(at) {
-        TermView::Var(number) => write_signed_number(b'?', number, out),
-        TermView::Int(value) => write_integer(value, out),
+        TermView::Var(number) => {
+            write_signed_number(b'?', number, out)?;
+            Ok(None)
+        }
+        TermView::Int(value) => {
+            write_integer(value, out)?;
+            Ok(None)
+        }
         TermView::App(head, args) => {
             if is_cons_of(names, head, args) {
-                push_cons(args, pieces)?;
-                return Ok(());
+                return print_cons(names, bank, args, pieces, out);
             }
-            write_head(names, head, out)?;
-            push_arguments(args, pieces)?;
-            Ok(())
+            let count = write_applied(names, bank, head, args, out)?;
+            push_arguments(&args[count..], pieces)?;
+            Ok(None)
         }
     }
 }
 
-/// Leaves the two arguments of a `::`, and the sign between them.
-fn push_cons(args: &[At], pieces: &mut Vec<Piece>) -> Result<(), OutOfMemory>
-    requires { length args.now ≡ 2 }
-    ensures { OnOk result (pieces.new.items ≡ pieces.old.items ++ cons_pieces args.now) }
+/// Prints the beginning of a `::` with its two arguments: the first one and the sign, where the first has no arguments itself.
+fn print_cons(
+    names: &Names,
+    bank: &Bank,
+    args: &[At],
+    pieces: &mut Vec<Piece>,
+    out: &mut Vec<u8>,
+) -> Result<Option<At>, OutOfMemory>
+    requires two { length args.now ≡ 2 }
+    requires args { AllInTerms bank.now args.now }
+    requires pieces { All (HasPiece bank.now) pieces.old.items }
+    ensures moves { IfOk result (λ next. Moves names.now bank.now (cell_text names.now (term_trees bank.now args.now))
+        (cell_weight (term_trees bank.now args.now)) pieces.old.items out.old.items (with_next pieces.new.items next) out.new.items) }
+    ensures begun { OnErr result (BeginsText (cell_text names.now (term_trees bank.now args.now)) out.old.items out.new.items) }
 {
-    pieces.push(Piece::Term(args[1]))?;
-    pieces.push(Piece::Sign)?;
-    pieces.push(Piece::Item(args[0]))?;
+    let item = args[0];
+    let rest = args[1];
+    if has_any_arguments(bank, item) {
+        pieces.push(Piece::Rest(rest))?;
+        open_item(names, bank, item, pieces, out)?;
+        return Ok(Some(item));
+    }
+    write_plain(names, bank, item, out)?;
+    write_all(b"::", out)?;
+    Ok(Some(rest))
+}
+
+/// Opens brackets round the term in front of a `::` where it is itself of the form `X::L`.
+fn open_item(
+    names: &Names,
+    bank: &Bank,
+    at: At,
+    pieces: &mut Vec<Piece>,
+    out: &mut Vec<u8>,
+) -> Result<(), OutOfMemory>
+    requires { HasTerm bank.now at.0 }
+    ensures pieces { OnOk result (pieces.new.items ≡ pieces.old.items ++ closing_pieces (is_cons names.now (term_tree bank.now at.0))) }
+    ensures text { OnOk result (out.new.items ≡ out.old.items ++ opening_text (is_cons names.now (term_tree bank.now at.0))) }
+    ensures begun { OnErr result (BeginsText (opening_text (is_cons names.now (term_tree bank.now at.0))) out.old.items out.new.items) }
+{
+    if is_cons_at(names, bank, at) {
+        write_all(b"(", out)?;
+        pieces.push(Piece::Bracket)?;
+    }
     Ok(())
+}
+
+/// Appends a head, and those of its arguments in front that have no arguments themselves. The answer is the number of these.
+///
+/// After a refusal some first bytes of the head with all its arguments may have been appended.
+fn write_applied(
+    names: &Names,
+    bank: &Bank,
+    head: Head,
+    args: &[At],
+    out: &mut Vec<u8>,
+) -> Result<usize, OutOfMemory>
+    requires { AllInTerms bank.now args.now }
+    ensures within { IfOk result (λ count. count ≤ length args.now) }
+    ensures text { IfOk result (λ count. out.new.items
+        ≡ out.old.items ++ (head_text names.now head ++ arguments_text names.now (term_trees bank.now (take count args.now)))) }
+    ensures begun { OnErr result (BeginsText (head_text names.now head ++ arguments_text names.now (term_trees bank.now args.now))
+        out.old.items out.new.items) }
+{
+    write_head(names, head, out)?;
+    for i in 0..args.len() {
+        if has_any_arguments(bank, args[i]) {
+            return Ok(i);
+        }
+        write_short(names, bank, args[i], out)?;
+    }
+    Ok(args.len())
 }
 
 /// Leaves the arguments of a head, the first one on top.

@@ -1,37 +1,11 @@
+use Rattle.std.proofs.Common.{refl, arith, codes}
+use Rattle.ll_printer.specs.declared.pieces.Piece.TheVariants as piece
+use Rattle.ll_printer.specs.Stack.{piece_text, piece_weight}
+use Rattle.ll_printer.proofs.Printing.{moved_term}
 use Rattle.ll_printer.proofs.pieces.print_piece.Goals as goal
 
-pub print_term-requires-clause-at : goal.print_term-requires-clause-at
-print_term-requires-clause-at c = rw c.in-Term.is at c.requires.piece
-
-pub print_term-requires-clause-pieces : goal.print_term-requires-clause-pieces
-print_term-requires-clause-pieces c = c.requires.pieces
-
-pub returns-in-Term-clause-moves : goal.returns-in-Term-clause-moves
-returns-in-Term-clause-moves c = rw c.in-Term.is c.print_term.ensures.moves
-
-pub returns-in-Term-clause-begun : goal.returns-in-Term-clause-begun
-returns-in-Term-clause-begun c = rw c.in-Term.is c.print_term.ensures.begun
-
-pub print_argument-requires-clause-at : goal.print_argument-requires-clause-at
-print_argument-requires-clause-at c = rw c.in-Argument.is at c.requires.piece
-
-pub print_argument-requires-clause-pieces : goal.print_argument-requires-clause-pieces
-print_argument-requires-clause-pieces c = c.requires.pieces
-
-pub returns-in-Argument-clause-moves : goal.returns-in-Argument-clause-moves
-returns-in-Argument-clause-moves c = rw c.in-Argument.is c.print_argument.ensures.moves
-
-pub returns-in-Argument-clause-begun : goal.returns-in-Argument-clause-begun
-returns-in-Argument-clause-begun c = rw c.in-Argument.is c.print_argument.ensures.begun
-
-pub print_item-requires-clause-at : goal.print_item-requires-clause-at
-print_item-requires-clause-at c = rw c.in-Item.is at c.requires.piece
-
-pub print_item-requires-clause-pieces : goal.print_item-requires-clause-pieces
-print_item-requires-clause-pieces c = c.requires.pieces
-
-pub returns-in-Item-clause-moves : goal.returns-in-Item-clause-moves
-returns-in-Item-clause-moves c = rw c.in-Item.is c.print_item.ensures.moves
-
-pub returns-in-Item-clause-begun : goal.returns-in-Item-clause-begun
-returns-in-Item-clause-begun c = rw c.in-Item.is c.print_item.ensures.begun
+pub returns-in_ok-write_all-in-Rest-clause-moves : goal.returns-in_ok-write_all-in-Rest-clause-moves
+returns-in_ok-write_all-in-Rest-clause-moves c =
+    rw c.in-Rest.is (moved_term c.args.names.now c.args.bank.now (piece_text c.args.names.now c.args.bank.now (piece.Rest c.in-Rest.at))
+    (piece_weight c.args.bank.now (piece.Rest c.in-Rest.at)) c.args.pieces.now.items _ c.args.out.now.items c.write_all.new.out.items c.requires.pieces
+    (codes "::") c.in_ok-write_all-in-Rest.ensures.text c.in-Rest.at (rw c.in-Rest.is at c.requires.piece) refl refl (omega arith))

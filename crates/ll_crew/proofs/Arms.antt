@@ -1,5 +1,5 @@
 -- What holds of a value holds in the arm that has it.
-use Rattle.std.proofs.Common.{◌≡◌, ℕ, List, Bool, subst, Option, Some, None, Result, Ok, Err, IfOk}
+use Rattle.std.proofs.Common.{◌≡◌, ℕ, List, subst, Option, Some, None, Result, Ok, Err, IfOk}
 use Rattle.std.specs.Prelude.{IfSome, IfNone}
 use Rattle.std.specs.declared.sync.Arc.{Arc}
 use Rattle.std.specs.declared.alloc.Global.{Global}
@@ -8,7 +8,11 @@ use Rattle.ll_laws.specs.Problem.{ProblemTree}
 use Rattle.ll_freeze.specs.Frozen.{FrozenSight}
 use Rattle.ll_engine.specs.Seen.{Owing}
 use Rattle.ll_job.specs.Seats.{Sat}
-use Rattle.ll_crew.specs.Runs.{RunsTo, EndsTo, WentTo}
+use Rattle.ll_job.specs.Offers.{IfTaken, IfBack}
+use Rattle.ll_job.specs.declared.sharing.Offered.{Offered}
+use Rattle.ll_job.specs.declared.sharing.Offered.TheVariants.{Taken}
+use Rattle.ll_job.specs.declared.sharing.Offered.TheVariants as came
+use Rattle.ll_crew.specs.Runs.{RunsTo, EndsTo, WentTo, TakesTurn}
 use Rattle.ll_crew.specs.declared.piece.Ending.{Ending}
 use Rattle.ll_crew.specs.declared.piece.Ending.TheVariants as ending
 use Rattle.ll_crew.specs.declared.piece.Ran.{Ran}
@@ -45,6 +49,16 @@ none_on (Err e) P Q h f = tt
 pub went_as : (standing end : Type 0) (refused : Type 0) (problem : ProblemTree) (went went' : Went) (s a : Sat) → went ≡ went'
     → WentTo standing end refused problem went s a → WentTo standing end refused problem went' s a
 went_as standing end refused problem went went' s a is r = subst (λ x. WentTo standing end refused problem x s a) is r
+
+pub turn_as : (went went' : Went) (s a : Sat) → went ≡ went' → TakesTurn went s a → TakesTurn went' s a
+turn_as went went' s a is t = subst (λ x. TakesTurn x s a) is t
+
+pub taken_of : (P : ℕ → Type 0) (offered : Offered) (others : ℕ) → offered ≡ Taken others → IfTaken offered P → P others
+taken_of P offered others is h = subst (λ o. IfTaken o P) is h
+
+pub back_of : (P : Arc FrozenSight Global → Type 0) (offered : Offered) (batch : Arc FrozenSight Global) → offered ≡ came.Back batch → IfBack offered P
+    → P batch
+back_of P offered batch is h = subst (λ o. IfBack o P) is h
 
 pub ended_as : (standing end : Type 0) (refused : Type 0) (problem : ProblemTree) (ended ended' : Ending) (s a : Sat) (events : List Event) → ended ≡ ended'
     → EndsTo standing end refused problem ended s a events → EndsTo standing end refused problem ended' s a events

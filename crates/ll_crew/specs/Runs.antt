@@ -1,5 +1,5 @@
 -- How the run of an engine ends, and the turns of a worker.
-use Rattle.std.specs.Prelude.{◌≡◌, ℕ, ◌+◌, ◌<◌, List, [], ◌++◌, Bool, take, Option, Some, None, IsSomeAnd}
+use Rattle.std.specs.Prelude.{◌≡◌, ℕ, ◌+◌, ◌<◌, List, [], ◌++◌, take, Option, Some, None, IsSomeAnd}
 use Rattle.std.specs.Arc.{arc_value}
 use Rattle.ll_laws.specs.declared.Event.{Event}
 use Rattle.ll_laws.specs.Pool.{Owed}
@@ -78,3 +78,10 @@ WentTo standing end refused problem went.Worked before after = Stays standing be
 WentTo standing end refused problem went.Idle before after = Stays standing before after × (after.mine.piece ≡ None)
 WentTo standing end refused problem went.Ended before after = Ended standing problem before after
 WentTo standing end refused problem went.Left before after = Leaves end refused before after
+
+-- where nothing was untried the worker's seat has taken a turn since
+abbrev pub TakesTurn : Went → Sat → Sat → Type 0
+TakesTurn went.Worked before after = Unit {0}
+TakesTurn went.Idle before after = before.mine.turns < after.mine.turns
+TakesTurn went.Ended before after = Unit {0}
+TakesTurn went.Left before after = Unit {0}

@@ -70,7 +70,7 @@ fn help<'t, 'a, 'p, R: Wait, G: Gate, E: Notice>(
         came_back: tools.came_back,
         start: &start,
     };
-    let _done = work_as(&job, tools.gate, &mut seat, &mut told, &mut mute);
+    let _ended = work_as(&job, tools.gate, &mut seat, &mut told, &mut mute);
     seat
 }
 
@@ -137,7 +137,7 @@ pub(crate) fn work_together<'a, 'p, R: Threads + Wait + Sync, G: Gate, O: Outlet
     ensures seats { EachWorked seats.entry.items result.0.items }
 {
     if seats.is_empty() {
-        let done = work_as(job, gate, first, told, out);
+        let (done, _woken) = work_as(job, gate, first, told, out);
         return (seats, done);
     }
     let tools = Tools {
@@ -173,6 +173,9 @@ pub(crate) fn work_together<'a, 'p, R: Threads + Wait + Sync, G: Gate, O: Outlet
                 (WasRefused told.exit.now) first.entry.now first.exit.now) }
             ensures failed { OnErr result (Fails (Stopped O.takes O.breaks O.welcome O.faults job.entry.now.start.now.value job.entry.now.problem.now
                 out.exit.now told.exit.now) first.entry.now first.exit.now) }
-        { work_as(job, gate, first, told, out) },
+        {
+            let (done, _woken) = work_as(job, gate, first, told, out);
+            done
+        },
     )
 }

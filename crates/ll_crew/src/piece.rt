@@ -17,7 +17,7 @@ use ll_bank::OutOfMemory;
 use ll_core::Look;
 use ll_engine::{Engine, Step2};
 use ll_freeze::Frozen;
-use ll_job::{Job, Offer, Told, look, publish, report};
+use ll_job::{Job, Offer, Offered, Told, look, publish, report};
 use ll_laws::{Batch, Notice, Problem};
 use ll_order::Outlet;
 use ll_pool::Seat;
@@ -104,8 +104,8 @@ fn share_oldest<'p, R: Wait, O: Outlet>(
         return Ok(Shared::Nothing);
     };
     match publish(job, seat, batch)? {
-        None => Ok(Shared::Published),
-        Some(batch) => Ok(Shared::Back(batch)),
+        Offered::Taken(_) => Ok(Shared::Published),
+        Offered::Back(batch) => Ok(Shared::Back(batch)),
     }
 }
 

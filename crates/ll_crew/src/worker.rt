@@ -4,14 +4,14 @@ ghost use Rattle.ll_job.specs.Seats.{IsSeat, Same, HasLeft, IsOver};
 ghost use Rattle.ll_job.specs.Leading.{Stands, Stopped, WasRefused};
 ghost use Rattle.ll_job.specs.Turns.{Stays, Ended, Leaves, Fails, CanWork};
 ghost use Rattle.ll_crew.specs.Pieces.{IsKeptOf};
-ghost use Rattle.ll_crew.specs.Runs.{WentTo};
+ghost use Rattle.ll_crew.specs.Runs.{WentTo, TakesTurn};
 
 use crate::piece::work_piece;
 use ll_bank::OutOfMemory;
 use ll_core::Claimed;
 use ll_edge::Gate;
 use ll_engine::Engine;
-use ll_job::{Bell, Job, Mute, Offer, Sharing, Told, tell};
+use ll_job::{AllWoken, Bell, Job, Mute, Offer, Sharing, Told, tell};
 use ll_laws::{Notice, Problem};
 use ll_order::Outlet;
 use ll_pool::{Seat, SharedPool};
@@ -54,6 +54,7 @@ fn claim_one<'p, R: Wait, O: Outlet>(
     ensures went { IfOk result (λ went. WentTo (Stands O.takes O.breaks O.welcome O.faults job.now.start.now.value job.now.problem.now seat.new out.new
         told.new) (Stopped O.takes O.breaks O.welcome O.faults job.now.start.now.value job.now.problem.now out.new told.new)
         (WasRefused told.new) job.now.problem.now went seat.old seat.new) }
+    ensures turns { IfOk result (λ went. TakesTurn went seat.old seat.new) }
     ensures failed { OnErr result (Stays (Stands O.takes O.breaks O.welcome O.faults job.now.start.now.value job.now.problem.now seat.new out.new told.new)
         seat.old seat.new) }
 {
@@ -103,7 +104,7 @@ fn work_with<'p, R: Wait, G: Gate, O: Outlet>(
     let mut misses = 0u32;
     'claims: for _ in job.rt.forever() {
         gate.pause(seat.worker(), claims);
-        let heard = job.bell.heard(job.rt);
+        let heard = job.bell.heard(job.rt, seat);
         match claim_one(job, kept, seat, told, out)? {
             Went::Worked => {
                 claims = claims.saturating_add(1);
@@ -113,7 +114,7 @@ fn work_with<'p, R: Wait, G: Gate, O: Outlet>(
                 if misses < YIELDS {
                     thread::yield_now();
                 } else {
-                    job.bell.wait(job.rt, told.leads, heard);
+                    job.bell.wait(job.rt, told.leads, heard, seat);
                 }
                 misses = misses.saturating_add(1);
             }
@@ -151,35 +152,32 @@ fn work_on<'p, R: Wait, G: Gate, O: Outlet>(
 }
 
 /// Claims and works until nothing is untried or open, which is answered by true, or until the pool is starved or stopped. A worker that
-/// leads gives the outlet what is ready. On want of memory it starves the pool. In each case the other workers are woken.
+/// leads gives the outlet what is ready. On want of memory it starves the pool. In each case the other workers are woken, after its last turn.
 pub(crate) fn work_as<'p, R: Wait, G: Gate, O: Outlet>(
     job: &Job<'_, 'p, R, O>,
     gate: &G,
     seat: &mut Seat<Offer<'p, O::Found>>,
     told: &mut Told,
     out: &mut O,
-) -> Result<bool, OutOfMemory>
+) -> (Result<bool, OutOfMemory>, AllWoken<Offer<'p, O::Found>>)
     requires suits { O.Found.suits job.now.problem.now }
     requires seat { CanWork job.now.pool.now job.now.problem.now seat.old }
     requires stands { Stands O.takes O.breaks O.welcome O.faults job.now.start.now.value job.now.problem.now seat.old out.old told.old }
     ensures leads { told.new.leads ≡ told.old.leads }
-    ensures done { IfOk result (λ done. done ≡ true
+    ensures done { IfOk result.0 (λ done. done ≡ true
         → Ended (Stands O.takes O.breaks O.welcome O.faults job.now.start.now.value job.now.problem.now seat.new out.new told.new) job.now.problem.now seat.old
         seat.new) }
-    ensures left { IfOk result (λ done. done ≡ false → Leaves
+    ensures left { IfOk result.0 (λ done. done ≡ false → Leaves
         (Stopped O.takes O.breaks O.welcome O.faults job.now.start.now.value job.now.problem.now out.new told.new) (WasRefused told.new) seat.old seat.new) }
-    ensures failed { OnErr result (Fails (Stopped O.takes O.breaks O.welcome O.faults job.now.start.now.value job.now.problem.now out.new told.new) seat.old
+    ensures failed { OnErr result.0 (Fails (Stopped O.takes O.breaks O.welcome O.faults job.now.start.now.value job.now.problem.now out.new told.new) seat.old
         seat.new) }
+    ensures woken { result.1 ≡ seat.new.mine.turns }
 {
     match work_on(job, gate, seat, told, out) {
-        Ok(done) => {
-            job.bell.ring_all(job.rt);
-            Ok(done)
-        }
+        Ok(done) => (Ok(done), job.bell.ring_all(job.rt, seat)),
         Err(refused) => {
             job.pool.starve(job.rt, seat);
-            job.bell.ring_all(job.rt);
-            Err(refused)
+            (Err(refused), job.bell.ring_all(job.rt, seat))
         }
     }
 }
@@ -220,6 +218,7 @@ pub fn work<'p, R: Wait, G: Gate, E: Notice>(
         came_back: &came_back,
         start: &start,
     };
-    work_as(&job, gate, seat, &mut told, &mut mute)?;
+    let (done, _woken) = work_as(&job, gate, seat, &mut told, &mut mute);
+    done?;
     Ok(())
 }

@@ -10,6 +10,8 @@ pub use Rattle.ll_job.proofs.Calms.{seat_on}
 pub use Rattle.ll_job.proofs.Calms.{calm_itself}
 -- two calm turns, one after the other, are calm
 pub use Rattle.ll_job.proofs.Calms.{calm_on}
+-- a seat that takes a turn has taken one more
+pub use Rattle.ll_job.proofs.Calms.{turn_counted}
 -- a claim is calm
 pub use Rattle.ll_job.proofs.Calms.{calm_claim}
 -- what was told stands after a calm turn

@@ -1,5 +1,5 @@
 -- Turns that take no report and neither starve nor stop the pool.
-use Rattle.std.proofs.Common.{◌≡◌, Bool, true, false, not, ◌&&◌, ◌||◌, refl, sym, ap, ◌∙◌, subst, Option, Some}
+use Rattle.std.proofs.Common.{◌≡◌, ◌+◌, List, Bool, true, false, not, ◌&&◌, ◌||◌, refl, sym, ap, ◌∙◌, subst, Option, Some}
 use Rattle.ll_lists.proofs.CallerLemmas.{some_is}
 use Rattle.ll_laws.specs.declared.Event.{Event}
 use Rattle.ll_laws.specs.Pool.{Owed, PoolData}
@@ -13,7 +13,7 @@ use Rattle.ll_core.specs.Calls.{ClaimsAs}
 use Rattle.ll_core.specs.declared.answers.Claimed.{Claimed}
 use Rattle.ll_core.specs.declared.answers.Claimed.TheVariants as claims
 use Rattle.ll_core.proofs.CallerLemmas.{later_itself, later_on, later_event, leaves_taken, leaves_marks}
-use Rattle.ll_pool.specs.Turns.{PoolSight, OneTurn}
+use Rattle.ll_pool.specs.Turns.{PoolSight, SeatSight, OneTurn}
 use Rattle.ll_pool.specs.declared.data.PoolProblem.{PoolProblem}
 use Rattle.ll_laws.specs.Problem.{ProblemTree}
 use Rattle.ll_freeze.specs.Frozen.{FrozenSight, alternatives_in}
@@ -31,6 +31,11 @@ none_set quit a b c d e f = ap (λ x. quit || ((x && not b) || (c && not d))) e 
     settled false false false = refl
 
 -- ---- seats
+
+-- a seat has then taken one turn more
+pub turn_counted : {N Of : Type 0} (of : N → Of) (alternatives : N → List (Owed Event)) (change : PoolData N Event → PoolData N Event → Type 0)
+    (before after : SeatSight N Of) → OneTurn of alternatives change before after → after.mine.turns ≡ before.mine.turns + 1
+turn_counted {N = N} {Of = Of} of alternatives change before after t = ap (λ (s : SeatSight N Of). s.mine.turns) t.seat
 
 pub same_itself : (s : Sat) → Same s s
 same_itself s = record { table = refl; problem = refl; worker = refl; given = refl }

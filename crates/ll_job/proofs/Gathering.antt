@@ -1,5 +1,6 @@
 -- The seats of a crew, and the numbers that the first seat gave, less those of the seats that come back.
-use Rattle.std.proofs.Common.{◌≡◌, ◌⊎◌, ℕ, ◌+◌, List, [], ◌∷◌, ◌++◌, map, true, false, inl, inr, ⊎_elim, ap, ◌∙◌, refl, eqb, if◌then◌else◌, eq-eqb}
+use Rattle.std.proofs.Common.{◌≡◌, ◌⊎◌, ℕ, suc, ◌+◌, List, [], ◌∷◌, ◌++◌, length, length-append, arith}
+use Rattle.std.proofs.Common.{map, true, false, inl, inr, ⊎_elim, ap, ◌∙◌, refl, eqb, if◌then◌else◌, eq-eqb}
 use Rattle.std.proofs.Common.{sym, subst, Option, Some}
 use mathlib.Core.List.{map-append}
 use Rattle.ll_turn.specs.Views.{without}
@@ -66,6 +67,7 @@ pub record Begun {N Of : Type 0} (pool : PoolSight) (problem : Option (PoolProbl
   pub end : first.mine.end ≡ pool.workers
   pub follow : Every (MayBegin pool problem) others
   pub numbers : without_all (map number_of others) first.given ≡ []
+  pub each : suc (length others) ≡ worker
 
 pub begun_more : {N Of : Type 0} (pool : PoolSight) (problem : Option (PoolProblem Of)) (seen : PoolData N Event) (worker : ℕ)
     (first left new : SeatSight N Of) (others more : List (SeatSight N Of)) → Begun pool problem seen worker first others
@@ -94,6 +96,7 @@ begun_more {N = N} {Of = Of} pool problem seen worker first left new others more
           ∙ (ap (λ l. without_all (map number_of others ++ number_of new ∷ []) l) (ap (λ (s : SeatSight N Of). s.given) k)
           ∙ (ap (λ m. without_all (map number_of others ++ m ∷ []) (worker ∷ first.given)) own
           ∙ given_and_back (map number_of others) worker first.given b.numbers)));
+      each = let m = ap length e in let n = length-append others (new ∷ []) in let k = b.each in omega arith;
     }
 
 -- the seats of the search of a problem may begin to work

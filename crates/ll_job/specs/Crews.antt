@@ -1,5 +1,5 @@
 -- The seats of a crew.
-use Rattle.std.specs.Prelude.{◌≡◌, ◌⊎◌, ℕ, List, [], ◌∷◌, Option, Some, None, map}
+use Rattle.std.specs.Prelude.{◌≡◌, ◌⊎◌, ℕ, suc, List, [], ◌∷◌, Option, Some, None, length, map}
 use Rattle.ll_turn.specs.Views.{without}
 use Rattle.ll_laws.specs.declared.Event.{Event}
 use Rattle.ll_laws.specs.Pool.{Owed}
@@ -32,7 +32,7 @@ abbrev pub without_all : List ℕ → List ℕ → List ℕ
 without_all [] xs = xs
 without_all (a ∷ rest) xs = without_all rest (without a xs)
 
--- a new pool with this root for so many workers, the seat of its first worker, and the seats of all others
+-- a new pool with this root for so many workers, the seat of its first worker, and the seats of all others: a seat for each worker
 pub record IsCrew {N Of : Type 0} (of : N → Of) (alternatives : N → List (Owed Event)) (root : N) (workers : ℕ) (pool : PoolSight)
     (first : SeatSight N Of) (others : List (SeatSight N Of)) : Type 0 where
   pub leads : MayBegin pool (Some (problem_of of alternatives root)) first
@@ -40,6 +40,7 @@ pub record IsCrew {N Of : Type 0} (of : N → Of) (alternatives : N → List (Ow
   pub seen : first.mine.seen ≡ opening root workers
   pub follow : Every (MayBegin pool (Some (problem_of of alternatives root))) others
   pub numbers : without_all (map number_of others) first.given ≡ []
+  pub each : suc (length others) ≡ workers
 
 -- seats after their work, in the same order
 abbrev pub EachWorked : List Sat → List Sat → Type 0

@@ -3,3 +3,4 @@ pub mod Alternatives
 pub mod Leading
 pub mod Turns
 pub mod Crews
+pub mod Offers

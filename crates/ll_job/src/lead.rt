@@ -1,5 +1,5 @@
 //! What worker 0 tells the outlet, a look at the pool, and the report of a piece.
-ghost use Rattle.std.specs.Prelude.{◌≡◌, None, IsSome, IsNone, IsSomeAnd, map, true, false};
+ghost use Rattle.std.specs.Prelude.{◌≡◌, ◌≤◌, None, IfSome, IsSome, IsNone, IsSomeAnd, map, true, false};
 ghost use Rattle.ll_laws.specs.Sound.{report_of};
 ghost use Rattle.ll_pool.specs.Turns.{HasQuit};
 ghost use Rattle.ll_job.specs.Seats.{IsSeat};
@@ -72,6 +72,7 @@ fn quit<R: Wait, N: Batch>(pool: &SharedPool<N>, rt: &R, seat: &mut Seat<N>, fau
     ensures same { (seat.new.table ≡ seat.old.table) × (seat.new.problem ≡ seat.old.problem) × (seat.new.mine.worker ≡ seat.old.mine.worker)
         × (seat.new.given ≡ seat.old.given) }
     ensures left { HasQuit seat.new.mine.seen }
+    ensures turns { seat.old.mine.turns ≤ seat.new.mine.turns }
 {
     match fault {
         OutFault::Write => pool.stop(rt, seat),
@@ -95,6 +96,7 @@ fn tell_all<'p, R: Wait, O: Outlet>(
         seat.old seat.new }
     ensures left { result ≡ false → Leaves (Stopped O.takes O.breaks O.welcome O.faults job.now.start.now.value job.now.problem.now out.new told.new)
         (WasRefused told.new) seat.old seat.new }
+    ensures turns { seat.old.mine.turns ≤ seat.new.mine.turns }
 {
     for _ in job.rt.forever() {
         let Ready::Events(report) = job.pool.ready(job.rt, seat) else {
@@ -133,6 +135,7 @@ pub fn tell<'p, R: Wait, O: Outlet>(
         seat.old seat.new }
     ensures left { result ≡ false → Leaves (Stopped O.takes O.breaks O.welcome O.faults job.now.start.now.value job.now.problem.now out.new told.new)
         (WasRefused told.new) seat.old seat.new }
+    ensures turns { seat.old.mine.turns ≤ seat.new.mine.turns }
 {
     if told.leads {
         return tell_all(job, seat, told, out);
@@ -153,6 +156,7 @@ pub fn look<'p, R: Wait, O: Outlet>(
     ensures leads { told.new.leads ≡ told.old.leads }
     ensures on { IsSome result → Goes (Stands O.takes O.breaks O.welcome O.faults job.now.start.now.value job.now.problem.now seat.new out.new told.new)
         seat.old seat.new }
+    ensures running { IfSome result (λ look. (look.starved ≡ false) × (look.stopped ≡ false)) }
     ensures left { IsNone result → Leaves (Stopped O.takes O.breaks O.welcome O.faults job.now.start.now.value job.now.problem.now out.new told.new)
         (WasRefused told.new) seat.old seat.new }
 {
@@ -186,6 +190,6 @@ pub fn report<'p, R: Wait, O: Outlet>(
         (WasRefused told.new) seat.old seat.new }
 {
     job.pool.report(job.rt, seat, Report { events, inferences });
-    job.bell.ring(job.rt, 0);
+    let _woken = job.bell.ring(job.rt, 0);
     tell(job, seat, told, out)
 }

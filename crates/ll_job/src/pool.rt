@@ -1,5 +1,5 @@
 //! The pool of a search: how it is made with the seats of its workers, and how it comes back.
-ghost use Rattle.std.specs.Prelude.{◌≡◌, ◌<◌, ◌≤◌, [], length, IfOk, map};
+ghost use Rattle.std.specs.Prelude.{◌≡◌, ◌<◌, ◌≤◌, [], suc, length, IfOk, map};
 ghost use Rattle.std.specs.Arc.{arc_value};
 ghost use Rattle.ll_laws.specs.CoreEvents.{opening as opens};
 ghost use Rattle.ll_laws.specs.Sound.{Every};
@@ -53,8 +53,10 @@ fn seats<N: Batch>(
 ) -> Result<Vec<Seat<N>>, OutOfMemory>
     requires own { MayBegin pool.now first.old.problem first.old × (first.old.given ≡ []) × (first.old.mine.worker ≡ 0) }
     requires range { (first.old.mine.from ≡ 1) × (first.old.mine.end ≡ pool.now.workers) }
+    requires some { 0 < pool.now.workers }
     ensures first { MayBegin pool.now first.old.problem first.new × (first.new.mine.worker ≡ 0) × (first.new.mine.seen ≡ first.old.mine.seen) }
     ensures ok { IfOk result (λ v. Every (MayBegin pool.now first.old.problem) v.items × (without_all (map number_of v.items) first.new.given ≡ [])) }
+    ensures each { IfOk result (λ v. suc (length v.items) ≡ pool.now.workers) }
 {
     let mut all = Vec::new(alloc);
     for worker in 1..pool.workers() {
@@ -103,6 +105,7 @@ pub fn crew_of<'p, E: Notice>(
     requires index { IsIndexOf problem.now (arc_value index) }
     ensures first { IfOk result (λ made. CanWork made.0 problem.entry.now made.1 × (made.1.mine.worker ≡ 0)
         × (without_all (map worker_of made.2.items) made.1.given ≡ [])) }
+    ensures each { IfOk result (λ made. suc (length made.2.items) ≡ workers) }
     ensures others { IfOk result (λ made. Every (CanWork made.0 problem.entry.now) made.2.items) }
     ensures seen { IfOk result (λ made. (base : Base) × (made.1.mine.seen ≡ opens (opening problem.entry.now base) workers)) }
 {

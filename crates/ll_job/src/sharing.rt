@@ -1,12 +1,14 @@
 //! How a batch comes to other workers.
-ghost use Rattle.std.specs.Prelude.{◌≡◌, ◌⊎◌, ◌+◌, ◌<◌, length, IfOk, IfSome, IfNone, IsSomeAnd, true, false};
+ghost use Rattle.std.specs.Prelude.{◌≡◌, ◌⊎◌, ◌+◌, ◌<◌, length, IfOk, IsSomeAnd, true, false};
 ghost use Rattle.std.specs.Arc.{arc_value};
 ghost use Rattle.ll_freeze.specs.Frozen.{alternatives_in};
 ghost use Rattle.ll_laws.specs.CoreEvents.{PublishAnswer, Publish, Does};
 ghost use Rattle.ll_pool.specs.Turns.{OneTurn, EndsWith, IsRest};
 ghost use Rattle.ll_job.specs.Seats.{IsSeat, Calm, HasNoPlace};
+ghost use Rattle.ll_job.specs.Offers.{IfTaken, IfBack};
 ghost use Rattle.ll_job.specs.declared.job.Sharing.{Sharing};
 
+use crate::heard::Woken;
 use crate::job::{Job, Sharing};
 use crate::offer::{Offer, shared};
 use ll_bank::OutOfMemory;
@@ -19,33 +21,41 @@ use std::alloc::AllocError;
 use std::sync::atomic::Ordering;
 use std::sync::{Arc, Wait};
 
-/// Publishes a batch that was split off a piece. It comes back where the pool has no place for it, and where workers search apart.
+/// What became of a batch that was to be published.
+#[derive(Drop)]
+pub enum Offered<'p> {
+    /// The pool has it, and these were woken.
+    Taken(Woken),
+    /// It came back.
+    Back(Arc<Frozen<'p>>),
+}
+
+/// Publishes a batch that was split off a piece, and wakes as many workers as it has alternatives. It comes back where the pool has no place
+/// for it, and where workers search apart.
 pub fn publish<'p, R: Wait, O: Outlet>(
     job: &Job<'_, 'p, R, O>,
     seat: &mut Seat<Offer<'p, O::Found>>,
     batch: Frozen<'p>,
-) -> Result<Option<Arc<Frozen<'p>>>, OutOfMemory>
+) -> Result<Offered<'p>, OutOfMemory>
     requires seat { IsSeat job.now.pool.now batch.problem seat.old }
     requires some { 0 < length (alternatives_in batch) }
     requires ends { IsSomeAnd seat.old.mine.piece (λ piece. EndsWith piece.owes (alternatives_in batch)) }
     ensures calm { Calm seat.old seat.new }
-    ensures rest { IfOk result (λ back. IfNone back (IsSomeAnd seat.old.mine.piece (λ whole. IsSomeAnd seat.new.mine.piece
+    ensures rest { IfOk result (λ offered. IfTaken offered (λ _. IsSomeAnd seat.old.mine.piece (λ whole. IsSomeAnd seat.new.mine.piece
         (λ rest. IsRest (alternatives_in batch.entry) whole rest)))) }
-    ensures back { IfOk result (λ back. IfSome back (λ same. (arc_value same ≡ batch.entry) × (seat.new.mine.piece ≡ seat.old.mine.piece))) }
-    ensures back_only { IfOk result (λ back. IfSome back (λ _. (job.now.sharing ≡ Sharing.Apart) ⊎ HasNoPlace batch.entry seat.new)) }
+    ensures woken { IfOk result (λ offered. IfTaken offered (λ others. others ≡ length (alternatives_in batch.entry))) }
+    ensures back { IfOk result (λ offered. IfBack offered (λ same. (arc_value same ≡ batch.entry) × (seat.new.mine.piece ≡ seat.old.mine.piece))) }
+    ensures back_only { IfOk result (λ offered. IfBack offered (λ _. (job.now.sharing ≡ Sharing.Apart) ⊎ HasNoPlace batch.entry seat.new)) }
 {
     let alternatives = batch.len();
     let choice = shared(job.alloc, batch)?;
     if let Sharing::Apart = job.sharing {
         job.came_back.fetch_add(1, Ordering::Relaxed);
-        return Ok(Some(choice));
+        return Ok(Offered::Back(choice));
     }
     match offer(job, seat, &choice) {
-        Ok(true) => {
-            job.bell.ring(job.rt, alternatives);
-            Ok(None)
-        }
-        Ok(false) => Ok(Some(choice)),
+        Ok(true) => Ok(Offered::Taken(job.bell.ring(job.rt, alternatives))),
+        Ok(false) => Ok(Offered::Back(choice)),
         Err(refused) => Err(refused),
     }
 }

@@ -4,7 +4,7 @@ use Rattle.std.proofs.Common.{sym, subst, arith}
 use Rattle.ll_engine.specs.Splits.{SplitsTo}
 use Rattle.ll_job.specs.Seats.{IsSeat}
 use Rattle.ll_job.proofs.CallerLemmas.{calm_itself}
-use Rattle.ll_crew.proofs.Arms.{some_of, none_of}
+use Rattle.ll_crew.proofs.Arms.{taken_of, back_of}
 use Rattle.ll_crew.proofs.Sharing.{split_some, ends_for, shared_after, back_after}
 use Rattle.ll_crew.proofs.piece.share_oldest.Goals as goal
 use Rattle.ll_crew.proofs.piece.share_oldest.Goals.{In-Some}
@@ -26,21 +26,21 @@ publish-requires-clause-ends g c κs within =
     ends_for (map g.O.Found.Notice.stands_for c.args.events.now.items) c.args.engine.now c.split_oldest.new.self c.in-Some.batch
     (splits g (goal.at.publish-requires-clause-ends g c).In-Some) c.args.seat.now.mine.piece c.requires.owes
 
-pub returns-in-None-clause-owes : goal.returns-in-None-clause-owes
-returns-in-None-clause-owes g c =
-    let split = splits g (goal.at.returns-in-None-clause-owes g c).In-Some in
+pub returns-in-Taken-clause-owes : goal.returns-in-Taken-clause-owes
+returns-in-Taken-clause-owes g c =
+    let split = splits g (goal.at.returns-in-Taken-clause-owes g c).In-Some in
     let fewer = split.points in (
       shared_after (map g.O.Found.Notice.stands_for c.args.events.now.items) c.args.engine.now c.split_oldest.new.self c.in-Some.batch split
           c.args.seat.now.mine.piece c.publish.new.seat.mine.piece c.requires.owes
-          (none_of c.in_ok-publish.field-0 c.in-None.is c.in_ok-publish.ensures.rest),
+          (taken_of _ c.in_ok-publish.field-0 c.in-Taken.field-0 c.in-Taken.is c.in_ok-publish.ensures.rest),
       omega arith,
     )
 
-pub returns-in-Some-2-clause-owes : goal.returns-in-Some-2-clause-owes
-returns-in-Some-2-clause-owes g c =
-    let back = some_of _ c.in_ok-publish.field-0 c.in-Some-2.batch c.in-Some-2.is c.in_ok-publish.ensures.back in
+pub returns-in-Back-clause-owes : goal.returns-in-Back-clause-owes
+returns-in-Back-clause-owes g c =
+    let back = back_of _ c.in_ok-publish.field-0 c.in-Back.batch c.in-Back.is c.in_ok-publish.ensures.back in
     back_after (map g.O.Found.Notice.stands_for c.args.events.now.items) c.args.engine.now c.split_oldest.new.self c.in-Some.batch
-    (splits g (goal.at.returns-in-Some-2-clause-owes g c).In-Some) c.args.seat.now.mine.piece c.publish.new.seat.mine.piece c.in-Some-2.batch
+    (splits g (goal.at.returns-in-Back-clause-owes g c).In-Some) c.args.seat.now.mine.piece c.publish.new.seat.mine.piece c.in-Back.batch
     c.requires.owes back.1 back.0
 
 pub returns-in_err-batch-clause-calm : goal.returns-in_err-batch-clause-calm

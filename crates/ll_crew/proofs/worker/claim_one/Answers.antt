@@ -1,9 +1,11 @@
-use Rattle.std.proofs.Common.{◌∙◌, refl}
+use Rattle.std.proofs.Common.{◌∙◌, refl, arith}
 use Rattle.std.proofs.lemmas.Result.{IfOk-from_err}
 use Rattle.ll_lists.proofs.CallerLemmas.{OnErr-always}
 use Rattle.ll_core.specs.declared.answers.Claimed.TheVariants as claims
 use Rattle.ll_job.specs.Leading.{Stands, Stopped, WasRefused}
-use Rattle.ll_job.proofs.CallerLemmas.{seat_on, calm_claim, stays_goes, stays_on, stays_out}
+use Rattle.ll_freeze.specs.Frozen.{alternatives_in}
+use Rattle.ll_job.specs.Seats.{of_batch}
+use Rattle.ll_job.proofs.CallerLemmas.{turn_counted, seat_on, calm_claim, stays_goes, stays_on, stays_out}
 use Rattle.ll_job.proofs.CallerLemmas.{claim_stands, claim_stays, claim_ended, claim_starved, claim_stopped}
 use Rattle.ll_crew.proofs.worker.claim_one.Goals as goal
 
@@ -178,3 +180,11 @@ tell-requires-clause-seat g c κs within =
     let can = c.requires.seat in
     let calm = calm_claim (claims.Idle c.in-Idle.busy) c.args.seat.now c.claim.new.seat c.in-Idle.ensures.turn in
     seat_on c.args.job.now.pool.now c.args.job.now.problem.now c.args.seat.now c.claim.new.seat calm.same can.seat
+
+pub returns-in_err-work_piece-in-Work-clause-turns : goal.returns-in_err-work_piece-in-Work-clause-turns
+returns-in_err-work_piece-in-Work-clause-turns g c = IfOk-from_err c.from_residual.result _ c.from_residual.ensures.0
+
+pub returns-then-tell-clause-turns : goal.returns-then-tell-clause-turns
+returns-then-tell-clause-turns g c =
+    let n = turn_counted of_batch alternatives_in _ c.args.seat.now c.claim.new.seat c.in-Idle.ensures.turn in
+    let told = c.tell.ensures.turns in omega arith

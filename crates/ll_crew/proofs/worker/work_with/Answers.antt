@@ -17,8 +17,8 @@ returns-in_err-claim_one-clause-failed g c =
     (Stands g.O.Outlet.takes g.O.Outlet.breaks g.O.Outlet.welcome g.O.Outlet.faults c.args.job.now.start.now.value c.args.job.now.problem.now
     c.claim_one.new.seat c.claim_one.new.out c.claim_one.new.told) c.args.seat.now c.claims.seat c.claim_one.new.seat i.1 c.in_err-claim_one.ensures.failed)
 
-pub claims-preserved-in-Worked : goal.claims-preserved-in-Worked
-claims-preserved-in-Worked g c =
+pub claims-preserved-in-Worked-1 : goal.claims-preserved-in-Worked-1
+claims-preserved-in-Worked-1 g c =
     let i = c.claims.invariant in
     let w = went_as (Stands g.O.Outlet.takes g.O.Outlet.breaks g.O.Outlet.welcome g.O.Outlet.faults c.args.job.now.start.now.value c.args.job.now.problem.now
     c.claim_one.new.seat c.claim_one.new.out c.claim_one.new.told)

@@ -1,4 +1,4 @@
-use Rattle.std.proofs.Common.{sym, refl, ◌∙◌}
+use Rattle.std.proofs.Common.{sym, refl, ◌∙◌, le_refl}
 use Rattle.std.proofs.lemmas.Bool.{false≢true}
 use Rattle.ll_job.proofs.lead.tell.Goals as goal
 
@@ -16,3 +16,9 @@ returns-clause-leads g c = refl
 
 pub returns-clause-left : goal.returns-clause-left
 returns-clause-left g c = λ e. absurd (false≢true (sym e))
+
+pub returns-then-told-clause-turns : goal.returns-then-told-clause-turns
+returns-then-told-clause-turns g c = c.tell_all.ensures.turns
+
+pub returns-clause-turns : goal.returns-clause-turns
+returns-clause-turns g c = le_refl c.args.seat.now.mine.turns

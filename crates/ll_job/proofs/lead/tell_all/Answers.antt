@@ -1,7 +1,10 @@
 use Rattle.std.specs.Prelude.{map}
-use Rattle.std.proofs.Common.{ap, refl, Err}
+use Rattle.std.proofs.Common.{ap, refl, Err, le_refl, arith}
 use Rattle.ll_laws.specs.declared.Event.{Event}
 use Rattle.ll_laws.specs.Pool.{Owed}
+use Rattle.ll_freeze.specs.Frozen.{alternatives_in}
+use Rattle.ll_job.specs.Seats.{of_batch}
+use Rattle.ll_job.proofs.Calms.{turn_counted}
 use Rattle.ll_job.proofs.Leadings.{calm_ready}
 use Rattle.ll_job.proofs.Goings.{goes_calm, told_welcome, told_more, told_refused}
 use Rattle.ll_job.proofs.lead.tell_all.Goals as goal
@@ -15,6 +18,7 @@ loop-init g c = (
     quit = refl;
     stands = c.requires.stands;
   },
+  le_refl c.args.seat.now.mine.turns,
 )
 
 pub returns-in_default : goal.returns-in_default
@@ -26,6 +30,7 @@ returns-in_default g c =
           c.args.seat.now c.loop.seat c.ready.new.seat c.loop.out c.loop.told c.requires.seat.problem i.1
           (calm_ready c.ready.result c.in_default.not-Events c.loop.seat c.ready.new.seat c.ready.ensures.turn) c.ready.ensures.owes;
       left = λ f. absurd (cc);
+      turns = let n = turn_counted of_batch alternatives_in _ c.loop.seat c.ready.new.seat c.ready.ensures.turn in let before = i.2 in omega arith;
     }
 
 pub give-requires-clause-welcome : goal.give-requires-clause-welcome
@@ -50,6 +55,7 @@ loop-preserved g c =
           c.requires.seat.problem i.0 i.1
           (record { answers = c.in-Ok.counts.answers; reached = c.in-Ok.counts.reached; inferences = c.saturating_add-inferences.result })
           c.in-Events.ensures.owes ok.given ok.answers ok.reached c.saturating_add-inferences.ensures ok.faults_kept ok.welcome_kept,
+      let n = turn_counted of_batch alternatives_in _ c.loop.seat c.ready.new.seat c.in-Events.ensures.turn in let before = i.2 in omega arith,
     )
 
 pub returns-in-Err-clause-leads : goal.returns-in-Err-clause-leads
@@ -66,3 +72,9 @@ returns-in-Err-clause-left g c = λ f.
     i.1
     c.in-Err.fault c.quit.new.seat err.refused (λ e. err.write (ap Err e)) err.faults_kept err.welcome_kept
     (record { table = same.0; problem = same.1; worker = same.2; given = same.3 }) c.quit.ensures.left
+
+pub returns-in-Err-clause-turns : goal.returns-in-Err-clause-turns
+returns-in-Err-clause-turns g c =
+    let i = c.loop.invariant in
+    let n = turn_counted of_batch alternatives_in _ c.loop.seat c.ready.new.seat c.in-Events.ensures.turn in
+    let before = i.2 in let quit = c.quit.ensures.turns in omega arith

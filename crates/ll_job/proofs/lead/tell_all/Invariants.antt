@@ -1,4 +1,4 @@
-use Rattle.std.proofs.Common.{◌≡◌, true}
+use Rattle.std.proofs.Common.{◌≡◌, ◌≤◌, true}
 use Rattle.ll_job.specs.Turns.{Goes}
 use Rattle.ll_job.specs.Leading.{Stands}
 use Rattle.ll_job.proofs.lead.tell_all.Given as goal
@@ -8,3 +8,4 @@ invariant-loop g l =
     (l.told.leads ≡ true)
     × Goes (Stands g.O.Outlet.takes g.O.Outlet.breaks g.O.Outlet.welcome g.O.Outlet.faults l.job.start.now.value l.job.problem.now l.seat l.out l.told)
     l.initial.seat l.seat
+    × (l.initial.seat.mine.turns ≤ l.seat.mine.turns)

@@ -38,3 +38,9 @@ returns-in_err-root-clause-others g c = IfOk-from_err c.from_residual.result _ c
 
 pub returns-in_err-root-clause-seen : goal.returns-in_err-root-clause-seen
 returns-in_err-root-clause-seen g c = IfOk-from_err c.from_residual.result _ c.from_residual.ensures.0
+
+pub returns-clause-each : goal.returns-clause-each
+returns-clause-each g c = IfOk-weaker c.crew_from.result _ _ (λ made crew. crew.each) c.crew_from.ensures
+
+pub returns-in_err-root-clause-each : goal.returns-in_err-root-clause-each
+returns-in_err-root-clause-each g c = IfOk-from_err c.from_residual.result _ c.from_residual.ensures.0

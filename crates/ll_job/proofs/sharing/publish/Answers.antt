@@ -1,6 +1,6 @@
 use Rattle.std.proofs.lemmas.Result.{IfOk-from_err}
 use Rattle.ll_job.proofs.Calms.{calm_itself}
-use Rattle.std.proofs.Common.{refl, subst, inl, inr, IsSomeAnd, sym, length, ◌<◌}
+use Rattle.std.proofs.Common.{refl, subst, inl, inr, IsSomeAnd, sym, length, ◌<◌, ◌∙◌}
 use Rattle.ll_pool.specs.declared.data.OpenPiece.{OpenPiece}
 use Rattle.ll_pool.specs.Turns.{IsRest}
 use Rattle.ll_freeze.specs.Frozen.{FrozenSight, alternatives_in}
@@ -39,6 +39,7 @@ returns-in-Ok-true g c = record {
   rest = subst (λ (b : FrozenSight). IsSomeAnd c.args.seat.now.mine.piece (λ (whole : OpenPiece).
       IsSomeAnd c.offer.new.seat.mine.piece (λ (rest : OpenPiece). IsRest (alternatives_in b) whole rest)))
       c.in_ok-choice.ensures (c.in-Ok-true.ensures.rest c.in-Ok-true.field-0-test);
+  woken = c.ring.ensures ∙ (c.len-alternatives.ensures);
   back = tt;
   back_only = tt;
 }
@@ -49,12 +50,13 @@ returns-in-Ok-false g c =
     record {
       calm = c.offer.ensures.calm;
       rest = tt;
+      woken = tt;
       back = (c.in_ok-choice.ensures, full.1);
       back_only = inr (subst (λ (b : FrozenSight). HasNoPlace b c.offer.new.seat) c.in_ok-choice.ensures full.0);
     }
 
 pub returns : goal.returns
-returns g c = record { calm = c.offer.ensures.calm; rest = tt; back = tt; back_only = tt }
+returns g c = record { calm = c.offer.ensures.calm; rest = tt; woken = tt; back = tt; back_only = tt }
 
 pub offer-requires-clause-seat : goal.offer-requires-clause-seat
 offer-requires-clause-seat g c κs within =

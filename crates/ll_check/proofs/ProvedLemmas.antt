@@ -15,7 +15,7 @@ use Rattle.ll_check.specs.declared.finding.Finding.{Finding}
 use Rattle.ll_check.specs.Endings.{status_of_finding, finding_text, ComesToFinding}
 use Rattle.ll_check.specs.Outcome.{CheckGives, CheckComesTo, shown, refuted, covered, too_long, counting, check_failed, IsProved}
 
-cause-not-zero : (cause : Cause) → cause_status cause ≡ 0 → ⊥
+pub cause-not-zero : (cause : Cause) → cause_status cause ≡ 0 → ⊥
 cause-not-zero (Usage number) e = omega (arith, e)
 cause-not-zero (Absent name) e = omega (arith, e)
 cause-not-zero (Unreadable name) e = omega (arith, e)

@@ -1,6 +1,10 @@
--- Whether clauses have a fault does not hang on the places of their tokens.
-use Rattle.std.proofs.Common.{◌≡◌, ℕ, suc, Bool, true, false, List, [], ◌∷◌, ◌++◌, map, length, Option, Some, None, refl, ap, ◌∙◌, sym, length-append, arith}
-use Rattle.std.specs.Prelude.{nat_eq, find}
+-- What is visible in a module, and whether a program has a fault, does not hang on the places of tokens.
+use Rattle.std.proofs.Common.{◌≡◌, ℕ, suc, Bool, true, false, List, [], ◌∷◌, ◌++◌, map, reverse, length, Option, Some, None, refl, ap}
+use Rattle.std.proofs.Common.{◌∙◌, sym, length-append, arith}
+use Rattle.std.specs.Prelude.{nat_eq, find, if◌then◌else◌}
+use Rattle.std.specs.List.{list_any}
+use Rattle.std.specs.Str.{bytes_eq}
+use Rattle.std.proofs.lemmas.List.{map-append, length-map, reverse-append}
 use Rattle.ll_lexer.specs.declared.Place.{Place}
 use Rattle.ll_lexer.specs.declared.Fault.{Fault}
 use Rattle.ll_laws.specs.Valid.{Side, ClauseSide}
@@ -8,9 +12,43 @@ use Rattle.ll_parser.specs.Tokens.{Identifier}
 use Rattle.ll_parser.specs.Raw.{Raw, truth, erasure, braces, universal, existential, load, binary, is_goal, less_goal, most_goal, head, anything, int, RawList}
 use Rattle.ll_parser.specs.Raw.{none, more, ClauseTree, ModuleTree, ProgramTree}
 use Rattle.ll_parser.specs.Bare.{nowhere, bare_identifier, bare_raw, bare_raws, bare_clause, bare_module, bare_program}
-use Rattle.ll_polarity.specs.Scope.{Scope, binds, meaning}
+use Rattle.ll_polarity.specs.Scope.{Scope, binds, declares, module_scope, meaning}
 use Rattle.ll_polarity.specs.Faults.{unless, may_be_head, count, is_named, number_faults, applied_fault, term_faults, terms_faults, on_goal_side, left_side}
-use Rattle.ll_polarity.specs.Faults.{right_side, may_join, Heading, load_fault, form_faults, clauses_faults, program_faults}
+use Rattle.ll_polarity.specs.Faults.{right_side, may_join, Heading, load_fault, form_faults, clauses_faults, repeated, modules_faults, heading, program_faults}
+
+-- ---- names, and what is made of them
+
+turned-map : {A B : Type 0} (f : A → B) (xs : List A) → reverse (map f xs) ≡ map f (reverse xs)
+turned-map f [] = refl
+turned-map f (x ∷ xs) =
+    reverse-append (f x ∷ []) (map f xs) ∙ (ap (λ z. z ++ f x ∷ []) (turned-map f xs) ∙ (sym (map-append f (reverse xs) (x ∷ []))
+    ∙ ap (map f) (sym (reverse-append (x ∷ []) xs))))
+
+-- what is made of texts alone is made of the bare names too
+of-names : {B : Type 0} (f : Identifier → B) → ((n : Identifier) → f (bare_identifier n) ≡ f n) → (ns : List Identifier)
+    → map f (reverse (map bare_identifier ns)) ≡ map f (reverse ns)
+of-names f e ns = ap (map f) (turned-map bare_identifier ns) ∙ each (reverse ns)
+  where
+    each : (ns : List Identifier) → map f (map bare_identifier ns) ≡ map f ns
+    each [] = refl
+    each (n ∷ ns) = ap (λ z. z ∷ map f (map bare_identifier ns)) (e n) ∙ ap (λ z. f n ∷ z) (each ns)
+
+-- what is visible in a module
+pub scope-bare : (m : ModuleTree) → module_scope (bare_module m) ≡ module_scope m
+scope-bare m =
+    let p = of-names (λ n. binds n.text) (λ n. refl) m.params in
+    let l = of-names (λ n. declares n.text) (λ n. refl) m.locals in
+    ap (λ z. z ++ map (λ n. declares n.text) (reverse (map bare_identifier m.locals))) p
+    ∙ ap (λ z. map (λ n. binds n.text) (reverse m.params) ++ z) l
+
+-- and the headings of modules
+pub headings-bare : (ms : List ModuleTree) → map heading (map bare_module ms) ≡ map heading ms
+headings-bare [] = refl
+headings-bare (m ∷ ms) =
+    ap (λ n. let h : Heading = record { name = m.name.text; params = n } in h ∷ map heading (map bare_module ms)) (length-map m.params bare_identifier)
+    ∙ ap (λ z. heading m ∷ z) (headings-bare ms)
+
+-- ---- faults
 
 -- as many faults
 abbrev Same : List Fault → List Fault → Type 0
@@ -114,26 +152,54 @@ module _ (ms : List Heading) where
       (clauses_faults ms scope cs)
       (form-same ClauseSide scope c.form) (clauses-same scope cs)
 
--- ---- programs without modules
+  twice-same : (b : Bool) (at place : Place)
+      → Same (if b then record { at = at; kind = 12 } ∷ [] else []) (if b then record { at = place; kind = 12 } ∷ [] else [])
+  twice-same true at place = refl
+  twice-same false at place = refl
 
-no-module : (ms : List ModuleTree) → map bare_module ms ≡ [] → ms ≡ []
-no-module [] e = refl
-no-module (m ∷ ms) e = absurd cc
+  repeated-same : (earlier : List (List ℕ)) (ns : List Identifier) → Same (repeated earlier (map bare_identifier ns)) (repeated earlier ns)
+  repeated-same earlier [] = refl
+  repeated-same earlier (n ∷ ns) =
+      let b = list_any (bytes_eq n.text) earlier in
+      joined (if b then record { at = nowhere; kind = 12 } ∷ [] else []) (if b then record { at = n.at; kind = 12 } ∷ [] else [])
+      (repeated (n.text ∷ earlier) (map bare_identifier ns)) (repeated (n.text ∷ earlier) ns) (twice-same b nowhere n.at)
+      (repeated-same (n.text ∷ earlier) ns)
 
-none-left : (fs : List Fault) → length fs ≡ 0 → fs ≡ []
-none-left [] e = refl
-none-left (f ∷ fs) e = absurd (omega arith)
+  modules-same : (earlier : List (List ℕ)) (rest : List ModuleTree) → Same (modules_faults ms earlier (map bare_module rest)) (modules_faults ms earlier rest)
+  modules-same earlier [] = refl
+  modules-same earlier (m ∷ rest) =
+      let b = list_any (bytes_eq m.name.text) earlier in
+      let params = map bare_identifier m.params in
+      let locals = map bare_identifier m.locals in
+      let own = clauses_faults ms (module_scope (bare_module m)) (map bare_clause m.clauses) in
+      let others = modules_faults ms (m.name.text ∷ earlier) (map bare_module rest) in
+      let ns : Same (repeated [] (params ++ locals)) (repeated [] (m.params ++ m.locals)) =
+      ap (λ z. length (repeated [] z)) (sym (map-append bare_identifier m.params m.locals)) ∙ repeated-same [] (m.params ++ m.locals) in
+      let cs : Same own (clauses_faults ms (module_scope m) m.clauses) =
+      ap (λ z. length (clauses_faults ms z (map bare_clause m.clauses))) (scope-bare m) ∙ clauses-same (module_scope m) m.clauses in
+      let names = repeated [] (params ++ locals) in
+      let twice = if b then record { at = nowhere; kind = 12 } ∷ [] else [] in
+      let old = if b then record { at = m.name.at; kind = 12 } ∷ [] else [] in
+      let old_names = repeated [] (m.params ++ m.locals) in
+      let old_own = clauses_faults ms (module_scope m) m.clauses in
+      joined (twice ++ names ++ own) (old ++ old_names ++ old_own) others (modules_faults ms (m.name.text ∷ earlier) rest)
+      (joined-three twice old names old_names own old_own (twice-same b nowhere m.name.at) ns cs)
+      (modules-same (m.name.text ∷ earlier) rest)
 
--- clauses that are the same, places aside, as ones without a fault have none
-still-none : (cs ds : List ClauseTree) → map bare_clause ds ≡ map bare_clause cs → clauses_faults [] [] cs ≡ [] → clauses_faults [] [] ds ≡ []
-still-none cs ds e clean =
-    none-left (clauses_faults [] [] ds)
-    (sym (clauses-same [] [] ds) ∙ (ap (λ bs. length (clauses_faults [] [] bs)) e ∙ (clauses-same [] [] cs ∙ ap length clean)))
+-- a program has as many faults without its places
+program-same : (p : ProgramTree) → Same (program_faults (bare_program p)) (program_faults p)
+program-same p =
+    let ms = map heading p.modules in
+    let all : List Heading → List Fault = λ z. clauses_faults z [] (map bare_clause p.clauses) ++ modules_faults z [] (map bare_module p.modules) in
+    ap (λ z. length (all z)) (headings-bare p.modules)
+    ∙ joined (clauses_faults ms [] (map bare_clause p.clauses)) (clauses_faults ms [] p.clauses) (modules_faults ms [] (map bare_module p.modules))
+    (modules_faults ms [] p.modules) (clauses-same ms [] p.clauses) (modules-same ms [] p.modules)
 
--- so it is for programs without modules
-pub aside-faultless : (cs : List ClauseTree) (q : ProgramTree) → bare_program q ≡ bare_program (record { clauses = cs; modules = [] })
-    → clauses_faults [] [] cs ≡ [] → program_faults q ≡ []
-aside-faultless cs q e clean =
-    let modules : q.modules ≡ [] = no-module q.modules (ap (λ t. t.modules) e) in
-    let clauses = still-none cs q.clauses (ap (λ t. t.clauses) e) clean in
-    ap (λ ms. program_faults (record { clauses = q.clauses; modules = ms })) modules ∙ (ap (λ fs. fs ++ []) clauses)
+-- so one that is the same, places aside, as one without a fault has none
+pub faultless-aside : (p q : ProgramTree) → bare_program q ≡ bare_program p → program_faults p ≡ [] → program_faults q ≡ []
+faultless-aside p q e clean =
+    none (program_faults q) (sym (program-same q) ∙ (ap (λ b. length (program_faults b)) e ∙ (program-same p ∙ ap length clean)))
+  where
+    none : (fs : List Fault) → length fs ≡ 0 → fs ≡ []
+    none [] n = refl
+    none (f ∷ fs) n = absurd (omega (arith, n))

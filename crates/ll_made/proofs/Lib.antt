@@ -1,3 +1,4 @@
+pub mod CallerLemmas
 pub mod Names
 pub mod Opened
 pub mod Aside

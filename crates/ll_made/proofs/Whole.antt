@@ -1,5 +1,5 @@
 -- A text that is printed of a program without modules and without a fault is a program without a fault.
-use Rattle.std.proofs.Common.{◌≡◌, ◌≤◌, ℕ, List, [], length, map, refl, ◌∙◌}
+use Rattle.std.proofs.Common.{◌≡◌, ◌≤◌, ◌++◌, ℕ, List, [], length, map, refl, ap, ◌∙◌}
 use Rattle.std.specs.List.{AllByRecursion}
 use Rattle.std.proofs.lemmas.List.Elements.{All-from_recursion}
 use Rattle.ll_lexer.specs.Reading.{LexedText, IsLexed}
@@ -12,7 +12,7 @@ use Rattle.ll_parser.specs.Bare.{bare_program}
 use Rattle.ll_polarity.specs.Faults.{clauses_faults}
 use Rattle.ll_made.specs.Faultless.{IsFaultlessProgram}
 use Rattle.ll_made.proofs.Opened.{opened, few-within}
-use Rattle.ll_made.proofs.Aside.{aside-faultless}
+use Rattle.ll_made.proofs.Aside.{faultless-aside}
 
 -- these clauses alone are printed as this text, can stand in one, and have no fault
 pub record AreClausesOf (clauses : List Clause) (text : List ℕ) : Type 0 where
@@ -41,6 +41,5 @@ clauses-read law clauses text h =
       is_lexed = r.2;
       tree = r.3;
       reads = r.4;
-      faultless =
-          aside-faultless (map clause_tree clauses) r.3 r.5 h.faultless;
+      faultless = faultless-aside (program_tree p) r.3 r.5 (ap (λ fs. fs ++ []) h.faultless);
     }

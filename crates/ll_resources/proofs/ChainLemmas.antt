@@ -22,6 +22,7 @@ use Rattle.ll_resources.specs.Chains.{key_at, linear_at, under_at, mark_of, want
 use Rattle.ll_resources.proofs.SeenLemmas.{reverse-push, front-last, reverse-front, reverse-rest, reverse-set}
 use Rattle.ll_resources.proofs.RawLemmas.{HasWithin, IsWell, later-same, within-kept, within-remarked}
 use Rattle.ll_resources.proofs.KeptLemmas.{block-new}
+use Rattle.ll_resources.proofs.MarkLemmas.{get-filled}
 
 -- ---- fields of entries at their places
 
@@ -124,13 +125,6 @@ set-false (b ∷ bs) (suc f) (suc k) h = set-false bs f k h
 mark-picked : (live : List Bool) (n f i : ℕ) → mark_of n live i ≡ false → mark_of n (set live (mark_slot (length live) f) false) i ≡ false
 mark-picked live n f i h = ap (λ xs. get_or xs (n - 1 - i) false) (reverse-set live f false) ∙ set-false (reverse live) f (n - 1 - i) h
 
-filled-at : (n : ℕ) (bs : List Bool) (k : ℕ) → k < n → get_or (filled n bs) k false ≡ get_or bs k false
-filled-at zero bs k l = absurd (omega (arith, l))
-filled-at (suc n) [] zero l = refl
-filled-at (suc n) [] (suc k) l = filled-at n [] k (omega (arith, l))
-filled-at (suc n) (b ∷ bs) zero l = refl
-filled-at (suc n) (b ∷ bs) (suc k) l = filled-at n bs k (omega (arith, l))
-
 both-false : (xs ys : List Bool) (k : ℕ) → get_or ys k false ≡ false → get_or (both_live xs ys) k false ≡ false
 both-false [] ys k h = refl
 both-false (x ∷ xs) [] k h = refl
@@ -143,9 +137,9 @@ mark-both : (new other old : List Bool) (n i : ℕ) → i < n → filled n (reve
     → mark_of n old i ≡ false → mark_of n new i ≡ false
 mark-both new other old n i l e h =
     let k : n - 1 - i < n = omega (arith, l) in
-    sym (filled-at n (reverse new) (n - 1 - i) k)
+    sym (get-filled n (reverse new) (n - 1 - i) k)
     ∙ (ap (λ xs. get_or xs (n - 1 - i) false) e
-    ∙ both-false (filled n (reverse other)) (filled n (reverse old)) (n - 1 - i) (filled-at n (reverse old) (n - 1 - i) k ∙ h))
+    ∙ both-false (filled n (reverse other)) (filled n (reverse old)) (n - 1 - i) (get-filled n (reverse old) (n - 1 - i) k ∙ h))
 
 -- ---- tests
 

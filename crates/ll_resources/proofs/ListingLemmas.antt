@@ -2,8 +2,9 @@
 use Rattle.std.proofs.Common.{◌≡◌, ℕ, zero, suc, ◌+◌, ◌-◌, ◌<◌, ◌≤◌, Bool, true, false, ◌||◌, ◌&&◌, not, List, [], ◌∷◌, length, map, get_or, drop}
 use Rattle.std.proofs.Common.{refl, ap, sym, subst, ◌∙◌, inl, inr, arith, ◌⊎◌}
 use Rattle.std.specs.Prelude.{reverse, nat_lt, Option, Some, None, if◌then◌else◌, slice_get, min}
-use Rattle.std.proofs.lemmas.Bool.{cases_lt, eqb-true, eq-eqb, ltb-true, ltb-false, lt-ltb, false≢true, and_parts}
+use Rattle.std.proofs.lemmas.Bool.{cases_lt, eqb-true, eq-eqb, ltb-true, ltb-false, lt-ltb, false≢true, and_parts, and_from, or_left, or_right}
 use Rattle.std.proofs.lemmas.List.{length-map, length-reverse, get_or-map, get_or_past, get_or-drop, get_or-reverse}
+use Rattle.std.proofs.Math.Bool.{and-false}
 use Rattle.ll_laws.specs.Attempt.{is_linear, is_open}
 use Rattle.ll_laws.specs.Settle.{Entry as Resource, has_live}
 use Rattle.ll_resources.specs.declared.keyed.Keyed.{Keyed}
@@ -13,6 +14,7 @@ use Rattle.ll_resources.specs.Keys.{has_key, is_found, open_found, comes, open_c
 use Rattle.ll_resources.specs.Raw.{Raw, shown}
 use Rattle.ll_resources.specs.Chains.{key_at, linear_at, past_at, under_at, mark_of, open_at, wanted, IsChained, IsNewestOpen}
 use Rattle.ll_resources.proofs.SeenLemmas.{seen-first, length-seen, get-seen}
+use Rattle.ll_resources.proofs.RawLemmas.{keys_of}
 
 -- ---- tests
 
@@ -43,18 +45,6 @@ not_both : (a o : Bool) → (a ≡ true → o ≡ false) → (a && o) ≡ false
 not_both true o h = h refl
 not_both false o h = refl
 
-and_true : (a b : Bool) → a ≡ true → b ≡ true → (a && b) ≡ true
-and_true true b e h = h
-and_true false b e h = absurd (false≢true e)
-
-or_left : (a b : Bool) → a ≡ true → (a || b) ≡ true
-or_left true b e = refl
-or_left false b e = absurd (false≢true e)
-
-or_right : (a b : Bool) → b ≡ true → (a || b) ≡ true
-or_right true b e = refl
-or_right false b e = e
-
 closed_is : (l m : Bool) → l ≡ true → m ≡ false → (not l || m) ≡ false
 closed_is true m e h = h
 closed_is false m e h = absurd (false≢true e)
@@ -79,7 +69,7 @@ module _ {C : Type 0} where
       get_or-map (λ (x : Stored C). x.key) r.entries i s None l ∙ (ap (λ (x : Stored C). x.key) (sym e) ∙ has-is key s.key h)
 
   pub is-wanted : (r : Raw C) (key i : ℕ) → key_at r.entries i ≡ Some key → open_at r i ≡ true → wanted r key i ≡ true
-  is-wanted r key i k o = and_true (has_key key (key_at r.entries i)) (open_at r i) (ap (has_key key) k ∙ eq-eqb key key refl) o
+  is-wanted r key i k o = and_from (has_key key (key_at r.entries i)) (open_at r i) (ap (has_key key) k ∙ eq-eqb key key refl) o
 
   pub not-wanted : (r : Raw C) (key i : ℕ) → open_at r i ≡ false → wanted r key i ≡ false
   not-wanted r key i o = not_both (has_key key (key_at r.entries i)) (open_at r i) (λ h. o)
@@ -101,9 +91,6 @@ module _ {C : Type 0} where
       h ∙ (λ i. if r.skips then (sym p) i else (sym u) i)
 
   -- ---- lists of entries, the newest in front
-
-  abbrev keys_of : List (Stored C) → List (Option ℕ)
-  keys_of ss = map (λ (s : Stored C). s.key) ss
 
   abbrev open_in : List (Stored C) → List Bool → ℕ → Bool
   open_in ss bs j = not (get_or (map (λ (s : Stored C). is_linear s.kind) ss) j true) || get_or bs j false
@@ -282,23 +269,19 @@ module _ {C : Type 0} where
 
 -- ---- parts of tests
 
-and_false : (w : Bool) → (w && false) ≡ false
-and_false true = refl
-and_false false = refl
-
 half : (w : Bool) (p n : ℕ) → (p < n → w ≡ false) → (w && nat_lt p n) ≡ false
 half w p n h = step (nat_lt p n) refl
   where
     step : (b : Bool) → nat_lt p n ≡ b → (w && b) ≡ false
     step true e = ap (λ x. x && true) (h (ltb-true p n e))
-    step false e = and_false w
+    step false e = and-false w
 
 same_half : (w : Bool) (p a b : ℕ) → b ≤ a → (b ≤ p → p < a → w ≡ false) → (w && nat_lt p a) ≡ (w && nat_lt p b)
 same_half w p a b l h = step (nat_lt p b) refl
   where
     step : (t : Bool) → nat_lt p b ≡ t → (w && nat_lt p a) ≡ (w && t)
     step true e = let q = ltb-true p b e in ap (λ x. w && x) (lt-ltb p a (omega (arith, q, l)))
-    step false e = half w p a (h (ltb-false p b e)) ∙ sym (and_false w)
+    step false e = half w p a (h (ltb-false p b e)) ∙ sym (and-false w)
 
 -- what is to come behind the newest one of a key
 pub record IsBehind {C : Type 0} (r : Raw C) (key own at behind : ℕ) : Type 0 where
@@ -358,12 +341,12 @@ module _ {C : Type 0} where
             (arith, x))) in
             let t = o.within in
             or_left (wanted r k.key at && nat_lt at k.own) (wanted r 0 at && nat_lt at k.any)
-            (and_true (wanted r k.key at) (nat_lt at k.own) w (lt-ltb at k.own (omega (arith, x, t))))
+            (and_from (wanted r k.key at) (nat_lt at k.own) w (lt-ltb at k.own (omega (arith, x, t))))
         | inr x ↦
             let w : wanted r 0 at ≡ true = subst (λ y. wanted r 0 y ≡ true) (let q : any - 1 ≡ at = omega (arith, x) in q) (a.here (omega (arith, x))) in
             let t = a.within in
             or_right (wanted r k.key at && nat_lt at k.own) (wanted r 0 at && nat_lt at k.any)
-            (and_true (wanted r 0 at) (nat_lt at k.any) w (lt-ltb at k.any (omega (arith, x, t))))
+            (and_from (wanted r 0 at) (nat_lt at k.any) w (lt-ltb at k.any (omega (arith, x, t))))
       ] in
       let first : seen (get_or (reverse r.entries) j d) (get_or (reverse r.live) j false) ≡ e =
       (let s = get-seen (reverse r.entries) (reverse r.live) j d jl in cc (s, here)) in

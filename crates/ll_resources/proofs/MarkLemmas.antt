@@ -16,7 +16,7 @@ and-not true false h = refl
 and-not false b h = absurd (false≢true h)
 
 -- the mark at a place of so many
-get-filled : (n : ℕ) (bs : List Bool) (i : ℕ) → i < n → get_or (filled n bs) i false ≡ get_or bs i false
+pub get-filled : (n : ℕ) (bs : List Bool) (i : ℕ) → i < n → get_or (filled n bs) i false ≡ get_or bs i false
 get-filled zero bs i l = absurd (omega (arith, l))
 get-filled (suc n) [] zero l = refl
 get-filled (suc n) [] (suc i) l = get-filled n [] i (omega (arith, l))

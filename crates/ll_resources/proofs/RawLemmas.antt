@@ -38,7 +38,7 @@ module _ {C : Type 0} where
   made keys es flag next kept = record { entries = es; flag = flag; next = next; kept = kept; keys = keys }
 
   -- the keys of entries, the newest in front
-  abbrev keys_of : List (Stored C) → List (Option ℕ)
+  abbrev pub keys_of : List (Stored C) → List (Option ℕ)
   keys_of ss = map (λ (s : Stored C). s.key) ss
 
   pub shown-loaded : (kind : Kind) (clause : C) (key : ℕ) (r new : Raw C) → Loads kind clause key r new

@@ -31,7 +31,8 @@ name-on [] more n h = absurd (h refl)
 name-on (w ∷ names) more zero h = refl
 name-on (w ∷ names) more (suc n) h = name-on names more n h
 
-nothing-spelled : (w : List ℕ) → Spells NameToken w → w ≡ [] → ⊥
+-- a name is spelled by some bytes
+pub nothing-spelled : (w : List ℕ) → Spells NameToken w → w ≡ [] → ⊥
 unfolding kind_of fixed_spellings
 nothing-spelled w s e = let q : kind_of [] ≡ kind_of w = ap kind_of (sym e) in let n : kind_of [] ≡ None = refl in cc
 
@@ -179,7 +180,8 @@ one-name names w = step (list_any (bytes_eq w) names)
     step true = record { more = []; is = sym (append-nil names) }
     step false = record { more = w ∷ []; is = refl }
 
-all-names : (names ws : List (List ℕ)) → More names (with_names names ws)
+-- names are added behind those that there are
+pub all-names : (names ws : List (List ℕ)) → More names (with_names names ws)
 all-names names [] = record { more = []; is = sym (append-nil names) }
 all-names names (w ∷ ws) =
     let a = one-name names w in let b = all-names (with_name names w) ws in

@@ -1,3 +1,4 @@
+pub mod CallerLemmas
 pub mod Terms
 pub mod Forms
 pub mod States

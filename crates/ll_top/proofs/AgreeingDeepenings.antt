@@ -18,17 +18,10 @@ use Rattle.ll_top.specs.DeepenEnds.{with_bound}
 use Rattle.ll_top.specs.Calls.{runs}
 use Rattle.ll_top.specs.Agreeing.{run_at, RunsTo, bound_at, DeepensAsRuns, as_run, as_fault, DeepeningIsRun}
 use Rattle.ll_top.proofs.calls.DeepenLemmas.{asks-within}
+use Rattle.ll_top.proofs.outcomes.CallLemmas.{run-small}
 use Rattle.ll_top.proofs.AgreeingRuns.{comes-deepen, cause-past}
 
 -- ---- statuses
-
-status-small : (b c : Bool) → status_by b c ≤ 2
-status-small true c = omega arith
-status-small false true = omega arith
-status-small false false = omega arith
-
-pub run-ends : (p : ProblemTree) → run_status p ≤ 2
-run-ends p = status-small (list_any is_answer (problem_events p)) (any_reached (problem_events p))
 
 -- events that do not decide have no answer, and reached the bound
 undecided-by : (b c : Bool) → b || not c ≡ false → status_by b c ≡ 2
@@ -75,7 +68,7 @@ module _ (texts : Texts) (deepen : DeepenWords) where
       let own : p.bound ≡ n = ap (λ (z : ProblemTree). z.bound) a.asks.asks.is in
       let is : n ≡ bound_at deepen place = d.first.is in
       as_run place (whole_text deepen.proofs p) (subst (λ m. m ≤ deepen.series.to) is d.first.within)
-      (subst (λ m. RunsTo texts deepen m (run_status p) (whole_text deepen.proofs p)) is (runs-to n p a)) (run-ends p)
+      (subst (λ m. RunsTo texts deepen m (run_status p) (whole_text deepen.proofs p)) is (runs-to n p a)) (run-small p)
       (ap (λ m. bound_line m ++ whole_text deepen.proofs p) is)
       (λ i l. earlier i (d.first.earlier i l)) (last own is d.last)
     where

@@ -20,7 +20,7 @@ use Rattle.ll_top.specs.Calls.{runs}
 use Rattle.ll_top.specs.Agreeing.{query_line, as_answered, as_faulty, IsReplyTo, AreReplies, no_line, passed, replied, RepliesAreRuns}
 use Rattle.ll_top.specs.Agreeing.{run_over, SessionAsRuns, as_replies, as_refusal, SessionIsRuns}
 use Rattle.ll_top.proofs.AgreeingRuns.{comes-session, cause-past}
-use Rattle.ll_top.proofs.AgreeingDeepenings.{run-ends}
+use Rattle.ll_top.proofs.outcomes.CallLemmas.{run-small}
 use Rattle.ll_top.proofs.AgreeingPlaces.{IsClean, AreClean, lines-clean, QueryOrder, line-fault}
 
 -- ---- a line as the text of a query
@@ -51,7 +51,7 @@ module _ (order : QueryOrder) (session : SessionWords) (program : List ℕ) (tre
           asks = subst (λ b. TextsAsk program text b p) (sym r.bound) (texts-ask program tree text session.bound p faultless a);
         } in
         let whole : whole_text run.proofs p ≡ text_of_run run.first run.proofs p = ap (λ o. text_of_run o run.proofs p) (sym r.first) in
-        let status = run-ends p in
+        let status = run-small p in
         let ends : status_of_run run.first p ≡ status_of_run None p = ap (λ o. status_of_run o p) r.first in (
           status_of_run run.first p,
           text_of_run run.first run.proofs p,

@@ -35,12 +35,12 @@ use Rattle.ll_judge.specs.Outcome.{AnyName, NoName, longest_text}
 use Rattle.ll_check.specs.Verdicts.{yes_text, covered_text}
 use Rattle.ll_check.specs.Outcome.{bound_in, CheckFails, texts_not_read, faulty_text, CheckGives, CheckComesTo, shown, refuted, covered, too_long, counting}
 use Rattle.ll_check.specs.Outcome.{check_failed}
-use Rattle.ll_check.proofs.CallerLemmas.{none-counts}
+use Rattle.ll_check.proofs.CallerLemmas.{none-counts, cause-not-zero}
 use Rattle.ll_top.specs.Calls.{ComesTo, checks, misused}
 use Rattle.ll_top.specs.Accepted.{NamesUpTo, PrintedIsCovered}
 use Rattle.ll_top.proofs.calls.DistinctNames.{differ-names, differ-problem}
 use Rattle.ll_top.proofs.outcomes.CallLemmas.{comes-kind}
-use Rattle.ll_top.proofs.outcomes.LawLemmas.{Laws, one-program, one-read, check-once}
+use Rattle.ll_top.proofs.outcomes.LawLemmas.{Laws, given-once, check-once}
 use Rattle.ll_top.proofs.outcomes.OneText.{one-check}
 use Rattle.ll_top.proofs.Accepted.{printed, says-yes}
 use Rattle.ll_top.proofs.RunBounds.{run-bounded}
@@ -51,44 +51,6 @@ answer-event [] k a e = absurd (cc (e))
 answer-event (Reached ∷ es) k a e = let r = answer-event es k a e in (suc r.0, omega (arith, r.1), r.2)
 answer-event (Answer b ∷ es) zero a e = let q : b ≡ a = cc (e) in (0, omega arith, ap (λ z. Answer z) q)
 answer-event (Answer b ∷ es) (suc k) a e = let r = answer-event es k a e in (suc r.0, omega (arith, r.1), r.2)
-
-pub no-zero : (c : Cause) → 0 ≡ cause_status c → ⊥
-no-zero (Usage n) e = absurd (omega (arith, e))
-no-zero (Absent n) e = absurd (omega (arith, e))
-no-zero (Unreadable n) e = absurd (omega (arith, e))
-no-zero (Oversized n) e = absurd (omega (arith, e))
-no-zero (OversizedAs n v) e = absurd (omega (arith, e))
-no-zero (Faulty n f) e = absurd (omega (arith, e))
-
--- ---- texts give one problem and one derivation
-
-module _ (laws : Laws) (later : Texts) (check : CheckWords) where
-  one-asked : (program query : List ℕ) (bound : ℕ) (p q : ProblemTree) → TextsAsk program query bound p → TextsAsk program query bound q → p ≡ q
-  one-asked program query bound p q a b =
-      let e = one-program laws program a.program_tree b.program_tree a.is_program b.is_program in
-      let g = query-once laws.same laws.one_goal query a.query_tree b.query_tree a.is_query b.is_query in
-      a.asks.is ∙ (ap (λ x. problem_with (part_of x) a.query_tree bound) e ∙ (ap (λ x. problem_with (part_of b.program_tree) x bound) g ∙ sym b.asks.is))
-
-  one-proof : (names : List (List ℕ)) (text : List ℕ) (d e : DerivationLines) → IsDistinct bytes_eq names → length text ≤ longest_text
-      → IsProofText names text d → IsProofText names text e → d ≡ e
-  one-proof names text d e n le a b = (laws.one_derivation names text a.version b.version d e n (omega (arith, le)) a.is_text b.is_text).1
-
-  one-given : (program query proof : List ℕ) (bound : ℕ) (p q : ProblemTree) (d e : DerivationLines) → length proof ≤ longest_text
-      → TextsGive program query proof bound p d → TextsGive program query proof bound q e → (p ≡ q) × (d ≡ e)
-  one-given program query proof bound p q d e le a b =
-      let o = one-asked program query bound p q a.asks b.asks in
-      let names = with_names q.names (text_names proof) in
-      let differ = differ-names q.names (text_names proof)
-      (subst (λ x. IsDistinct bytes_eq x.names) (sym b.asks.asks.is) (differ-problem b.asks.program_tree b.asks.query_tree bound)) in
-      (o, one-proof names proof d e differ le (subst (λ x. IsProofText (with_names x.names (text_names proof)) proof d) o a.is_text) b.is_text)
-
-  given-once : (p q : ProblemTree) (d e : DerivationLines) → CheckGives (Some later) check p d → CheckGives (Some later) check q e → (p ≡ q) × (d ≡ e)
-  given-once p q d e a b =
-      one-given b.program b.query b.proof (bound_in check) p q d e b.proof_read.within
-      (subst (λ x. TextsGive x b.query b.proof (bound_in check) p d) (one-read laws later check.program a.program b.program a.program_read b.program_read)
-      (subst (λ x. TextsGive a.program x b.proof (bound_in check) p d) (one-read laws later check.query a.query b.query a.query_read b.query_read)
-      (subst (λ x. TextsGive a.program a.query x (bound_in check) p d) (one-read laws later check.proof a.proof b.proof a.proof_read b.proof_read) a.give)))
-      b.give
 
 -- ---- what a cover comes to
 
@@ -128,8 +90,8 @@ module _ (laws : Laws) (later : Texts) (check : CheckWords) (p : ProblemTree) (d
       let f = subst (λ (z : DerivationLines). position_from counts_numbers 1 z.nodes ≡ Some n) (sym o.1) h.first in
       absurd (let k : None ≡ Some n = sym none ∙ f in cc)
   cover-names accepted unbounded status text (check_failed c h s t) =
-      absurd (no-zero c (check-once laws later (record check { bound = None }) 0 (cause_status c) accepted (fault_text c) unbounded
-      (check_failed c (unbounded-fails later check c h) refl refl)).0)
+      absurd (cause-not-zero c (sym (check-once laws later (record check { bound = None }) 0 (cause_status c) accepted (fault_text c) unbounded
+      (check_failed c (unbounded-fails later check c h) refl refl)).0))
 
   call-names : (words : List (List ℕ)) (accepted : List ℕ) → IsCheck words check
       → CheckComesTo (Some later) AnyName NoName (record check { bound = None }) 0 accepted

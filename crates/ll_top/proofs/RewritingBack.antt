@@ -20,6 +20,7 @@ use Rattle.ll_prooftext.specs.Mentions.{text_names}
 use Rattle.ll_prooftext.specs.Sizes.{text_in}
 use Rattle.ll_prooftext.specs.Twins.{Numbers, moved_head, moved, moved_line, moved_derivation}
 use Rattle.ll_prooftext.specs.Versions.{IsProofText}
+use Rattle.ll_spelled.proofs.CallerLemmas.{nothing-spelled, all-names}
 use Rattle.ll_top.specs.Rewriting.{WrittenIsReadBack}
 use Rattle.ll_top.proofs.RewritingProofs.{Twins, IsReadOver, written-over, added-names}
 use Rattle.ll_top.proofs.calls.DistinctNames.{differ-names}
@@ -32,16 +33,12 @@ within [] n h = absurd (h refl)
 within (w ∷ names) zero h = omega arith
 within (w ∷ names) (suc n) h = let l = within names n h in omega (arith, l)
 
-no-name : (w : List ℕ) → Spells NameToken w → w ≡ [] → ⊥
-unfolding kind_of fixed_spellings
-no-name w s e = let q : kind_of [] ≡ kind_of w = ap kind_of (sym e) in let n : kind_of [] ≡ None = refl in cc
-
 no-cons : (w : List ℕ) → IsTrue (bytes_eq w (codes "::")) → w ≡ [] → ⊥
 no-cons w q z = let r = subst (λ v. IsTrue (bytes_eq v (codes "::"))) z q in cc
 
 module _ (names : List (List ℕ)) (r : Numbers) (stay : (n : ℕ) → n < length names → r n ≡ n) where
   plain-stays : (h : Head) → IsPlainHead names h → moved_head r h ≡ h
-  plain-stays (Name n) p = ap Name (stay n (within names n (no-name (name_text names n) p.spelled)))
+  plain-stays (Name n) p = ap Name (stay n (within names n (nothing-spelled (name_text names n) p.spelled)))
   plain-stays (Eigen n) p = refl
   plain-stays (Bound n) p = refl
 
@@ -103,31 +100,12 @@ module _ (names : List (List ℕ)) (r : Numbers) (stay : (n : ℕ) → n < lengt
       let a = terms-stay d.asked s.asked in let b = lines-stay d.nodes s.nodes in
       λ i. record { asked = a i; nodes = b i }
 
--- ---- names that come behind
-
-record More (old new : List (List ℕ)) : Type 0 where
-  more : List (List ℕ)
-  is : new ≡ old ++ more
-
-one-more : (names : List (List ℕ)) (w : List ℕ) → More names (with_name names w)
-one-more names w = step (list_any (bytes_eq w) names)
-  where
-    step : (b : Bool) → More names (if b then names else names ++ w ∷ [])
-    step true = record { more = []; is = sym (append-nil names) }
-    step false = record { more = w ∷ []; is = refl }
-
-all-more : (names ws : List (List ℕ)) → More names (with_names names ws)
-all-more names [] = record { more = []; is = sym (append-nil names) }
-all-more names (w ∷ ws) =
-    let a = one-more names w in let b = all-more (with_name names w) ws in
-    record { more = a.more ++ b.more; is = b.is ∙ (ap (λ z. z ++ b.more) a.is ∙ append_assoc names a.more b.more) }
-
 -- ---- reading
 
 pub read-back : Twins → WrittenIsReadBack
 read-back twins names d version distinct s le =
     let text = text_in version names d in let ws = text_names text in let others = with_names names ws in
-    let m = all-more names ws in
+    let m = all-names names ws in
     let o : IsReadOver names others text d =
     written-over twins names others d distinct (differ-names names ws distinct) s version text refl le (added-names names ws) in
     let same : o.twin.twin ≡ d =

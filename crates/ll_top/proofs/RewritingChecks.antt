@@ -44,7 +44,7 @@ use Rattle.ll_top.proofs.RewritingNames.{first-moved}
 use Rattle.ll_top.proofs.RewritingProofs.{Twins, added-names, own-differ, spelled-in, first-line, second-line, convert-of, conversion-of}
 use Rattle.ll_top.proofs.calls.DistinctNames.{differ-names, differ-problem}
 use Rattle.ll_top.proofs.outcomes.CallLemmas.{comes-kind}
-use Rattle.ll_top.proofs.outcomes.LawLemmas.{Laws, one-read}
+use Rattle.ll_top.proofs.outcomes.LawLemmas.{Laws, given-differ, one-read}
 use Rattle.ll_top.proofs.outcomes.OneText.{one-check}
 
 -- ---- names
@@ -203,18 +203,13 @@ module _ (laws : Laws) (twins : Twins) (later : Texts) (one two : CheckWords) (a
       (whole-read programs g.lexed t.program_tree g.is_lexed (few g.lexed program g.is_lexed g.of_text l) g.reads)
       (whole-read queries h.lexed t.query_tree h.is_lexed (few h.lexed query h.is_lexed h.of_text m) h.reads) (omega arith)
 
-  names-differ : (program query text : List ℕ) (bound : ℕ) (p : ProblemTree) → TextsAsk program query bound p
-      → IsDistinct bytes_eq (with_names p.names (text_names text))
-  names-differ program query text bound p t =
-      differ-names p.names (text_names text) (subst (λ x. IsDistinct bytes_eq x.names) (sym t.asks.is) (differ-problem t.program_tree t.query_tree bound))
-
   other-of : (p : ProblemTree) (d : DerivationLines) → CheckGives (Some later) one p d → IsOther later two p d
   other-of p d g =
       let asks = subst (λ n. TextsAsk g.program g.query n p) (bound-is one unbounded) g.give.asks in
       let m = with_names p.names (text_names a) in
       let n = with_names p.names (text_names b) in
-      let md = names-differ g.program g.query a 0 p asks in
-      let nd = names-differ g.program g.query b 0 p asks in
+      let md = given-differ laws g.program g.query a 0 p asks in
+      let nd = given-differ laws g.program g.query b 0 p asks in
       let same_text = one-read laws later one.proof g.proof a g.proof_read first_read in
       let given : IsProofText m a d = subst (λ x. IsProofText (with_names p.names (text_names x)) x d) same_text g.give.is_text in
       let t = twin-of twins o.names m o.derivation o.distinct md a first_read.within o.is_text (added-names p.names (text_names a)) in

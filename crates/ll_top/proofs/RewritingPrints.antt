@@ -13,23 +13,21 @@ use Rattle.ll_words.specs.Words.{IsPrint}
 use Rattle.ll_words.proofs.CallerLemmas.{bad-not-in-form, print-in-form, print-kind}
 use Rattle.ll_judge.specs.Judging.{IsProgramText}
 use Rattle.ll_judge.specs.Outcome.{AnyName, NoName, IsPrintedAs, PrintComesTo, printed, print_failed}
+use Rattle.ll_check.proofs.CallerLemmas.{cause-not-zero}
 use Rattle.ll_top.specs.Calls.{ComesTo, misused, prints}
 use Rattle.ll_top.specs.Rewriting.{PrintedIsPrinted, PrintedIsAside}
 use Rattle.ll_top.proofs.Accepted.{few}
-use Rattle.ll_top.proofs.Covered.{no-zero}
 use Rattle.ll_top.proofs.RewritingTexts.{printed-same}
 use Rattle.ll_top.proofs.RewritingShelves.{layout-aside}
 use Rattle.ll_top.proofs.outcomes.CallLemmas.{comes-kind}
 use Rattle.ll_top.proofs.outcomes.LawLemmas.{Laws, one-program, one-read}
+use Rattle.ll_top.proofs.outcomes.OneText.{some-same}
 
 -- what is printed of a whole program is read as it again
 abbrev pub IsReadAgain : Type 0
 IsReadAgain =
     (p : ProgramTree) → IsWhole programs p → (lexed : LexedText) × (lexed.text ≡ program_text p) × IsLexed lexed × (q : ProgramTree)
     × Reads programs 1000 (toks_of lexed) q × (bare_program q ≡ bare_program p)
-
-some-same : {A : Type 0} (x y : A) (o : Option A) → o ≡ Some x → o ≡ Some y → x ≡ y
-some-same x y o e f = cc
 
 -- the words of a print come to what it comes to
 print-of : (words : List (List ℕ)) (texts : Texts) (name : List ℕ) (status : ℕ) (text : List ℕ) → IsPrint words name
@@ -43,7 +41,7 @@ print-of words texts name status text is c =
 -- a text that was printed is that of a program that was read
 printed-of : (texts : Texts) (name text : List ℕ) → PrintComesTo (Some texts) AnyName NoName name 0 text → IsPrintedAs (Some texts) name text
 printed-of texts name text (printed p e) = p
-printed-of texts name text (print_failed c h e f) = absurd (no-zero c e)
+printed-of texts name text (print_failed c h e f) = absurd (cause-not-zero c (sym e))
 
 -- and it is read as this program again
 record IsAgain (text : List ℕ) (tree : ProgramTree) : Type 0 where

@@ -22,9 +22,9 @@ use Rattle.ll_words.specs.Words.{ConvertWords, IsConvert}
 use Rattle.ll_words.proofs.CallerLemmas.{bad-not-in-form, convert-in-form, convert-kind}
 use Rattle.ll_judge.specs.Converting.{own_names, IsConverted, ConvertComesTo, converted, convert_failed}
 use Rattle.ll_judge.specs.Outcome.{AnyName, NoName, longest_text, IsRead}
+use Rattle.ll_check.proofs.CallerLemmas.{cause-not-zero}
 use Rattle.ll_top.specs.Calls.{ComesTo, misused, converts}
 use Rattle.ll_top.specs.Rewriting.{TellsVersion, tells_first, tells_second, ComesBackTo, ConvertedComesBack}
-use Rattle.ll_top.proofs.Covered.{no-zero}
 use Rattle.ll_top.proofs.calls.DistinctNames.{differ-names}
 use Rattle.ll_top.proofs.outcomes.CallLemmas.{comes-kind}
 use Rattle.ll_top.proofs.outcomes.LawLemmas.{Laws, one-read}
@@ -137,7 +137,7 @@ pub conversion-of : (laws : Laws) (texts : Texts) (convert : ConvertWords) (proo
     → ConvertComesTo (Some texts) AnyName NoName convert 0 text → IsConversion convert proof text
 conversion-of laws texts convert proof text read (converted other h c l e) =
     record { is = subst (λ x. IsConverted x convert.version text) (one-read laws texts convert.proof other proof h read) c; within = l }
-conversion-of laws texts convert proof text read (convert_failed c h e f) = absurd (no-zero c e)
+conversion-of laws texts convert proof text read (convert_failed c h e f) = absurd (cause-not-zero c (sym e))
 
 module _ (laws : Laws) (twins : Twins) (other : List (List ℕ)) (back : ConvertWords) (later : Texts) (proof text : List ℕ) (is_back : IsConvert other back)
     (there : IsRead (Some later) back.proof text) where

@@ -17,7 +17,8 @@ use Rattle.ll_judge.specs.Judging.{IsProgramText, IsFaultless, IsProgramFault, I
 use Rattle.ll_judge.specs.Judging.{IsTextFault, of_program, of_query}
 use Rattle.ll_judge.specs.Judging.{TextsAsk, IsCheckFault, of_run_texts, of_proof, TextsGive}
 use Rattle.ll_top.specs.Rewriting.{AreOfOneProgram}
-use Rattle.ll_top.proofs.RewritingTrees.{printed-bare, part-bare, headings-bare, program-many}
+use Rattle.ll_made.proofs.CallerLemmas.{headings-bare, faultless-aside}
+use Rattle.ll_top.proofs.RewritingTrees.{printed-bare, part-bare}
 use Rattle.ll_top.proofs.outcomes.LawLemmas.{Laws, one-program, faultless-no-fault}
 
 -- ---- trees
@@ -33,15 +34,7 @@ module _ (t u : ProgramTree) (e : bare_program u ≡ bare_program t) where
   printed-same = sym (printed-bare u) ∙ (ap program_text e ∙ printed-bare t)
 
   pub faultless-same : program_faults t ≡ [] → program_faults u ≡ []
-  faultless-same h =
-      let a = program-many u in let b = program-many t in
-      let c : length (program_faults (bare_program u)) ≡ length (program_faults (bare_program t)) = ap (λ p. length (program_faults p)) e in
-      let d = ap length h in
-      none (program_faults u) (omega (arith, a, b, c, d))
-    where
-      none : (fs : List Fault) → length fs ≡ 0 → fs ≡ []
-      none [] l = refl
-      none (f ∷ fs) l = absurd (omega (arith, l))
+  faultless-same = faultless-aside t u e
 
 -- where the first program has no fault, the order of the two is free
 pub one-turned : (text other : List ℕ) → AreOfOneProgram text other → AreOfOneProgram other text

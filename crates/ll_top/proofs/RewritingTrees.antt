@@ -1,10 +1,11 @@
--- What a program is printed as, what it fixes of a problem, and whether it has a fault do not depend on places.
+-- What a program is printed as, and what it fixes of a problem, do not depend on places.
 use Rattle.std.proofs.Common.{◌≡◌, ℕ, suc, refl, ap, sym, ◌∙◌, Bool, true, false, List, [], ◌∷◌, ◌++◌, map, reverse, length, length-append, arith, codes}
 use Rattle.std.specs.Prelude.{Option, Some, None, cond, if◌then◌else◌, find, nat_eq}
 use Rattle.std.specs.List.{flat_map, list_any}
 use Rattle.std.specs.Str.{bytes_eq}
 use Rattle.std.proofs.lemmas.List.{map-append, length-map, reverse-append}
 use Rattle.std.proofs.lemmas.List.Concat.{flat_map-cons}
+use Rattle.ll_lists.proofs.CallerLemmas.{map_map}
 use Rattle.ll_lexer.specs.declared.Place.{Place}
 use Rattle.ll_lexer.specs.declared.Fault.{Fault}
 use Rattle.ll_laws.specs.Valid.{Side, ClauseSide}
@@ -20,6 +21,7 @@ use Rattle.ll_parser.specs.Printed.{Rank, clauses, arrows, op_rank, left_rank, r
 use Rattle.ll_parser.specs.Printed.{head_text, term_text, arguments_text, pair_text, is_sum, is_product, expr_text, sides_text}
 use Rattle.ll_parser.specs.Printed.{bound_text, formula_text, line_end, names_text, clause_text, clauses_text, locals_text, module_text, modules_text}
 use Rattle.ll_parser.specs.Printed.{program_text}
+use Rattle.ll_made.proofs.CallerLemmas.{scope-bare}
 use Rattle.ll_polarity.specs.Scope.{Scope, binds, declares, module_scope, meaning}
 use Rattle.ll_polarity.specs.Reading.{Met, Read, read_name, read_term, read_terms, read_form, read_number, joined, module_in, number_in, quantified}
 use Rattle.ll_polarity.specs.Faults.{unless, may_be_head, count, applied_fault, term_faults, terms_faults, left_side, right_side}
@@ -284,32 +286,6 @@ module _ (ms : List (List ℕ)) where
   read-form-bare scope met (anything at) = refl
   read-form-bare scope met (int at z) = refl
 
-same-maps : {A B C : Type 0} (f : B → C) (g : A → B) (xs : List A) → map f (map g xs) ≡ map (λ x. f (g x)) xs
-same-maps f g [] = refl
-same-maps f g (x ∷ xs) = ap (λ z. f (g x) ∷ z) (same-maps f g xs)
-
-turned-map : {A B : Type 0} (f : A → B) (xs : List A) → reverse (map f xs) ≡ map f (reverse xs)
-turned-map f [] = refl
-turned-map f (x ∷ xs) =
-    reverse-append (f x ∷ []) (map f xs) ∙ (ap (λ z. z ++ f x ∷ []) (turned-map f xs) ∙ (sym (map-append f (reverse xs) (x ∷ []))
-    ∙ ap (map f) (sym (reverse-append (x ∷ []) xs))))
-
--- what is made of texts alone is made of the bare names too
-of-names : {B : Type 0} (f : Identifier → B) → ((n : Identifier) → f (bare_identifier n) ≡ f n) → (ns : List Identifier)
-    → map f (reverse (map bare_identifier ns)) ≡ map f (reverse ns)
-of-names f e ns = ap (map f) (turned-map bare_identifier ns) ∙ each (reverse ns)
-  where
-    each : (ns : List Identifier) → map f (map bare_identifier ns) ≡ map f ns
-    each [] = refl
-    each (n ∷ ns) = ap (λ z. z ∷ map f (map bare_identifier ns)) (e n) ∙ ap (λ z. f n ∷ z) (each ns)
-
-scope-bare : (m : ModuleTree) → module_scope (bare_module m) ≡ module_scope m
-scope-bare m =
-    let p = of-names (λ n. binds n.text) (λ n. refl) m.params in
-    let l = of-names (λ n. declares n.text) (λ n. refl) m.locals in
-    ap (λ z. z ++ map (λ n. declares n.text) (reverse (map bare_identifier m.locals))) p
-    ∙ ap (λ z. map (λ n. binds n.text) (reverse m.params) ++ z) l
-
 module _ (ms : List (List ℕ)) where
   read-clause-bare : (scope : Scope) (names : List (List ℕ)) (c : ClauseTree) → read_clause ms scope names (bare_clause c) ≡ read_clause ms scope names c
   read-clause-bare scope names c =
@@ -358,159 +334,6 @@ part-bare p =
     λ cs ms. record { names = ms.names; modules = ms.it; clauses = cs.it } in
     let of : List (List ℕ) → ProgramPart =
     λ z. let cs = read_clauses z [] [] (map bare_clause p.clauses) in mods cs (read_modules z cs.names (map bare_module p.modules)) in
-    ap of (same-maps (λ (m : ModuleTree). m.name.text) bare_module p.modules)
+    ap of (map_map (λ (m : ModuleTree). m.name.text) bare_module p.modules)
     ∙ (ap (λ (cs : Named (List laws.ClauseTree)). mods cs (read_modules ns cs.names (map bare_module p.modules))) (read-clauses-bare ns [] [] p.clauses)
     ∙ ap (mods (read_clauses ns [] [] p.clauses)) (read-modules-bare ns (read_clauses ns [] [] p.clauses).names p.modules))
-
-pub headings-bare : (ms : List ModuleTree) → map heading (map bare_module ms) ≡ map heading ms
-headings-bare [] = refl
-headings-bare (m ∷ ms) =
-    ap (λ n. let h : Heading = record { name = m.name.text; params = n } in h ∷ map heading (map bare_module ms)) (length-map m.params bare_identifier)
-    ∙ ap (λ z. heading m ∷ z) (headings-bare ms)
-
--- ---- as many faults
-
--- two lists have as many faults
-abbrev AsMany : List Fault → List Fault → Type 0
-AsMany a b = length a ≡ length b
-
-both : (a b c d : List Fault) → AsMany a c → AsMany b d → AsMany (a ++ b) (c ++ d)
-both a b c d e f = let x = length-append a b in let y = length-append c d in omega (arith, x, y, e, f)
-
-same-unless : (b : Bool) (kind : ℕ) (at place : Place) → AsMany (unless b kind at) (unless b kind place)
-same-unless true kind at place = refl
-same-unless false kind at place = refl
-
-count-bare : (rs : RawList) → count (bare_raws rs) ≡ count rs
-count-bare none = refl
-count-bare (more r rs) = ap (λ z. suc z) (count-bare rs)
-
-applied-many : (scope : Scope) (n : Identifier) (rs : RawList) → AsMany (applied_fault scope (bare_identifier n) (bare_raws rs)) (applied_fault scope n rs)
-applied-many scope n none = refl
-applied-many scope n (more r rs) = same-unless (may_be_head (meaning scope n.text)) 9 nowhere n.at
-
-mutual
-  term-many : (scope : Scope) (r : Raw) → AsMany (term_faults scope (bare_raw r)) (term_faults scope r)
-  term-many scope (head n args) =
-      both (applied_fault scope (bare_identifier n) (bare_raws args)) (terms_faults scope (bare_raws args)) (applied_fault scope n args)
-      (terms_faults scope args) (applied-many scope n args) (terms-many scope args)
-  term-many scope (anything at) = refl
-  term-many scope (int at z) = refl
-  term-many scope (truth at) = refl
-  term-many scope (erasure at) = refl
-  term-many scope (braces at r) = refl
-  term-many scope (universal at n r) = refl
-  term-many scope (existential at n r) = refl
-  term-many scope (load at m args r) = refl
-  term-many scope (binary o at l r) = refl
-  term-many scope (is_goal at l r) = refl
-  term-many scope (less_goal at l r) = refl
-  term-many scope (most_goal at l r) = refl
-
-  terms-many : (scope : Scope) (rs : RawList) → AsMany (terms_faults scope (bare_raws rs)) (terms_faults scope rs)
-  terms-many scope none = refl
-  terms-many scope (more r rs) =
-      both (term_faults scope (bare_raw r)) (terms_faults scope (bare_raws rs)) (term_faults scope r) (terms_faults scope rs) (term-many scope r)
-      (terms-many scope rs)
-
-number-many : (side : Side) (scope : Scope) (at : Place) (l r : Raw)
-    → AsMany (number_faults side scope nowhere (bare_raw l) (bare_raw r)) (number_faults side scope at l r)
-number-many side scope at l r =
-    let u : Place → List Fault = λ p. unless (on_goal_side side) 7 p in
-    both (term_faults scope (bare_raw l) ++ u nowhere) (term_faults scope (bare_raw r)) (term_faults scope l ++ u at) (term_faults scope r)
-    (both (term_faults scope (bare_raw l)) (u nowhere) (term_faults scope l) (u at) (term-many scope l) (same-unless (on_goal_side side) 7 nowhere at))
-    (term-many scope r)
-
-load-many : (o : Option Heading) (m : Identifier) (n : ℕ) → AsMany (load_fault o (bare_identifier m) n) (load_fault o m n)
-load-many None m n = refl
-load-many (Some h) m n = same-unless (nat_eq n h.params) 11 nowhere m.at
-
-module _ (ms : List Heading) where
-  form-many : (side : Side) (scope : Scope) (r : Raw) → AsMany (form_faults ms side scope (bare_raw r)) (form_faults ms side scope r)
-  form-many side scope (truth at) = same-unless (on_goal_side side) 7 nowhere at
-  form-many side scope (erasure at) = refl
-  form-many side scope (braces at r) =
-      both (unless (on_goal_side side) 7 nowhere) (form_faults ms side scope (bare_raw r)) (unless (on_goal_side side) 7 at) (form_faults ms side scope r)
-      (same-unless (on_goal_side side) 7 nowhere at) (form-many side scope r)
-  form-many side scope (universal at n r) = form-many side (binds n.text ∷ scope) r
-  form-many side scope (existential at n r) =
-      both (unless (on_goal_side side) 7 nowhere) (form_faults ms side (binds n.text ∷ scope) (bare_raw r)) (unless (on_goal_side side) 7 at)
-      (form_faults ms side (binds n.text ∷ scope) r) (same-unless (on_goal_side side) 7 nowhere at) (form-many side (binds n.text ∷ scope) r)
-  form-many side scope (load at m args r) =
-      let o = find (is_named m.text) ms in
-      let u : Place → List Fault = λ p. unless (on_goal_side side) 8 p in
-      let k : AsMany (load_fault o (bare_identifier m) (count (bare_raws args))) (load_fault o m (count args)) =
-      ap (λ n. length (load_fault o (bare_identifier m) n)) (count-bare args) ∙ load-many o m (count args) in
-      let h = load_fault o (bare_identifier m) (count (bare_raws args)) in
-      let ts = terms_faults scope (bare_raws args) in
-      let g = form_faults ms side scope in
-      both (h ++ ts ++ u nowhere) (g (bare_raw r)) (load_fault o m (count args) ++ terms_faults scope args ++ u at) (g r)
-      (both (h ++ ts) (u nowhere) (load_fault o m (count args) ++ terms_faults scope args) (u at)
-      (both h ts (load_fault o m (count args)) (terms_faults scope args) k (terms-many scope args)) (same-unless (on_goal_side side) 8 nowhere at))
-      (form-many side scope r)
-  form-many side scope (binary o at l r) =
-      let u : Place → List Fault = λ p. unless (may_join o side) 7 p in
-      let left = form_faults ms (left_side o side) scope in
-      let right = form_faults ms (right_side o side) scope in
-      both (left (bare_raw l) ++ u nowhere) (right (bare_raw r)) (left l ++ u at) (right r)
-      (both (left (bare_raw l)) (u nowhere) (left l) (u at) (form-many (left_side o side) scope l) (same-unless (may_join o side) 7 nowhere at))
-      (form-many (right_side o side) scope r)
-  form-many side scope (is_goal at l r) = number-many side scope at l r
-  form-many side scope (less_goal at l r) = number-many side scope at l r
-  form-many side scope (most_goal at l r) = number-many side scope at l r
-  form-many side scope (head n args) =
-      both (unless (may_be_head (meaning scope n.text)) 9 nowhere) (terms_faults scope (bare_raws args)) (unless (may_be_head (meaning scope n.text)) 9 n.at)
-      (terms_faults scope args) (same-unless (may_be_head (meaning scope n.text)) 9 nowhere n.at) (terms-many scope args)
-  form-many side scope (anything at) = refl
-  form-many side scope (int at z) = refl
-
-  clauses-many : (scope : Scope) (cs : List ClauseTree) → AsMany (clauses_faults ms scope (map bare_clause cs)) (clauses_faults ms scope cs)
-  clauses-many scope [] = refl
-  clauses-many scope (c ∷ cs) =
-      let f : ClauseTree → List Fault = λ c. form_faults ms ClauseSide scope c.form in
-      ap length (flat_map-cons f (bare_clause c) (map bare_clause cs))
-      ∙ (both (f (bare_clause c)) (flat_map f (map bare_clause cs)) (f c) (flat_map f cs) (form-many ClauseSide scope c.form) (clauses-many scope cs)
-      ∙ sym (ap length (flat_map-cons f c cs)))
-
-  twice-many : (b : Bool) (at place : Place)
-      → AsMany (if b then record { at = at; kind = 12 } ∷ [] else []) (if b then record { at = place; kind = 12 } ∷ [] else [])
-  twice-many true at place = refl
-  twice-many false at place = refl
-
-  repeated-many : (earlier : List (List ℕ)) (ns : List Identifier) → AsMany (repeated earlier (map bare_identifier ns)) (repeated earlier ns)
-  repeated-many earlier [] = refl
-  repeated-many earlier (n ∷ ns) =
-      let b = list_any (bytes_eq n.text) earlier in
-      both (if b then record { at = nowhere; kind = 12 } ∷ [] else []) (repeated (n.text ∷ earlier) (map bare_identifier ns))
-      (if b then record { at = n.at; kind = 12 } ∷ [] else []) (repeated (n.text ∷ earlier) ns) (twice-many b nowhere n.at)
-      (repeated-many (n.text ∷ earlier) ns)
-
-  modules-many : (earlier : List (List ℕ)) (rest : List ModuleTree) → AsMany (modules_faults ms earlier (map bare_module rest)) (modules_faults ms earlier rest)
-  modules-many earlier [] = refl
-  modules-many earlier (m ∷ rest) =
-      let b = list_any (bytes_eq m.name.text) earlier in
-      let params = map bare_identifier m.params in
-      let locals = map bare_identifier m.locals in
-      let own = clauses_faults ms (module_scope (bare_module m)) (map bare_clause m.clauses) in
-      let others = modules_faults ms (m.name.text ∷ earlier) (map bare_module rest) in
-      let ns : AsMany (repeated [] (params ++ locals)) (repeated [] (m.params ++ m.locals)) =
-      ap (λ z. length (repeated [] z)) (sym (map-append bare_identifier m.params m.locals)) ∙ repeated-many [] (m.params ++ m.locals) in
-      let cs : AsMany own (clauses_faults ms (module_scope m) m.clauses) =
-      ap (λ z. length (clauses_faults ms z (map bare_clause m.clauses))) (scope-bare m) ∙ clauses-many (module_scope m) m.clauses in
-      let names = repeated [] (params ++ locals) in
-      let twice = if b then record { at = nowhere; kind = 12 } ∷ [] else [] in
-      let old = if b then record { at = m.name.at; kind = 12 } ∷ [] else [] in
-      let old_names = repeated [] (m.params ++ m.locals) in
-      let old_own = clauses_faults ms (module_scope m) m.clauses in
-      both (twice ++ names ++ own) others (old ++ old_names ++ old_own) (modules_faults ms (m.name.text ∷ earlier) rest)
-      (both (twice ++ names) own (old ++ old_names) old_own (both twice names old old_names (twice-many b nowhere m.name.at) ns) cs)
-      (modules-many (m.name.text ∷ earlier) rest)
-
--- the faults of a program
-pub program-many : (p : ProgramTree) → length (program_faults (bare_program p)) ≡ length (program_faults p)
-program-many p =
-    let ms = map heading p.modules in
-    let all : List Heading → List Fault = λ z. clauses_faults z [] (map bare_clause p.clauses) ++ modules_faults z [] (map bare_module p.modules) in
-    ap (λ z. length (all z)) (headings-bare p.modules)
-    ∙ both (clauses_faults ms [] (map bare_clause p.clauses)) (modules_faults ms [] (map bare_module p.modules)) (clauses_faults ms [] p.clauses)
-    (modules_faults ms [] p.modules) (clauses-many ms [] p.clauses) (modules-many ms [] p.modules)

@@ -9,6 +9,7 @@ use Rattle.ll_laws.specs.Search.{is_answer, is_reached}
 use Rattle.ll_laws.specs.Output.{run_status, status_by}
 use Rattle.ll_words.specs.Words.{RunWords, SessionWords, DeepenWords, CheckWords, ConvertWords, FitsForm, cover_form, IsCheckForm, IsInForm, IsRun, IsSession}
 use Rattle.ll_words.specs.Words.{IsDeepen, IsPrint, IsCheck, IsConvert, IsMake, IsMadeRun, IsBadWord, IsInWorkersForm, run_form}
+use Rattle.ll_check.proofs.CallerLemmas.{cause-not-zero}
 use Rattle.ll_top.specs.Making.{MakeComesTo}
 use Rattle.ll_words.specs.Making.{MakeWords, MadeRunWords}
 use Rattle.ll_top.specs.MadeRuns.{MadeRunComesTo}
@@ -29,6 +30,12 @@ use Rattle.ll_words.proofs.CallerLemmas.{run-kind, session-kind, deepen-kind, pr
 use Rattle.ll_words.proofs.CallerLemmas.{convert-kind, make-kind, made-run-kind, checked-in-form, check-not-cover, bad-not-in-form}
 use Rattle.ll_words.proofs.CallerLemmas.{run-in-form, session-in-form, deepen-in-form, print-in-form, convert-in-form, make-in-form, made-run-in-form}
 
+-- what a call appends of its own, with more causes or another text
+pub own-more : (Comes Other : ℕ → List ℕ → Type 0) (before after : Option (List ℕ)) → ((s : ℕ) (t : List ℕ) → Comes s t → Other s t)
+    → AppendsOwn Comes before after → AppendsOwn Other before after
+own-more Comes Other before after f (nothing e) = nothing e
+own-more Comes Other before after f (front s t c a) = front s t (f s t c) a
+
 -- ---- from a command to the call
 
 -- what its command comes to, a call comes to
@@ -37,11 +44,7 @@ pub ends-as : (Comes Other : ℕ → List ℕ → Type 0) → ((s : ℕ) (t : Li
     → Ends Other write_failed before after status
 ends-as Comes Other f w before after status (whole text c a) = whole text (f status text c) a
 ends-as Comes Other f w before after status (unwritable meant text c h s a) = unwritable meant text (f meant text c) h s a
-ends-as Comes Other f w before after status (no_memory s a) = no_memory s (own a)
-  where
-    own : AppendsOwn Comes before after → AppendsOwn Other before after
-    own (nothing e) = nothing e
-    own (front s t c a) = front s t (f s t c) a
+ends-as Comes Other f w before after status (no_memory s a) = no_memory s (own-more Comes Other before after f a)
 
 module _ (words : List (List ℕ)) (told : Option Texts) (absence read_failed : List ℕ → Type 0) (write_failed : Type 0) (before after : Option (List ℕ))
     (status : ℕ) where
@@ -133,7 +136,7 @@ small-status true r = omega arith
 small-status false true = omega arith
 small-status false false = omega arith
 
-run-small : (p : ProblemTree) → run_status p ≤ 2
+pub run-small : (p : ProblemTree) → run_status p ≤ 2
 run-small p = small-status (list_any is_answer (problem_events p)) (list_any is_reached (problem_events p))
 
 run-of-small : (first : Option ℕ) (p : ProblemTree) → status_of_run first p ≤ 2
@@ -309,14 +312,6 @@ module _ (words : List (List ℕ)) (told : Option Texts) (absence read_failed : 
   cover-bound None f g e = check-not-cover words g f
   cover-bound (Some bound) f g e = cc
 
-  no-zero : (cause : Cause) → cause_status cause ≡ 0 → ⊥
-  no-zero (Usage number) e = omega arith
-  no-zero (Absent name) e = omega arith
-  no-zero (Unreadable name) e = omega arith
-  no-zero (Oversized name) e = omega arith
-  no-zero (OversizedAs name version) e = omega arith
-  no-zero (Faulty name fault) e = omega arith
-
   comes-covered : FitsForm cover_form words → (status : ℕ) (text : List ℕ) → status ≡ 0 → ComesTo words told absence read_failed status text
       → IsCoveredCall words told
   comes-covered f status text e (misused number b s t) = absurd (omega arith)
@@ -326,7 +321,7 @@ module _ (words : List (List ℕ)) (told : Option Texts) (absence read_failed : 
   comes-covered f status text e (checks check c (refuted p d n r g h s t)) = absurd (omega arith)
   comes-covered f status text e (checks check c (too_long p d b g h s t)) = absurd (omega arith)
   comes-covered f status text e (checks check c (counting p d n b g h s t)) = absurd (omega arith)
-  comes-covered f status text e (checks check c (check_failed cause h s t)) = absurd (no-zero cause (sym s ∙ e))
+  comes-covered f status text e (checks check c (check_failed cause h s t)) = absurd (cause-not-zero cause (sym s ∙ e))
   comes-covered f status text e c = absurd (let k = sym (cover-kind words f) ∙ comes-kind words told absence read_failed status text c refl in cc)
 
   comes-uncovered : (status : ℕ) (text : List ℕ) → status ≡ 11 → ComesTo words told absence read_failed status text → IsUncoveredCall words told

@@ -54,9 +54,7 @@ use Rattle.ll_judge.specs.Converting.{own_names, IsConverted, ConvertFails, proo
 use Rattle.ll_judge.specs.Converting.{faulty_proof, too_long_as, ConvertComesTo, converted, convert_failed}
 use Rattle.ll_top.proofs.outcomes.SessionLaws.{sessions-one}
 use Rattle.ll_top.proofs.outcomes.DeepenLaws.{deepens-one}
-
-some-same : {A : Type 0} (x y : A) (o : Option A) → o ≡ Some x → o ≡ Some y → x ≡ y
-some-same x y o e f = cc
+use Rattle.ll_top.proofs.outcomes.OneText.{some-same}
 
 -- ---- texts
 
@@ -174,7 +172,7 @@ module _ (laws : Laws) where
   one-check-fault program query proof _ _ f g l (of_proof b p a h) (of_proof c q d k) = (refl, laws.one_proof proof f g (short proof l) h k)
 
   -- the names of a problem that texts ask differ, and so do they with those that a derivation's text mentions
-  given-differ : (program query proof : List ℕ) (bound : ℕ) (p : ProblemTree) → TextsAsk program query bound p
+  pub given-differ : (program query proof : List ℕ) (bound : ℕ) (p : ProblemTree) → TextsAsk program query bound p
       → IsDistinct bytes_eq (with_names p.names (text_names proof))
   given-differ program query proof bound p a =
       differ-names p.names (text_names proof) (subst (λ x. IsDistinct bytes_eq x.names) (sym a.asks.is) (differ-problem a.program_tree a.query_tree bound))
@@ -381,7 +379,7 @@ module _ (laws : Laws) where
           (all-read a.program a.query a.proof a.program_read a.query_read a.proof_read) x
       gives-not-fails p d _ a (faulty_text u v w role f h k l t) = gives-no-fault u v w (bound_in check) p d role f l.within (gives-moved u v w p d h k l a) t
 
-      given-once : (p q : ProblemTree) (d e : DerivationLines) → CheckGives (Some texts) check p d → CheckGives (Some texts) check q e → (p ≡ q) × (d ≡ e)
+      pub given-once : (p q : ProblemTree) (d e : DerivationLines) → CheckGives (Some texts) check p d → CheckGives (Some texts) check q e → (p ≡ q) × (d ≡ e)
       given-once p q d e a b = one-given b.program b.query b.proof (bound_in check) p q d e b.proof_read.within
           (gives-moved b.program b.query b.proof p d b.program_read b.query_read b.proof_read a) b.give
 

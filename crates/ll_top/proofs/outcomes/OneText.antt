@@ -24,7 +24,8 @@ use Rattle.ll_top.proofs.outcomes.CallLemmas.{comes-kind, comes-in-form}
 
 -- ---- words
 
-some-same : {A : Type 0} (x y : A) (o : Option A) → o ≡ Some x → o ≡ Some y → x ≡ y
+-- two values of one option are one
+pub some-same : {A : Type 0} (x y : A) (o : Option A) → o ≡ Some x → o ≡ Some y → x ≡ y
 some-same x y o e f = cc
 
 one-number : (words : List (List ℕ)) (n m : ℕ) → IsBadWord words n → IsBadWord words m → n ≡ m

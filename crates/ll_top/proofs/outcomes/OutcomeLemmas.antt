@@ -2,6 +2,7 @@
 use Rattle.std.proofs.Common.{◌≡◌, ℕ, refl, sym, subst, ◌∙◌, List}
 use Rattle.std.specs.Prelude.{Option, Some, Result, Ok, Err, IfOk, IfErr, OnOk, OnErr, IsErrAnd}
 use Rattle.std.specs.Io.KnownBytes.{append_known}
+use Rattle.ll_lists.proofs.CallerLemmas.{some_is}
 use Rattle.ll_edge.specs.Counts.{Rose}
 use Rattle.ll_edge.specs.Pieces.{AppendsFront}
 use Rattle.ll_edge.specs.Log.{Entry}
@@ -65,15 +66,12 @@ run-ended-as told absence read_failed run first p n m b a r is u v s t f e =
     (subst (λ x. OnOk r (a ≡ append_known b (text_of_run x run.proofs p))) (sym is) t) f
     (subst (λ x. OnErr r (AppendsFront b (text_of_run x run.proofs p) a)) (sym is) e)
 
-some-list : {a b : List ℕ} → Some a ≡ Some b → a ≡ b
-some-list e = cc
-
 -- what a run read, and what the sink took, where it ended
 pub run-reads : (run : RunWords) (before after : List Entry) (taken later : List ℕ) (p : ProblemTree) (r : Result Found Refusal)
     → ReadsWhatAsks run before after p → IfOk r (λ found. status_of_found found ≡ status_of_run run.first p)
     → OnOk r (Some later ≡ append_known (Some taken) (text_of_run run.first run.proofs p))
     → IfOk r (λ found. RunReads run before after taken later (status_of_found found))
-run-reads run before after taken later p (Ok done) reads s t = record { problem = p; reads = reads; takes = some-list t; status_is = s }
+run-reads run before after taken later p (Ok done) reads s t = record { problem = p; reads = reads; takes = some_is _ _ t; status_is = s }
 run-reads run before after taken later p (Err e) reads s t = tt
 
 module _ (told : Option Texts) (absence read_failed : List ℕ → Type 0) (write_failed : Type 0) (run : RunWords) (before after : Option (List ℕ)) where

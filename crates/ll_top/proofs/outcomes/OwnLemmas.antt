@@ -12,6 +12,7 @@ use Rattle.ll_judge.specs.declared.refusing.Refusal.TheVariants.{Text, Unwritabl
 use Rattle.ll_judge.specs.CallEnds.{AppendsOwn, nothing, front, Ends, unwritable, no_memory, whole}
 use Rattle.ll_top.specs.OwnEnds.{EndsOwn}
 use Rattle.ll_top.specs.Running.{IsRunRefusal}
+use Rattle.ll_top.proofs.outcomes.CallLemmas.{own-more}
 
 -- ---- two pieces, one behind the other
 
@@ -47,11 +48,7 @@ pub ends-more : {A : Type 0} (Comes Other : ℕ → List ℕ → Type 0) (status
 ends-more Comes Other status_of Fails Others w before after (Ok done) f g h = (h.0, f (status_of done) h.0 h.1, h.2)
 ends-more Comes Other status_of Fails Others w before after (Err (Text role refusal)) f g h = (g role refusal h.0, h.1)
 ends-more Comes Other status_of Fails Others w before after (Err Unwritable) f g h = (h.0, h.1, f h.0 h.1 h.2, h.3, h.4)
-ends-more Comes Other status_of Fails Others w before after (Err OutOfMemory) f g h = own h
-  where
-    own : AppendsOwn Comes before after → AppendsOwn Other before after
-    own (nothing e) = nothing e
-    own (front s t c a) = front s t (f s t c) a
+ends-more Comes Other status_of Fails Others w before after (Err OutOfMemory) f g h = own-more Comes Other before after f h
 
 module _ {A : Type 0} (Comes : ℕ → List ℕ → Type 0) (status_of : A → ℕ) (Fails : Role → TextRefusal → Type 0) (before after : Option (List ℕ)) where
   -- it stopped within its text: no write can fail, and no text be refused there but of the cause that is known

@@ -2,6 +2,7 @@
 use Rattle.std.proofs.Common.{◌≡◌, ℕ, List, [], ◌++◌, Option, None, Some, take, sym, ◌∙◌, IfSome}
 use Rattle.std.specs.Io.KnownBytes.{append_known}
 use Rattle.std.proofs.lemmas.List.{append-nil}
+use Rattle.ll_lists.proofs.CallerLemmas.{some_is}
 use Rattle.ll_edge.specs.Pieces.{AppendsFront}
 use Rattle.ll_edge.specs.Texts.{Texts}
 use Rattle.ll_edge.specs.Log.{Entry, ShelfKept, Agrees, Fits}
@@ -31,21 +32,18 @@ module _ (P : Option Texts → ℕ → Type 0) (before after : List Entry) where
 
 -- ---- what a sink tells
 
-some-list : {a b : List ℕ} → Some a ≡ Some b → a ≡ b
-some-list e = cc
-
 module _ (before after : List ℕ) (known later : Option (List ℕ)) (told : (more : List ℕ) → after ≡ before ++ more → later ≡ append_known known more) where
   front-told : (text : List ℕ) → AppendsFront (Some before) text (Some after) → AppendsFront known text later
-  front-told text f = record { taken = f.taken; within = f.within; appended = told (take f.taken text) (some-list f.appended) }
+  front-told text f = record { taken = f.taken; within = f.within; appended = told (take f.taken text) (some_is _ _ f.appended) }
 
   pub ends-told : (Comes : ℕ → List ℕ → Type 0) (write_failed : Type 0) (status : ℕ) → Ends Comes write_failed (Some before) (Some after) status
       → Ends Comes write_failed known later status
-  ends-told Comes w status (whole text c a) = whole text c (told text (some-list a))
+  ends-told Comes w status (whole text c a) = whole text c (told text (some_is _ _ a))
   ends-told Comes w status (unwritable meant text c h s a) = unwritable meant text c h s (front-told text a)
   ends-told Comes w status (no_memory s a) = no_memory s (own a)
     where
       own : AppendsOwn Comes (Some before) (Some after) → AppendsOwn Comes known later
-      own (nothing e) = nothing (told [] (some-list e ∙ sym (append-nil before)) ∙ append_known-nil known)
+      own (nothing e) = nothing (told [] (some_is _ _ e ∙ sym (append-nil before)) ∙ append_known-nil known)
       own (front s t c f) = front s t c (front-told t f)
 
   pub shown-told : (texts : Option Texts) (run : RunWords) → WritesShown texts run (Some before) (Some after) → WritesShown texts run known later
@@ -55,7 +53,7 @@ module _ (before after : List ℕ) (known later : Option (List ℕ)) (told : (mo
     answers = w.answers;
     are_shown = w.are_shown;
     covers = w.covers;
-    written = told _ (some-list w.written);
+    written = told _ (some_is _ _ w.written);
   }
 
   pub plain-told : (Comes : ℕ → List ℕ → Type 0) (write_failed : Type 0) (answer : Option ℕ)

@@ -46,6 +46,7 @@ impl<'p> Machine<'p> {
     /// Goes back to a good mark. Each good mark that is not past this one stays good, with its parts.
     ///
     /// It takes no memory, and time for the changes that it takes back.
+    #[inline(always)]
     pub fn undo(&mut self, mark: ChoiceMark)
         requires { IsGood mark self.old }
         ensures parts { parts_of self.new ≡ parts_at mark self.old }

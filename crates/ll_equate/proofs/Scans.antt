@@ -305,6 +305,12 @@ pub scan-ends : (nodes : Nodes) (t : Table) (x l : ℕ) (places : List At) (vars
     → IsScanned nodes t x l places vars whole items → items ≡ [] → IsScan t x l vars whole true
 scan-ends nodes t x l places vars whole items h e = (closed (IsGood x l vars whole) (IsScanning nodes t x l vars whole) items h.frames e, h.noted)
 
+-- what came of the whole term
+pub passed-ends : (nodes : Nodes) (t : Table) (x l : ℕ) (places : List At) (vars : List ℕ) (whole : Term) (b : Bool)
+    → IsPassed nodes t x l places vars whole [] b → IsScan t x l vars whole b
+passed-ends nodes t x l places vars whole true h = scan-ends nodes t x l places vars whole [] h refl
+passed-ends nodes t x l places vars whole false h = h
+
 -- a place found at its slot
 pub known-at : (places : List At) (p at : At) (k : ℕ) → k < length places → p ≡ get_or places k p → IsKnown places at (nat_eq p.0 at.0)
 known-at places p at k b q = step (nat_eq p.0 at.0) refl

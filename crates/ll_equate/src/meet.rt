@@ -87,6 +87,7 @@ fn compare_applied(bank: &Bank, left: At, right: At) -> Compared
 }
 
 /// How two terms compare.
+#[inline(always)]
 pub fn compare<T: Bindings>(
     bank: &Bank,
     table: &T,

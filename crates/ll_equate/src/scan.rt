@@ -58,6 +58,7 @@ impl Seen {
     }
 
     // Notes a place, where that is worth its cost.
+    #[inline(always)]
     fn add(&mut self, at: At) -> Result<(), OutOfMemory>
         ensures places { OnOk result ((self.new.places.items ≡ self.old.places.items ++ at ∷ []) ⊎ (self.new.places.items ≡ self.old.places.items)) }
         ensures vars { self.new.vars.items ≡ self.old.vars.items }
@@ -73,6 +74,7 @@ impl Seen {
     }
 
     // Looks at the sign at a place, and notes its variable.
+    #[inline(always)]
     fn look(&mut self, bank: &Bank, var: usize, level: u32, at: At) -> Result<bool, OutOfMemory>
         requires { HasTerm bank.now at.0 }
         ensures look { IfOk result (λ good. IsLook (term_tree bank.now at.0) var level self.old.vars.items self.new.vars.items good) }
@@ -91,6 +93,7 @@ impl Seen {
     }
 
     // Looks at the sign at a place whose arguments are done, and notes its variable and the place.
+    #[inline(always)]
     fn done(&mut self, bank: &Bank, var: usize, level: u32, at: At) -> Result<bool, OutOfMemory>
         requires { HasTerm bank.now at.0 }
         ensures look { IfOk result (λ good. IsLook (term_tree bank.now at.0) var level self.old.vars.items self.new.vars.items good) }
@@ -148,7 +151,7 @@ fn pass<T: Bindings>(
 }
 
 /// Whether a variable of this level may be bound to the term at a place: it does not stand in the term, and the term's
-/// eigenconstants are below the level. The term's variables are then noted.
+/// eigenconstants are below the level. The term's variables are then noted. A term without arguments takes a look at its sign alone.
 pub fn scan<T: Bindings>(
     alloc: Global,
     bank: &Bank,
@@ -165,6 +168,9 @@ pub fn scan<T: Bindings>(
     ensures { IfOk result (λ good. IsScan (T.table table.now) var level seen.new.vars.items
         (sub (found bank.now (T.table table.now)) (term_tree bank.now start.0)) good) }
 {
+    if arguments(bank, start).is_empty() {
+        return seen.done(bank, var, level, start);
+    }
     let mut frames = Frames::new(alloc);
     let mut frame = Frame { at: start, next: 0 };
     'frames: loop {

@@ -1,5 +1,5 @@
 -- What is closed in a bank that grows, seen in the first bank and in the grown one.
-use Rattle.std.proofs.Common.{◌≡◌, ℕ, ◌+◌, ◌<◌, ◌++◌, map, take, true, List, [], ◌∷◌, length, get_or, ap, sym, subst, ◌∙◌, Option}
+use Rattle.std.proofs.Common.{◌≡◌, ℕ, ◌+◌, ◌<◌, ◌++◌, map, take, true, List, [], ◌∷◌, length, get_or, ap, sym, subst, ◌∙◌, arith, Option}
 use Rattle.std.proofs.lemmas.List.{map-append, map_more}
 use Rattle.std.proofs.lemmas.List.Elements.{All-push}
 use Rattle.ll_bank.specs.declared.At.{At}
@@ -76,6 +76,18 @@ module _ (first now : Nodes) (e : Extends first now) (values : List At) (all : A
         → ShowsTerm next image (close (under (env_of first values) k.1) (term_tree first k.0))
     term_shown next image h s = subst (λ v. ShowsTerm next image (close (under v k.1) (term_tree first k.0))) same_env
         (subst (λ u. ShowsTerm next image (close (under (env_of now values) k.1) u)) (term_tree-extends e k.0 h) s)
+
+    -- and likewise a formula
+    pub form_shown : (next : Nodes) (image : ℕ) → HasForm first k.0
+        → ShowsForm next image (close_form (under (env_of now values) k.1) (form_tree now k.0))
+        → ShowsForm next image (close_form (under (env_of first values) k.1) (form_tree first k.0))
+    form_shown next image h s = subst (λ v. ShowsForm next image (close_form (under v k.1) (form_tree first k.0))) same_env
+        (subst (λ u. ShowsForm next image (close_form (under (env_of now values) k.1) u)) (form_tree-extends e k.0 h) s)
+
+    -- a formula that is good in the first bank is good in the grown one
+    pub form_heads_kept : HasForm first k.0 → form_applies_heads (close_form (under (env_of first values) k.1) (form_tree first k.0)) ≡ true
+        → form_applies_heads (close_form (under (env_of now values) k.1) (form_tree now k.0)) ≡ true
+    form_heads_kept h g = form_heads_now (k.0 + k.1) (record { inside = h; heads = g; level = omega arith })
 
     -- the only image that is left
     pub term_left : (made : List At) (d : At) → d ≡ get_or made 0 d → HasTerm first k.0

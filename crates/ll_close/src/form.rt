@@ -1,24 +1,29 @@
 //! Formulas with values in place of their free bound places.
-ghost use Rattle.std.specs.Prelude.{◌≡◌, ◌-◌, ◌+◌, ◌≤◌, ◌++◌, ◌∷◌, [], ℕ, true, length, map, take, reverse, All, IfOk, OnOk};
+ghost use Rattle.std.specs.Prelude.{◌≡◌, ◌-◌, ◌+◌, ◌≤◌, ◌&&◌, ◌++◌, ◌∷◌, [], ℕ, true, length, map, take, reverse, All, IfOk, IfSome, OnOk};
 ghost use Rattle.std.specs.HashMap.{get};
 ghost use Rattle.ll_bank.specs.Term.{close, applies_heads};
-ghost use Rattle.ll_bank.specs.Form.{close_form, form_applies_heads};
+ghost use Rattle.ll_bank.specs.Form.{Atom, close_form, form_applies_heads};
 ghost use Rattle.ll_bank.specs.Nodes.{term_tree, form_tree, term_trees, form_of, HasTerm, HasForm, AllInTerms, HasParts, ShowsTerm, ShowsForm, Extends};
 ghost use Rattle.ll_bank.specs.Opened.{Spot, AreImages, ArePartsOf, form_parts_at, form_size_at};
 ghost use Rattle.ll_close.specs.Closing.{env_of, under, same_spot, IsTermImage, IsFormImage, IsGoodForm, IsNum};
 ghost use Rattle.ll_close.specs.Stacks.{visit, ready, AreImagesOf, EndsWith};
 
+use crate::flat::{FEW, all_at_hand};
 use crate::images::Images;
 use crate::stack::{Task, push_part};
-use crate::term::{close_term, closed_term};
-use ll_bank::{At, Bank, FormAt, FormNode, OutOfMemory};
+use crate::term::{close_term, closed_head, closed_term};
+use ll_bank::{At, Bank, FormAt, FormNode, OutOfMemory, TermView};
 use std::alloc::Global;
+
+/// A formula so deep at most, its atoms counted, is closed by calls of `closed_flat`, a deeper one with stacks.
+const SHALLOW: usize = 6;
 
 /// The formula at a place with values for its free bound places, the outermost first. What holds none of them is shared, and bound
 /// places further out count down.
 ///
 /// Nothing but a head may get arguments by it. A formula that shares much takes time and memory for its places, not for its tree.
 /// After a refusal the bank may have more places.
+#[inline(always)]
 pub fn close_form(
     alloc: Global,
     bank: &mut Bank,
@@ -39,8 +44,178 @@ pub fn close_form(
             let atom = close_term(alloc, bank, atom, values)?;
             share_form(bank, form, FormNode::Atom(atom))
         }
-        _ => close_deep(alloc, bank, form, values),
+        _ => match closed_flat(alloc, bank, form, 0, values, SHALLOW)? {
+            Some(image) => Ok(image),
+            None => close_deep(alloc, bank, form, values),
+        },
     }
+}
+
+/// The image of a formula at a level, by calls of itself. None where it is deeper than `depth`, its atoms counted, where it holds a load
+/// or a whole-number goal, or where an argument of an atom has arguments or no place that shows its image; the bank may then have more
+/// places.
+#[cycle(flat)]
+fn closed_flat(
+    alloc: Global,
+    bank: &mut Bank,
+    form: FormAt,
+    level: usize,
+    values: &[At],
+    depth: usize,
+) -> Result<Option<FormAt>, OutOfMemory>
+    requires inside { HasForm bank.old form.0 }
+    requires values { AllInTerms bank.old values.now }
+    requires heads { form_applies_heads (close_form (under (env_of bank.old values.now) level) (form_tree bank.old form.0)) ≡ true }
+    requires level { level + depth ≤ 18446744073709551615 }
+    ensures shows { IfOk result (λ made. IfSome made (λ image. ShowsForm bank.new image.0
+        (close_form (under (env_of bank.old values.now) level) (form_tree bank.old form.0)))) }
+    ensures keeps { Extends bank.old bank.new }
+{
+    if depth == 0 {
+        return Ok(None);
+    }
+    let left = depth - 1;
+    match bank.form_at(form) {
+        FormNode::Top => Ok(Some(form)),
+        FormNode::One => Ok(Some(form)),
+        FormNode::Atom(atom) => closed_atom(alloc, bank, form, atom, level, values),
+        FormNode::With(f, g) => match closed_pair(alloc, bank, f, g, level, values, left)? {
+            Some(parts) => some_shared(bank, form, FormNode::With(parts.0, parts.1)),
+            None => Ok(None),
+        },
+        FormNode::Tensor(f, g) => match closed_pair(alloc, bank, f, g, level, values, left)? {
+            Some(parts) => some_shared(bank, form, FormNode::Tensor(parts.0, parts.1)),
+            None => Ok(None),
+        },
+        FormNode::Plus(f, g) => match closed_pair(alloc, bank, f, g, level, values, left)? {
+            Some(parts) => some_shared(bank, form, FormNode::Plus(parts.0, parts.1)),
+            None => Ok(None),
+        },
+        FormNode::Lolli(f, g) => match closed_pair(alloc, bank, f, g, level, values, left)? {
+            Some(parts) => some_shared(bank, form, FormNode::Lolli(parts.0, parts.1)),
+            None => Ok(None),
+        },
+        FormNode::Imp(f, g) => match closed_pair(alloc, bank, f, g, level, values, left)? {
+            Some(parts) => some_shared(bank, form, FormNode::Imp(parts.0, parts.1)),
+            None => Ok(None),
+        },
+        _ => closed_under(alloc, bank, form, level, values, left),
+    }
+}
+
+/// The image of a formula with one under it, as `closed_flat` makes it; the one under it is `depth` deep at most.
+#[cycle(flat)]
+fn closed_under(
+    alloc: Global,
+    bank: &mut Bank,
+    form: FormAt,
+    level: usize,
+    values: &[At],
+    depth: usize,
+) -> Result<Option<FormAt>, OutOfMemory>
+    requires inside { HasForm bank.old form.0 }
+    requires values { AllInTerms bank.old values.now }
+    requires heads { form_applies_heads (close_form (under (env_of bank.old values.now) level) (form_tree bank.old form.0)) ≡ true }
+    requires level { level + 1 + depth ≤ 18446744073709551615 }
+    ensures shows { IfOk result (λ made. IfSome made (λ image. ShowsForm bank.new image.0
+        (close_form (under (env_of bank.old values.now) level) (form_tree bank.old form.0)))) }
+    ensures keeps { Extends bank.old bank.new }
+{
+    match bank.form_at(form) {
+        FormNode::Bang(f) => match closed_flat(alloc, bank, f, level, values, depth)? {
+            Some(part) => some_shared(bank, form, FormNode::Bang(part)),
+            None => Ok(None),
+        },
+        FormNode::Forall(f) => match closed_flat(alloc, bank, f, level + 1, values, depth)? {
+            Some(part) => some_shared(bank, form, FormNode::Forall(part)),
+            None => Ok(None),
+        },
+        FormNode::Exists(f) => match closed_flat(alloc, bank, f, level + 1, values, depth)? {
+            Some(part) => some_shared(bank, form, FormNode::Exists(part)),
+            None => Ok(None),
+        },
+        _ => Ok(None),
+    }
+}
+
+/// The images of two formulas at a level, as `closed_flat` makes them.
+#[cycle(flat)]
+fn closed_pair(
+    alloc: Global,
+    bank: &mut Bank,
+    left: FormAt,
+    right: FormAt,
+    level: usize,
+    values: &[At],
+    depth: usize,
+) -> Result<Option<(FormAt, FormAt)>, OutOfMemory>
+    requires left { HasForm bank.old left.0 }
+    requires right { HasForm bank.old right.0 }
+    requires values { AllInTerms bank.old values.now }
+    requires heads { (form_applies_heads (close_form (under (env_of bank.old values.now) level) (form_tree bank.old left.0))
+        && form_applies_heads (close_form (under (env_of bank.old values.now) level) (form_tree bank.old right.0))) ≡ true }
+    requires level { level + depth ≤ 18446744073709551615 }
+    ensures left { IfOk result (λ made. IfSome made (λ images. ShowsForm bank.new images.0.0
+        (close_form (under (env_of bank.old values.now) level) (form_tree bank.old left.0)))) }
+    ensures right { IfOk result (λ made. IfSome made (λ images. ShowsForm bank.new images.1.0
+        (close_form (under (env_of bank.old values.now) level) (form_tree bank.old right.0)))) }
+    ensures keeps { Extends bank.old bank.new }
+{
+    let Some(first) = closed_flat(alloc, bank, left, level, values, depth)? else {
+        return Ok(None);
+    };
+    match closed_flat(alloc, bank, right, level, values, depth)? {
+        Some(second) => Ok(Some((first, second))),
+        None => Ok(None),
+    }
+}
+
+/// The image of an atom, where the images of its arguments are at hand, and else None.
+fn closed_atom(
+    alloc: Global,
+    bank: &mut Bank,
+    form: FormAt,
+    atom: At,
+    level: usize,
+    values: &[At],
+) -> Result<Option<FormAt>, OutOfMemory>
+    requires inside { HasForm bank.old form.0 }
+    requires atom { HasTerm bank.old atom.0 }
+    requires values { AllInTerms bank.old values.now }
+    requires heads { applies_heads (close (under (env_of bank.old values.now) level) (term_tree bank.old atom.0)) ≡ true }
+    ensures shows { IfOk result (λ made. IfSome made (λ image. ShowsForm bank.new image.0
+        (Atom (close (under (env_of bank.old values.now) level) (term_tree bank.old atom.0))))) }
+    ensures keeps { Extends bank.old bank.new }
+{
+    match bank.term_at(atom) {
+        TermView::Var(_) => some_shared(bank, form, FormNode::Atom(atom)),
+        TermView::Int(_) => some_shared(bank, form, FormNode::Atom(atom)),
+        TermView::App(head, args) => {
+            let count = args.len();
+            let mut own = [At(0); FEW];
+            if !all_at_hand(bank, args, level, values, &mut own) {
+                return Ok(None);
+            }
+            let image = closed_head(alloc, bank, atom, level, values, head, &own[..count])?;
+            some_shared(bank, form, FormNode::Atom(image))
+        }
+    }
+}
+
+/// A place of the formula that the node builds, as `share_form` finds it.
+#[inline(always)]
+fn some_shared(
+    bank: &mut Bank,
+    at: FormAt,
+    node: FormNode<'_>,
+) -> Result<Option<FormAt>, OutOfMemory>
+    requires inside { HasForm bank.old at.0 }
+    requires parts { HasParts bank.old node }
+    ensures shows { IfOk result (λ made. IfSome made (λ image. ShowsForm bank.new image.0 (form_of bank.old node.entry))) }
+    ensures keeps { Extends bank.old bank.new }
+{
+    let image = share_form(bank, at, node)?;
+    Ok(Some(image))
 }
 
 /// The formula at a place with values for its free bound places, by a stack of its parts.
@@ -330,6 +505,7 @@ fn closed_terms(
 }
 
 /// A place of the formula that the node builds: this one, if it has that node.
+#[inline(always)]
 fn share_form(bank: &mut Bank, at: FormAt, node: FormNode<'_>) -> Result<FormAt, OutOfMemory>
     requires inside { HasForm bank.old at.0 }
     requires parts { HasParts bank.old node }

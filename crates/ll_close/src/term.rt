@@ -18,6 +18,7 @@ use std::alloc::Global;
 ///
 /// Nothing but a head may get arguments by it. A term that shares much takes time and memory for its places, not for its tree. After a
 /// refusal the bank may have more places.
+#[inline(always)]
 pub fn close_term(alloc: Global, bank: &mut Bank, at: At, values: &[At]) -> Result<At, OutOfMemory>
     requires inside { HasTerm bank.old at.0 }
     requires values { AllInTerms bank.old values.now }
@@ -33,6 +34,7 @@ pub fn close_term(alloc: Global, bank: &mut Bank, at: At, values: &[At]) -> Resu
 }
 
 /// The image of a term at a level. Images that are known are shared.
+#[inline(always)]
 pub(crate) fn closed_term(
     alloc: Global,
     bank: &mut Bank,
@@ -163,7 +165,8 @@ fn build_term(
 }
 
 /// What stands for a head, with these arguments: at the place itself, if it has them.
-fn closed_head(
+#[inline(always)]
+pub(crate) fn closed_head(
     alloc: Global,
     bank: &mut Bank,
     at: At,
@@ -243,6 +246,7 @@ fn put_value(alloc: Global, bank: &mut Bank, value: At, args: &[At]) -> Result<A
 }
 
 /// A place of the head with these arguments: this one, if it has them.
+#[inline(always)]
 fn share_term(bank: &mut Bank, at: At, head: Head, args: &[At]) -> Result<At, OutOfMemory>
     requires inside { HasTerm bank.old at.0 }
     requires places { AllInTerms bank.old args.now }

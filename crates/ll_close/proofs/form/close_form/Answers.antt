@@ -1,12 +1,13 @@
 use Rattle.std.proofs.Common.{ap, sym, subst, ◌∙◌, length}
 use Rattle.std.specs.Prelude.{IfOk}
 use Rattle.std.proofs.lemmas.Bool.{eqb-true}
-use Rattle.std.proofs.lemmas.Result.{IfOk-from_err}
+use Rattle.std.proofs.lemmas.Result.{IfOk-from_err, IfOk-weaker}
 use Rattle.ll_bank.specs.Form.{Atom, close_form, form_applies_heads}
 use Rattle.ll_bank.specs.Nodes.{form_tree, ShowsForm}
-use Rattle.ll_bank.proofs.CallerLemmas.{Extends-refl, Extends-trans, HasForm-extends}
+use Rattle.ll_bank.proofs.CallerLemmas.{Extends-refl, Extends-trans, HasForm-extends, AllInTerms-extends}
 use Rattle.ll_close.specs.Closing.{env_of}
 use Rattle.ll_close.proofs.Values.{form_empty}
+use Rattle.ll_close.proofs.Steps.{form_heads_kept, form_shown}
 use Rattle.ll_close.proofs.form.close_form.Goals as goal
 
 pub returns-then-is_empty-clause-shows : goal.returns-then-is_empty-clause-shows
@@ -48,7 +49,14 @@ pub share_form-requires-clause-parts : goal.share_form-requires-clause-parts
 share_form-requires-clause-parts c = c.in_ok-atom-in-Atom.ensures.shows.inside
 
 pub close_deep-requires : goal.close_deep-requires
-close_deep-requires c = record { inside = c.requires.inside; values = c.requires.values; heads = c.requires.heads }
+close_deep-requires c =
+    let more = c.closed_flat.ensures.keeps in
+    record {
+      inside = HasForm-extends more c.args.form.0 c.requires.inside;
+      values = AllInTerms-extends more c.args.values.now c.requires.values;
+      heads = form_heads_kept c.args.bank.now c.closed_flat.new.bank more c.args.values.now c.requires.values (c.args.form.0, 0) c.requires.inside
+          c.requires.heads;
+    }
 
 pub returns-in_ok-atom-in-Atom-clause-shows : goal.returns-in_ok-atom-in-Atom-clause-shows
 returns-in_ok-atom-in-Atom-clause-shows c =
@@ -59,5 +67,11 @@ returns-in_ok-atom-in-Atom-clause-shows c =
 pub returns-in_ok-atom-in-Atom-clause-keeps : goal.returns-in_ok-atom-in-Atom-clause-keeps
 returns-in_ok-atom-in-Atom-clause-keeps c = Extends-trans c.close_term.ensures.keeps c.share_form.ensures.keeps
 
-pub returns-in_default : goal.returns-in_default
-returns-in_default c = record { shows = c.close_deep.ensures.shows; keeps = c.close_deep.ensures.keeps }
+pub returns-in-None : goal.returns-in-None
+returns-in-None c =
+    let more = c.closed_flat.ensures.keeps in
+    record {
+      shows = IfOk-weaker c.close_deep.result _ _ (λ made h. form_shown c.args.bank.now c.closed_flat.new.bank more c.args.values.now c.requires.values
+          (c.args.form.0, 0) c.close_deep.new.bank made.0 c.requires.inside h) c.close_deep.ensures.shows;
+      keeps = Extends-trans more c.close_deep.ensures.keeps;
+    }

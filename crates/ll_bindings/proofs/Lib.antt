@@ -2,5 +2,6 @@ pub mod Spines
 pub mod Stacks
 pub mod Readings
 pub mod Tables
+pub mod Views
 pub mod Frames
 pub mod CallerLemmas

@@ -190,3 +190,8 @@ pub record Meets (nodes : Nodes) (old new : Table) (u v : Term) (bound : Bool) :
   pub value : Term
   pub meet : diff (sub (found nodes old) u) (sub (found nodes old) v) ≡ Meet var value
   pub binds : Binds nodes old new u v (bind old.levels var value) bound
+
+-- a place of a term whose variables have cells, in a bank whose bindings are a table
+pub record IsReadable (nodes : Nodes) (t : Table) (at : ℕ) : Type 0 where
+  pub table : IsTable nodes t
+  pub place : IsPlaceOf nodes t at

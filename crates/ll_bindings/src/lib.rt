@@ -2,7 +2,9 @@
 #![tactic(auto)]
 
 mod frame;
+mod reading;
 mod table;
 
 pub use frame::Frame;
+pub use reading::Reading;
 pub use table::{Bindings, argument, arguments, walk};

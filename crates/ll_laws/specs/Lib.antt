@@ -19,6 +19,7 @@ pub mod Shows
 pub mod Fault
 pub mod Line
 pub mod Verdict
+pub mod Views
 pub mod Run
 pub mod Dealing
 pub mod Dealt

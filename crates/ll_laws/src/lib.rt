@@ -1,7 +1,7 @@
 //! The definitions of the language and its search, their laws, and the types that crates share.
 //!
-//! The functions of [`Notice`] have code. Any other function here has none: it carries a law as its contract, and is called where that law
-//! is wanted. The definitions stand in `specs/`, and `docs/DEFINITIONS.md` explains them in reading order.
+//! The functions of [`Terms`] and [`Notice`] have code. Any other function here has none: it carries a law as its contract, and is called
+//! where that law is wanted. The definitions stand in `specs/`, and `docs/DEFINITIONS.md` explains them in reading order.
 #![tactic(auto)]
 
 ghost use Rattle.std.specs.Prelude.{◌≡◌, length};
@@ -10,7 +10,7 @@ ghost use Rattle.ll_laws.specs.Laws.{SettlesConsistent, StepsConsistent, FoundUn
 ghost use Rattle.ll_laws.specs.Laws.{ShownIsDerivable, FaultlessShows, ShownIsFaultless, RunsAreShown, AnswersAreShown};
 ghost use Rattle.ll_laws.specs.Completeness.{ShownRuns, HiddenCover, RunsAreFound, ShownIsFound, ShownIsAnswered, ShownIsNumbered, NothingIsShown};
 
-use ll_bank::{At, Bank, FormAt, Names, OutOfMemory};
+use ll_bank::{At, Bank, FormAt, Names, OutOfMemory, TermView};
 use std::alloc::Global;
 use std::marker::Model;
 
@@ -169,6 +169,38 @@ pub enum Event {
     Answer(Branch),
     /// A branch that was cut off at the bound.
     Reached,
+}
+
+/// Terms that are looked at by their places: those of a bank, or those that a bank shows under bindings.
+///
+/// Contracts see which places are those of terms, and the term of each.
+pub trait Terms {
+    ghost use Rattle.std.specs.Prelude.{ℕ};
+    ghost use Rattle.ll_bank.specs.Term.{Term};
+    ghost use Rattle.ll_laws.specs.Views.{IsViewOf};
+
+    // The places of terms.
+    ghost has: { Self → ℕ → Type 0 };
+
+    // The term of a place.
+    ghost tree: { Self → ℕ → Term };
+
+    /// What stands at the place of a term.
+    fn view(&self, at: At) -> TermView<'_>
+        requires { has self.now at.0 }
+        ensures { IsViewOf (has self.now) (tree self.now) at.0 result };
+}
+
+impl Terms for Bank {
+    ghost use Rattle.ll_bank.specs.Nodes.{term_tree, HasTerm};
+
+    ghost has = { HasTerm };
+
+    ghost tree = { term_tree };
+
+    fn view(&self, at: At) -> TermView<'_> {
+        self.term_at(at)
+    }
 }
 
 /// What stands for an event of a search on its way from the worker that found it: the event itself, or as much of it as its taker wants.

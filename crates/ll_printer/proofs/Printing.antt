@@ -1,57 +1,57 @@
 -- Texts piece by piece.
-use Rattle.std.proofs.Common.{◌≡◌, ℕ, zero, suc, ◌+◌, ◌*◌, ◌<◌, ◌≤◌, Bool, true, false, ◌&&◌, eqb, List, [], ◌∷◌, ◌++◌, length}
-use Rattle.std.proofs.Common.{All, get_or, take, drop, refl, ap, sym}
+use Rattle.std.proofs.Common.{◌≡◌, ℕ, zero, suc, ◌+◌, ◌*◌, ◌<◌, ◌≤◌, Bool, true, false, ◌&&◌, eqb, List, [], ◌∷◌, ◌++◌, length, map}
+use Rattle.std.proofs.Common.{All, get_or, take, drop, refl, ap, sym, subst, Option, Some, None}
 use Rattle.std.proofs.Common.{◌∙◌, arith, append_assoc, if◌then◌else◌, codes, not}
-use Rattle.std.proofs.lemmas.List.{append-nil, drop_more, length-map}
+use Rattle.std.proofs.lemmas.List.{append-nil, length-map}
 use Rattle.std.proofs.lemmas.List.Elements.{All-head, All-tail, All-cons, All-append, All-push, All-drop}
 use Rattle.std.proofs.lemmas.Bool.{cond-true, cond-false, ne_eqb, eqb-true, and_parts, true≢false}
 use Rattle.ll_bank.specs.declared.At.{At}
 use Rattle.ll_bank.specs.declared.Head.{Head}
-use Rattle.ll_bank.specs.Term.{Term, Var, Int, Con, Ap, app, apply}
-use Rattle.ll_bank.specs.Nodes.{Nodes, term_tree, term_trees, HasTerm, AllInTerms}
+use Rattle.ll_bank.specs.declared.TermView.{TermView}
+use Rattle.ll_bank.specs.declared.TermView.TheVariants.{Var as VarView, Int as IntView, App as AppView}
+use Rattle.ll_bank.specs.Term.{Term, Con, Ap, app, apply}
+use Rattle.ll_laws.specs.Views.{IsViewOf}
 use Rattle.ll_laws.specs.Output.{term_text, applied_text, argument_text, head_text, bracket_if, has_arguments, is_cons, is_cons_head}
 use Rattle.ll_printer.specs.declared.pieces.Piece.{Piece}
-use Rattle.ll_printer.specs.declared.pieces.Piece.TheVariants.{Term as TermPiece, Argument as ArgumentPiece, Rest as RestPiece}
-use Rattle.ll_printer.specs.declared.pieces.Piece.TheVariants.{Bracket as BracketPiece}
+use Rattle.ll_printer.specs.declared.pieces.Piece.TheVariants.{Argument as ArgumentPiece, Rest as RestPiece, Bracket as BracketPiece}
 use Rattle.ll_printer.specs.Pieces.{BeginsText}
-use Rattle.ll_printer.specs.Stack.{piece_text, stack_text, HasPiece, term_size, piece_weight, stack_weight, Moves, arguments_text, arguments_weight}
-use Rattle.ll_printer.specs.Stack.{argument_pieces, IsPrinting, cell_text, cell_weight, opening_text, closing_pieces}
+use Rattle.ll_printer.specs.Stack.{view_term, HasView, has_arguments_view, is_cons_view, sign_text, piece_text, stack_text, next_text, HasPiece, HasNext}
+use Rattle.ll_printer.specs.Stack.{term_size, piece_weight, stack_weight, next_weight, Moves, arguments_text, arguments_weight, argument_pieces, IsPrinting}
+use Rattle.ll_printer.specs.Stack.{cell_text, cell_weight, opening_text, closing_pieces}
 
 -- ---- the stack
 
-module _ (names : List (List ℕ)) (bank : Nodes) where
-  pub stack_text-append : (xs ys : List Piece) → stack_text names bank (xs ++ ys) ≡ stack_text names bank ys ++ stack_text names bank xs
-  stack_text-append [] ys = sym (append-nil (stack_text names bank ys))
+module _ (names : List (List ℕ)) (tree : ℕ → Term) where
+  pub stack_text-append : (xs ys : List Piece) → stack_text names tree (xs ++ ys) ≡ stack_text names tree ys ++ stack_text names tree xs
+  stack_text-append [] ys = sym (append-nil (stack_text names tree ys))
   stack_text-append (x ∷ xs) ys =
-      ap (λ t. t ++ piece_text names bank x) (stack_text-append xs ys)
-      ∙ append_assoc (stack_text names bank ys) (stack_text names bank xs) (piece_text names bank x)
+      ap (λ t. t ++ piece_text names tree x) (stack_text-append xs ys)
+      ∙ append_assoc (stack_text names tree ys) (stack_text names tree xs) (piece_text names tree x)
 
-  pub stack_weight-append : (xs ys : List Piece) → stack_weight bank (xs ++ ys) ≡ stack_weight bank xs + stack_weight bank ys
+  pub stack_weight-append : (xs ys : List Piece) → stack_weight tree (xs ++ ys) ≡ stack_weight tree xs + stack_weight tree ys
   stack_weight-append [] ys = omega arith
   stack_weight-append (x ∷ xs) ys = let e = stack_weight-append xs ys in omega arith
 
   -- arguments on it
-  pub argument_text-pieces : (args : List At) → stack_text names bank (argument_pieces args) ≡ arguments_text names (term_trees bank args)
+  argument_text-pieces : (args : List At) → stack_text names tree (argument_pieces args) ≡ arguments_text names (map (λ (a : At). tree a.0) args)
   argument_text-pieces [] = refl
   argument_text-pieces (a ∷ args) =
       stack_text-append (argument_pieces args) (ArgumentPiece a ∷ [])
-      ∙ ap (λ t. (codes " " ++ argument_text (term_tree bank a.0) (term_text names (term_tree bank a.0))) ++ t) (argument_text-pieces args)
+      ∙ ap (λ t. (codes " " ++ argument_text (tree a.0) (term_text names (tree a.0))) ++ t) (argument_text-pieces args)
 
-  pub argument_weight-pieces : (args : List At) → stack_weight bank (argument_pieces args) ≡ arguments_weight (term_trees bank args)
+  argument_weight-pieces : (args : List At) → stack_weight tree (argument_pieces args) ≡ arguments_weight (map (λ (a : At). tree a.0) args)
   argument_weight-pieces [] = refl
   argument_weight-pieces (a ∷ args) =
       let e = stack_weight-append (argument_pieces args) (ArgumentPiece a ∷ []) in let f = argument_weight-pieces args in omega arith
 
-  pub argument_pieces-inside : (args : List At) → AllInTerms bank args → All (HasPiece bank) (argument_pieces args)
-  argument_pieces-inside [] h = λ k d l. absurd (omega arith)
-  argument_pieces-inside (a ∷ args) h =
-      All-push (HasPiece bank) (argument_pieces args) (ArgumentPiece a) (argument_pieces-inside args (All-tail (λ (b : At). b.0 < length bank.terms) a args h))
-      (All-head (λ (b : At). b.0 < length bank.terms) a args h)
+no_pieces : (has : ℕ → Type 0) → All (HasPiece has) []
+no_pieces has = λ k d l. absurd (omega arith)
 
--- one argument more
-pub argument_pieces-more : (args : List At) (i : ℕ) (d : At) → i < length args
-    → argument_pieces (drop i args) ≡ argument_pieces (drop (i + 1) args) ++ ArgumentPiece (get_or args i d) ∷ []
-argument_pieces-more args i d l = ap argument_pieces (drop_more args i d l)
+argument_pieces-inside : (has : ℕ → Type 0) (args : List At) → All (λ (a : At). has a.0) args → All (HasPiece has) (argument_pieces args)
+argument_pieces-inside has [] h = no_pieces has
+argument_pieces-inside has (a ∷ args) h =
+    All-push (HasPiece has) (argument_pieces args) (ArgumentPiece a) (argument_pieces-inside has args (All-tail (λ (b : At). has b.0) a args h))
+    (All-head (λ (b : At). has b.0) a args h)
 
 -- ---- the text of a term
 
@@ -114,45 +114,57 @@ pub size-apply : (f : Term) (ts : List Term) → 2 * term_size (apply f ts) ≡ 
 size-apply f [] = omega arith
 size-apply f (t ∷ ts) = let e = size-apply (Ap f t) ts in omega arith
 
--- ---- one step
+-- a head without arguments
+head_alone : (names : List (List ℕ)) (h : Head) (term : At → Term) (args : List At) → not (eqb (length args) 0) ≡ false
+    → term_text names (app h (map term args)) ≡ head_text names h
+head_alone names h term [] e = refl
+head_alone names h term (a ∷ args) e =
+    let p : eqb (suc (length args)) 0 ≡ false = ne_eqb (suc (length args)) 0 (λ q. let x : ⊥ = absurd (omega arith) in x) in
+    absurd (true≢false (sym (ap not p) ∙ e))
 
-module _ (names : List (List ℕ)) (bank : Nodes) (text : List ℕ) (weight : ℕ) (old new : List Piece) (start end : List ℕ) (before : All (HasPiece bank) old)
-    (prefix : List ℕ) (is : end ≡ start ++ prefix) where
-  -- a first part of the text was printed, and pieces are left for what follows
-  pub moved : (qs : List Piece) → new ≡ old ++ qs → All (HasPiece bank) qs → text ≡ prefix ++ stack_text names bank qs → stack_weight bank qs < weight
-      → Moves names bank text weight old start new end
-  moved qs e inside t lighter = record {
-    written = prefix;
-    is = is;
-    rest = ap (λ ps. prefix ++ stack_text names bank ps) e
-        ∙ (ap (λ u. prefix ++ u) (stack_text-append names bank old qs)
-        ∙ (sym (append_assoc prefix (stack_text names bank qs) (stack_text names bank old)) ∙ ap (λ u. u ++ stack_text names bank old) (sym t)));
-    inside = rw e (All-append (HasPiece bank) old qs before inside);
-    lighter = let a = ap (stack_weight bank) e in let b = stack_weight-append names bank old qs in omega arith;
-  }
+-- ---- what stands at a place
 
-  -- the term alone is left, and goes on at once
-  pub moved_term : (at : At) → HasTerm bank at.0 → new ≡ old ++ TermPiece at ∷ [] → text ≡ prefix ++ term_text names (term_tree bank at.0)
-      → 2 * term_size (term_tree bank at.0) < weight
-      → Moves names bank text weight old start new end
-  moved_term at h e t lighter = moved (TermPiece at ∷ []) e (All-cons (HasPiece bank) (TermPiece at) [] h (λ k d l. absurd (omega arith))) t (omega arith)
+pub view-tree : (has : ℕ → Type 0) (tree : ℕ → Term) (at : ℕ) (v : TermView) → IsViewOf has tree at v → tree at ≡ view_term tree v
+view-tree has tree at (VarView n) h = h
+view-tree has tree at (IntView z) h = h
+view-tree has tree at (AppView h args) is = is.0
 
-  -- or the term and a bracket
-  pub moved_bracket : (at : At) (middle : List Piece) → HasTerm bank at.0 → middle ≡ old ++ BracketPiece ∷ [] → new ≡ middle ++ TermPiece at ∷ []
-      → text ≡ prefix ++ (term_text names (term_tree bank at.0) ++ codes ")") → 2 * term_size (term_tree bank at.0) + 1 < weight
-      → Moves names bank text weight old start new end
-  moved_bracket at middle h d e t lighter =
-      moved (BracketPiece ∷ TermPiece at ∷ []) (e ∙ (ap (λ ps. ps ++ TermPiece at ∷ []) d ∙ append_assoc old (BracketPiece ∷ []) (TermPiece at ∷ [])))
-      (All-cons (HasPiece bank) BracketPiece (TermPiece at ∷ []) tt (All-cons (HasPiece bank) (TermPiece at) [] h (λ k x l. absurd (omega arith)))) t
-      (omega arith)
+pub view-has : (has : ℕ → Type 0) (tree : ℕ → Term) (at : ℕ) (v : TermView) → IsViewOf has tree at v → HasView has v
+view-has has tree at (VarView n) h = tt
+view-has has tree at (IntView z) h = tt
+view-has has tree at (AppView h args) is = is.1
 
--- the text of an argument
-pub argument_is : (t : Term) (text : List ℕ) (b : Bool) → has_arguments t ≡ b
-    → codes " " ++ argument_text t text ≡ (if b then codes " (" ++ (text ++ codes ")") else codes " " ++ text)
-argument_is t text true e = ap (λ b. codes " " ++ bracket_if b text) e
-argument_is t text false e = ap (λ b. codes " " ++ bracket_if b text) e
+module _ (tree : ℕ → Term) where
+  -- whether it has arguments
+  view-arguments : (v : TermView) → has_arguments (view_term tree v) ≡ has_arguments_view v
+  view-arguments (VarView n) = refl
+  view-arguments (IntView z) = refl
+  view-arguments (AppView h args) =
+      has_arguments-app h (map (λ (a : At). tree a.0) args.now) (eqb (length args.now) 0)
+      (ap (λ n. eqb n 0) (sym (length-map args.now (λ (a : At). tree a.0))))
+
+  -- and whether it is of the form `X::L`
+  view-cons : (names : List (List ℕ)) (v : TermView) → is_cons names (view_term tree v) ≡ is_cons_view names v
+  view-cons names (VarView n) = refl
+  view-cons names (IntView z) = refl
+  view-cons names (AppView h args) =
+      is_cons-app names h (map (λ (a : At). tree a.0) args.now)
+      ∙ ap (λ n. eqb n 2 && is_cons_head names h) (length-map args.now (λ (a : At). tree a.0))
+
+  -- one without arguments
+  view-sign : (names : List (List ℕ)) (v : TermView) → has_arguments_view v ≡ false → term_text names (view_term tree v) ≡ sign_text names v
+  view-sign names (VarView n) e = refl
+  view-sign names (IntView z) e = refl
+  view-sign names (AppView h args) e = head_alone names h (λ (a : At). tree a.0) args.now e
 
 -- ---- refusals
+
+-- nothing was printed yet, or all that is to be
+pub begins_same : (text start end : List ℕ) → end ≡ start → BeginsText text start end
+begins_same text start end e = record { written = []; rest = text; is = e ∙ sym (append-nil start); begun = refl }
+
+pub begins_all : (text start end : List ℕ) → end ≡ start ++ text → BeginsText text start end
+begins_all text start end e = record { written = text; rest = []; is = e; begun = sym (append-nil text) }
 
 -- behind what was written of a text
 pub begins_on : (text start middle end first rest : List ℕ) → middle ≡ start ++ first → text ≡ first ++ rest → BeginsText rest middle end
@@ -173,284 +185,348 @@ begins_first text start end first rest t b = record {
   begun = t ∙ (ap (λ u. u ++ rest) b.begun ∙ append_assoc b.written b.rest rest);
 }
 
+-- ---- one step
+
+module _ (names : List (List ℕ)) (has : ℕ → Type 0) (tree : ℕ → Term) where
+  -- a first part of the text was printed, and a term that goes on and pieces are left for what follows
+  moved : (text : List ℕ) (weight : ℕ) (old new qs : List Piece) (next : Option TermView) (start end prefix : List ℕ) → All (HasPiece has) old
+      → end ≡ start ++ prefix → new ≡ old ++ qs → All (HasPiece has) qs → HasNext has next
+      → text ≡ prefix ++ (next_text names tree next ++ stack_text names tree qs) → next_weight tree next + stack_weight tree qs < weight
+      → Moves names has tree text weight old start new next end
+  moved text weight old new qs next start end prefix before is e inside goes t lighter = record {
+    written = prefix;
+    is = is;
+    rest = ap (λ ps. prefix ++ (next_text names tree next ++ stack_text names tree ps)) e
+        ∙ (ap (λ u. prefix ++ (next_text names tree next ++ u)) (stack_text-append names tree old qs)
+        ∙ (ap (λ u. prefix ++ u) (sym (append_assoc (next_text names tree next) (stack_text names tree qs) (stack_text names tree old)))
+        ∙ (sym (append_assoc prefix (next_text names tree next ++ stack_text names tree qs) (stack_text names tree old))
+        ∙ ap (λ u. u ++ stack_text names tree old) (sym t))));
+    inside = rw e (All-append (HasPiece has) old qs before inside);
+    next_inside = goes;
+    lighter = let a = ap (stack_weight tree) e in let b = stack_weight-append names tree old qs in omega arith;
+  }
+
+  -- the same text and the same work
+  pub moved_same : (text part : List ℕ) (weight less : ℕ) (old new : List Piece) (next : Option TermView) (start end : List ℕ) → text ≡ part
+      → weight ≡ less → Moves names has tree part less old start new next end → Moves names has tree text weight old start new next end
+  moved_same text part weight less old new next start end t w m = record {
+    written = m.written;
+    is = m.is;
+    rest = m.rest ∙ ap (λ u. u ++ stack_text names tree old) (sym t);
+    inside = m.inside;
+    next_inside = m.next_inside;
+    lighter = let k = m.lighter in omega arith;
+  }
+
+-- ---- an argument
+
+-- its text
+argument_is : (t : Term) (text : List ℕ) (b : Bool) → has_arguments t ≡ b
+    → codes " " ++ argument_text t text ≡ (if b then codes " (" ++ (text ++ codes ")") else codes " " ++ text)
+argument_is t text true e = ap (λ b. codes " " ++ bracket_if b text) e
+argument_is t text false e = ap (λ b. codes " " ++ bracket_if b text) e
+
+module _ (names : List (List ℕ)) (has : ℕ → Type 0) (tree : ℕ → Term) (at : At) (view : TermView) (shown : IsViewOf has tree at.0 view) where
+  same : tree at.0 ≡ view_term tree view
+  same = view-tree has tree at.0 view shown
+
+  abbrev argument : List ℕ
+  argument = codes " " ++ argument_text (tree at.0) (term_text names (tree at.0))
+
+  abbrev inner : List ℕ
+  inner = term_text names (view_term tree view)
+
+  -- with its bracket
+  opened-is : has_arguments_view view ≡ true → argument ≡ codes " (" ++ (inner ++ codes ")")
+  opened-is h =
+      ap (λ t. codes " " ++ argument_text t (term_text names t)) same
+      ∙ argument_is (view_term tree view) inner true (view-arguments tree view ∙ h)
+
+  -- or without
+  short-is : has_arguments_view view ≡ false → argument ≡ codes " " ++ sign_text names view
+  short-is h =
+      ap (λ t. codes " " ++ argument_text t (term_text names t)) same
+      ∙ (argument_is (view_term tree view) inner false (view-arguments tree view ∙ h) ∙ ap (λ u. codes " " ++ u) (view-sign tree names view h))
+
+  -- the term goes on in brackets
+  pub argument_opens : (old new : List Piece) (start end : List ℕ) → All (HasPiece has) old → has_arguments_view view ≡ true
+      → new ≡ old ++ BracketPiece ∷ [] → end ≡ start ++ codes " ("
+      → Moves names has tree argument (2 * term_size (tree at.0) + 2) old start new (Some view) end
+  argument_opens old new start end before h e is =
+      moved names has tree argument (2 * term_size (tree at.0) + 2) old new (BracketPiece ∷ []) (Some view) start end (codes " (") before is e
+      (All-cons (HasPiece has) BracketPiece [] tt (no_pieces has)) (view-has has tree at.0 view shown) (opened-is h)
+      (let k = ap term_size same in omega arith)
+
+  -- a refusal within it
+  pub opens_refused : (start end : List ℕ) → has_arguments_view view ≡ true → BeginsText (codes " (") start end → BeginsText argument start end
+  opens_refused start end h b = begins_first argument start end (codes " (") (inner ++ codes ")") (opened-is h) b
+
+-- ---- the form `X::L`
+
 -- a term in front of a `::` by its brackets
-item_brackets : (names : List (List ℕ)) (bank : Nodes) (x l : At) (b : Bool) (text : List ℕ)
-    → bracket_if b text ++ (codes "::" ++ term_text names (term_tree bank l.0))
-    ≡ opening_text b ++ (text ++ (stack_text names bank (closing_pieces b) ++ (codes "::" ++ term_text names (term_tree bank l.0))))
-item_brackets names bank x l true text =
-    append_assoc (codes "(") (text ++ codes ")") (codes "::" ++ term_text names (term_tree bank l.0))
-    ∙ ap (λ u. codes "(" ++ u) (append_assoc text (codes ")") (codes "::" ++ term_text names (term_tree bank l.0)))
-item_brackets names bank x l false text = refl
+item_brackets : (names : List (List ℕ)) (tree : ℕ → Term) (b : Bool) (text rest : List ℕ)
+    → bracket_if b text ++ (codes "::" ++ rest) ≡ opening_text b ++ (text ++ (stack_text names tree (closing_pieces b) ++ (codes "::" ++ rest)))
+item_brackets names tree true text rest =
+    append_assoc (codes "(") (text ++ codes ")") (codes "::" ++ rest) ∙ ap (λ u. codes "(" ++ u) (append_assoc text (codes ")") (codes "::" ++ rest))
+item_brackets names tree false text rest = refl
 
-closing-inside : (bank : Nodes) (b : Bool) → All (HasPiece bank) (closing_pieces b)
-closing-inside bank true = All-cons (HasPiece bank) BracketPiece [] tt (λ k d l. absurd (omega arith))
-closing-inside bank false = λ k d l. absurd (omega arith)
+closing-inside : (has : ℕ → Type 0) (b : Bool) → All (HasPiece has) (closing_pieces b)
+closing-inside has true = All-cons (HasPiece has) BracketPiece [] tt (no_pieces has)
+closing-inside has false = no_pieces has
 
-closing-light : (bank : Nodes) (b : Bool) → stack_weight bank (closing_pieces b) ≤ 1
-closing-light bank true = omega arith
-closing-light bank false = omega arith
+closing-light : (tree : ℕ → Term) (b : Bool) → stack_weight tree (closing_pieces b) ≤ 1
+closing-light tree true = omega arith
+closing-light tree false = omega arith
 
--- a term without arguments in front of a `::` has no brackets
-cell_plain : (names : List (List ℕ)) (t u : Term) → has_arguments t ≡ false
-    → bracket_if (is_cons names t) (term_text names t) ++ (codes "::" ++ term_text names u) ≡ term_text names t ++ (codes "::" ++ term_text names u)
-cell_plain names (Var n) u h = refl
-cell_plain names (Int z) u h = refl
-cell_plain names (Con c) u h = refl
-cell_plain names (Ap f a) u h = absurd (true≢false h)
+module _ (names : List (List ℕ)) (has : ℕ → Type 0) (tree : ℕ → Term) (x l : At) (item : TermView) (shown : IsViewOf has tree x.0 item) where
+  item_is : tree x.0 ≡ view_term tree item
+  item_is = view-tree has tree x.0 item shown
 
-module _ (names : List (List ℕ)) (bank : Nodes) where
-  -- the first of the two arguments of a `::` goes on, and the other one is left behind the sign
-  pub cell_opens : (x l : At) (old middle new : List Piece) (start end : List ℕ) → All (HasPiece bank) old → HasTerm bank x.0 → HasTerm bank l.0
-      → middle ≡ old ++ RestPiece l ∷ [] → new ≡ middle ++ closing_pieces (is_cons names (term_tree bank x.0))
-      → end ≡ start ++ opening_text (is_cons names (term_tree bank x.0))
-      → Moves names bank (cell_text names (term_trees bank (x ∷ l ∷ []))) (cell_weight (term_trees bank (x ∷ l ∷ []))) old start (new ++ TermPiece x ∷ []) end
-  cell_opens x l old middle new start end before hx hl d e is =
-      let b : Bool = is_cons names (term_tree bank x.0) in
-      let text : List ℕ = term_text names (term_tree bank x.0) in
-      let qs : List Piece = RestPiece l ∷ closing_pieces b ++ TermPiece x ∷ [] in
-      let placed : new ++ TermPiece x ∷ [] ≡ old ++ qs =
-      ap (λ ps. ps ++ TermPiece x ∷ []) (e ∙ (ap (λ ps. ps ++ closing_pieces b) d ∙ append_assoc old (RestPiece l ∷ []) (closing_pieces b)))
-      ∙ append_assoc old (RestPiece l ∷ closing_pieces b) (TermPiece x ∷ []) in
-      let shown : stack_text names bank qs ≡ text ++ (stack_text names bank (closing_pieces b) ++ (codes "::" ++ term_text names (term_tree bank l.0))) =
-      ap (λ u. u ++ (codes "::" ++ term_text names (term_tree bank l.0))) (stack_text-append names bank (closing_pieces b) (TermPiece x ∷ []))
-      ∙ append_assoc text (stack_text names bank (closing_pieces b)) (codes "::" ++ term_text names (term_tree bank l.0)) in
-      moved names bank (cell_text names (term_trees bank (x ∷ l ∷ []))) (cell_weight (term_trees bank (x ∷ l ∷ []))) old (new ++ TermPiece x ∷ []) start end
-      before (opening_text b) is qs placed
-      (All-cons (HasPiece bank) (RestPiece l) (closing_pieces b ++ TermPiece x ∷ []) hl
-      (All-push (HasPiece bank) (closing_pieces b) (TermPiece x) (closing-inside bank b) hx))
-      (append_assoc (bracket_if b text) (codes "::") (term_text names (term_tree bank l.0))
-      ∙ (item_brackets names bank x l b text ∙ ap (λ u. opening_text b ++ u) (sym shown)))
-      (let w = stack_weight-append names bank (closing_pieces b) (TermPiece x ∷ []) in let c = closing-light bank b in omega arith)
+  abbrev cell : List ℕ
+  cell = cell_text names (map (λ (a : At). tree a.0) (x ∷ l ∷ []))
 
-  -- the first one was printed with the sign, and the other one goes on
-  pub cell_goes : (x l : At) (old new : List Piece) (start end : List ℕ) → All (HasPiece bank) old → HasTerm bank l.0
-      → has_arguments (term_tree bank x.0) ≡ false → new ≡ old → end ≡ start ++ (term_text names (term_tree bank x.0) ++ codes "::")
-      → Moves names bank (cell_text names (term_trees bank (x ∷ l ∷ []))) (cell_weight (term_trees bank (x ∷ l ∷ []))) old start (new ++ TermPiece l ∷ []) end
-  cell_goes x l old new start end before hl h e is =
-      let text : List ℕ = term_text names (term_tree bank x.0) in
-      moved_term names bank (cell_text names (term_trees bank (x ∷ l ∷ []))) (cell_weight (term_trees bank (x ∷ l ∷ []))) old (new ++ TermPiece l ∷ [])
-      start end before (text ++ codes "::") is l hl (ap (λ ps. ps ++ TermPiece l ∷ []) e)
-      (append_assoc (bracket_if (is_cons names (term_tree bank x.0)) text) (codes "::") (term_text names (term_tree bank l.0))
-      ∙ (cell_plain names (term_tree bank x.0) (term_tree bank l.0) h ∙ sym (append_assoc text (codes "::") (term_text names (term_tree bank l.0)))))
-      (omega arith)
+  abbrev item_text : List ℕ
+  item_text = term_text names (view_term tree item)
+
+  abbrev behind : List ℕ
+  behind = codes "::" ++ term_text names (tree l.0)
+
+  -- with its brackets
+  cell_parts : cell ≡ opening_text (is_cons_view names item) ++ (item_text ++ (stack_text names tree (closing_pieces (is_cons_view names item)) ++ behind))
+  cell_parts =
+      append_assoc (bracket_if (is_cons names (tree x.0)) (term_text names (tree x.0))) (codes "::") (term_text names (tree l.0))
+      ∙ (ap (λ t. bracket_if (is_cons names t) (term_text names t) ++ behind) item_is
+      ∙ (ap (λ b. bracket_if b item_text ++ behind) (view-cons tree names item)
+      ∙ item_brackets names tree (is_cons_view names item) item_text (term_text names (tree l.0))))
+
+  -- the first of the two arguments goes on, and the other one is left behind the sign
+  cell_opens : (old middle new : List Piece) (start end : List ℕ) → All (HasPiece has) old → has l.0 → middle ≡ old ++ RestPiece l ∷ []
+      → new ≡ middle ++ closing_pieces (is_cons_view names item) → end ≡ start ++ opening_text (is_cons_view names item)
+      → Moves names has tree cell (cell_weight (map (λ (a : At). tree a.0) (x ∷ l ∷ []))) old start new (Some item) end
+  cell_opens old middle new start end before hl d e is =
+      let b : Bool = is_cons_view names item in
+      moved names has tree cell (cell_weight (map (λ (a : At). tree a.0) (x ∷ l ∷ []))) old new (RestPiece l ∷ closing_pieces b) (Some item) start end
+      (opening_text b) before is (e ∙ (ap (λ ps. ps ++ closing_pieces b) d ∙ append_assoc old (RestPiece l ∷ []) (closing_pieces b)))
+      (All-cons (HasPiece has) (RestPiece l) (closing_pieces b) hl (closing-inside has b)) (view-has has tree x.0 item shown) cell_parts
+      (let k = ap term_size item_is in let c = closing-light tree b in omega arith)
 
 -- by the list of both arguments
-module _ (names : List (List ℕ)) (bank : Nodes) where
-  pub cons_opens : (args : List At) (d : At) (old middle new : List Piece) (start end : List ℕ) → length args ≡ 2 → All (HasPiece bank) old
-      → AllInTerms bank args → middle ≡ old ++ RestPiece (get_or args 1 d) ∷ []
-      → new ≡ middle ++ closing_pieces (is_cons names (term_tree bank (get_or args 0 d).0))
-      → end ≡ start ++ opening_text (is_cons names (term_tree bank (get_or args 0 d).0))
-      → Moves names bank (cell_text names (term_trees bank args)) (cell_weight (term_trees bank args)) old start (new ++ TermPiece (get_or args 0 d) ∷ []) end
-  cons_opens [] d old middle new start end two before inside m e is = absurd (omega (arith, two))
-  cons_opens (x ∷ []) d old middle new start end two before inside m e is = absurd (omega (arith, two))
-  cons_opens (x ∷ y ∷ z ∷ args) d old middle new start end two before inside m e is = absurd (omega (arith, two))
-  cons_opens (x ∷ l ∷ []) d old middle new start end two before inside m e is =
-      let first = All-head (λ (a : At). a.0 < length bank.terms) x (l ∷ []) inside in
-      let second = All-head (λ (a : At). a.0 < length bank.terms) l [] (All-tail (λ (a : At). a.0 < length bank.terms) x (l ∷ []) inside) in
-      cell_opens names bank x l old middle new start end before first second m e is
-
-  pub cons_goes : (args : List At) (d : At) (old : List Piece) (start middle end : List ℕ) → length args ≡ 2 → All (HasPiece bank) old
-      → AllInTerms bank args → has_arguments (term_tree bank (get_or args 0 d).0) ≡ false
-      → middle ≡ start ++ term_text names (term_tree bank (get_or args 0 d).0) → end ≡ middle ++ codes "::"
-      → Moves names bank (cell_text names (term_trees bank args)) (cell_weight (term_trees bank args)) old start (old ++ TermPiece (get_or args 1 d) ∷ []) end
-  cons_goes [] d old start middle end two before inside h m e = absurd (omega (arith, two))
-  cons_goes (x ∷ []) d old start middle end two before inside h m e = absurd (omega (arith, two))
-  cons_goes (x ∷ y ∷ z ∷ args) d old start middle end two before inside h m e = absurd (omega (arith, two))
-  cons_goes (x ∷ l ∷ []) d old start middle end two before inside h m e =
-      let second = All-head (λ (a : At). a.0 < length bank.terms) l [] (All-tail (λ (a : At). a.0 < length bank.terms) x (l ∷ []) inside) in
-      cell_goes names bank x l old old start end before second h refl
-      (e ∙ (ap (λ u. u ++ codes "::") m ∙ append_assoc start (term_text names (term_tree bank x.0)) (codes "::")))
+module _ (names : List (List ℕ)) (has : ℕ → Type 0) (tree : ℕ → Term) where
+  pub cons_opens : (args : List At) (d : At) (item : TermView) (old middle new : List Piece) (start end : List ℕ) → length args ≡ 2
+      → IsViewOf has tree (get_or args 0 d).0 item → All (HasPiece has) old → All (λ (a : At). has a.0) args
+      → middle ≡ old ++ RestPiece (get_or args 1 d) ∷ [] → new ≡ middle ++ closing_pieces (is_cons_view names item)
+      → end ≡ start ++ opening_text (is_cons_view names item)
+      → Moves names has tree (cell_text names (map (λ (a : At). tree a.0) args)) (cell_weight (map (λ (a : At). tree a.0) args)) old start new (Some item) end
+  cons_opens [] d item old middle new start end two shown before inside m e is = absurd (omega (arith, two))
+  cons_opens (x ∷ []) d item old middle new start end two shown before inside m e is = absurd (omega (arith, two))
+  cons_opens (x ∷ y ∷ z ∷ args) d item old middle new start end two shown before inside m e is = absurd (omega (arith, two))
+  cons_opens (x ∷ l ∷ []) d item old middle new start end two shown before inside m e is =
+      cell_opens names has tree x l item shown old middle new start end before
+      (All-head (λ (a : At). has a.0) l [] (All-tail (λ (a : At). has a.0) x (l ∷ []) inside)) m e is
 
   -- a refusal within the bracket in front
-  pub cons_begins : (args : List At) (d : At) (start end : List ℕ) → length args ≡ 2
-      → BeginsText (opening_text (is_cons names (term_tree bank (get_or args 0 d).0))) start end
-      → BeginsText (cell_text names (term_trees bank args)) start end
-  cons_begins [] d start end two b = absurd (omega (arith, two))
-  cons_begins (x ∷ []) d start end two b = absurd (omega (arith, two))
-  cons_begins (x ∷ y ∷ z ∷ args) d start end two b = absurd (omega (arith, two))
-  cons_begins (x ∷ l ∷ []) d start end two b =
-      let c : Bool = is_cons names (term_tree bank x.0) in
-      let text : List ℕ = term_text names (term_tree bank x.0) in
-      begins_first (cell_text names (term_trees bank (x ∷ l ∷ []))) start end (opening_text c)
-      (text ++ (stack_text names bank (closing_pieces c) ++ (codes "::" ++ term_text names (term_tree bank l.0))))
-      (append_assoc (bracket_if c text) (codes "::") (term_text names (term_tree bank l.0)) ∙ item_brackets names bank x l c text) b
-
--- arguments in front, and those behind them
-pub arguments_parts : (names : List (List ℕ)) (bank : Nodes) (args : List At) (i : ℕ)
-    → arguments_text names (term_trees bank args) ≡ arguments_text names (term_trees bank (take i args)) ++ arguments_text names (term_trees bank (drop i args))
-arguments_parts names bank [] zero = refl
-arguments_parts names bank [] (suc i) = refl
-arguments_parts names bank (a ∷ args) zero = refl
-arguments_parts names bank (a ∷ args) (suc i) =
-    let t : List ℕ = argument_text (term_tree bank a.0) (term_text names (term_tree bank a.0)) in
-    ap (λ u. codes " " ++ (t ++ u)) (arguments_parts names bank args i)
-    ∙ sym (ap (λ u. codes " " ++ u)
-    (append_assoc t (arguments_text names (term_trees bank (take i args))) (arguments_text names (term_trees bank (drop i args)))))
-
--- one without arguments more in front
-pub arguments_more : (names : List (List ℕ)) (bank : Nodes) (args : List At) (i j : ℕ) (d : At) → i < length args → j ≡ suc i
-    → has_arguments (term_tree bank (get_or args i d).0) ≡ false
-    → arguments_text names (term_trees bank (take j args))
-    ≡ arguments_text names (term_trees bank (take i args)) ++ (codes " " ++ term_text names (term_tree bank (get_or args i d).0))
-arguments_more names bank args i j d l e h = ap (λ k. arguments_text names (term_trees bank (take k args))) e ∙ go args i l h
-  where
-    go : (as' : List At) (k : ℕ) → k < length as' → has_arguments (term_tree bank (get_or as' k d).0) ≡ false
-        → arguments_text names (term_trees bank (take (suc k) as'))
-        ≡ arguments_text names (term_trees bank (take k as')) ++ (codes " " ++ term_text names (term_tree bank (get_or as' k d).0))
-    go [] k l h = absurd (omega (arith, l))
-    go (a ∷ as') zero l h =
-        let t : List ℕ = term_text names (term_tree bank a.0) in
-        ap (λ b. codes " " ++ (bracket_if b t ++ [])) h ∙ ap (λ u. codes " " ++ u) (append-nil t)
-    go (a ∷ as') (suc k) l h =
-        let t : List ℕ = argument_text (term_tree bank a.0) (term_text names (term_tree bank a.0)) in
-        ap (λ u. codes " " ++ (t ++ u)) (go as' k (omega (arith, l)) h)
-        ∙ sym (ap (λ u. codes " " ++ u)
-        (append_assoc t (arguments_text names (term_trees bank (take k as'))) (codes " " ++ term_text names (term_tree bank (get_or as' k d).0))))
-
--- a head was printed with its arguments in front, and then one more
-pub applied_more : (names : List (List ℕ)) (bank : Nodes) (head : List ℕ) (args : List At) (i j : ℕ) (d : At) (old now next : List ℕ) → i < length args
-    → j ≡ suc i → has_arguments (term_tree bank (get_or args i d).0) ≡ false
-    → now ≡ old ++ (head ++ arguments_text names (term_trees bank (take i args)))
-    → next ≡ now ++ (codes " " ++ term_text names (term_tree bank (get_or args i d).0))
-    → next ≡ old ++ (head ++ arguments_text names (term_trees bank (take j args)))
-applied_more names bank head args i j d old now next l e h p q =
-    let front : List ℕ = arguments_text names (term_trees bank (take i args)) in
-    let one : List ℕ = codes " " ++ term_text names (term_tree bank (get_or args i d).0) in
-    q
-    ∙ (ap (λ u. u ++ one) p
-    ∙ (append_assoc old (head ++ front) one
-    ∙ ap (λ u. old ++ u) (append_assoc head front one ∙ ap (λ u. head ++ u) (sym (arguments_more names bank args i j d l e h)))))
-
--- a refusal within that one
-pub applied_begins : (names : List (List ℕ)) (bank : Nodes) (head : List ℕ) (args : List At) (i : ℕ) (d : At) (old now next : List ℕ) → i < length args
-    → has_arguments (term_tree bank (get_or args i d).0) ≡ false
-    → now ≡ old ++ (head ++ arguments_text names (term_trees bank (take i args)))
-    → BeginsText (codes " " ++ term_text names (term_tree bank (get_or args i d).0)) now next
-    → BeginsText (head ++ arguments_text names (term_trees bank args)) old next
-applied_begins names bank head args i d old now next l h p b =
-    let front : List ℕ = arguments_text names (term_trees bank (take i args)) in
-    let one : List ℕ = codes " " ++ term_text names (term_tree bank (get_or args i d).0) in
-    let behind : List ℕ = arguments_text names (term_trees bank (drop (suc i) args)) in
-    let whole : arguments_text names (term_trees bank args) ≡ front ++ (one ++ behind) =
-    arguments_parts names bank args (suc i)
-    ∙ (ap (λ u. u ++ behind) (arguments_more names bank args i (suc i) d l refl h) ∙ append_assoc front one behind) in
-    begins_on (head ++ arguments_text names (term_trees bank args)) old now next (head ++ front) (one ++ behind) p
-    (ap (λ u. head ++ u) whole ∙ sym (append_assoc head front (one ++ behind)))
-    (begins_first (one ++ behind) now next one behind refl b)
-
--- fewer arguments are no more work
-arguments_light : (bank : Nodes) (args : List At) (i : ℕ) → arguments_weight (term_trees bank (drop i args)) ≤ arguments_weight (term_trees bank args)
-arguments_light bank [] zero = omega arith
-arguments_light bank [] (suc i) = omega arith
-arguments_light bank (a ∷ args) zero = omega arith
-arguments_light bank (a ∷ args) (suc i) = let h = arguments_light bank args i in omega arith
-
--- the text of a head with its arguments
-pub applied_is : (names : List (List ℕ)) (bank : Nodes) (h : Head) (args : List At) (tree : Term) → tree ≡ app h (term_trees bank args)
-    → (eqb (length args) 2 && is_cons_head names h) ≡ false → term_text names tree ≡ head_text names h ++ arguments_text names (term_trees bank args)
-applied_is names bank h args tree is test =
-    ap (term_text names) is
-    ∙ app_text names h (term_trees bank args) (ap (λ n. eqb n 2 && is_cons_head names h) (length-map args (λ (a : At). term_tree bank a.0)) ∙ test)
-
--- by those in front and those behind them
-pub applied_parts : (names : List (List ℕ)) (bank : Nodes) (h : Head) (args : List At) (count : ℕ) (tree : Term) → tree ≡ app h (term_trees bank args)
-    → (eqb (length args) 2 && is_cons_head names h) ≡ false
-    → term_text names tree
-    ≡ (head_text names h ++ arguments_text names (term_trees bank (take count args))) ++ arguments_text names (term_trees bank (drop count args))
-applied_parts names bank h args count tree is test =
-    applied_is names bank h args tree is test
-    ∙ (ap (λ u. head_text names h ++ u) (arguments_parts names bank args count)
-    ∙ sym (append_assoc (head_text names h) (arguments_text names (term_trees bank (take count args)))
-    (arguments_text names (term_trees bank (drop count args)))))
-
--- and of one with none
-pub plain_is : (names : List (List ℕ)) (bank : Nodes) (h : Head) (args : List At) (tree : Term) → tree ≡ app h (term_trees bank args)
-    → has_arguments tree ≡ false → term_text names tree ≡ head_text names h
-plain_is names bank h [] tree is e = ap (term_text names) is
-plain_is names bank h (a ∷ args) tree is e =
-    absurd (true≢false (sym (ap has_arguments is ∙ has_arguments-apply (Con h) (term_tree bank a.0) (term_trees bank args)) ∙ e))
-
--- a head was printed with its arguments in front, and the others are left
-pub head_moves : (names : List (List ℕ)) (bank : Nodes) (h : Head) (args : List At) (count : ℕ) (tree : Term) (old new : List Piece) (start end : List ℕ)
-    → All (HasPiece bank) old → AllInTerms bank args
-    → tree ≡ app h (term_trees bank args) → (eqb (length args) 2 && is_cons_head names h) ≡ false
-    → end ≡ start ++ (head_text names h ++ arguments_text names (term_trees bank (take count args))) → new ≡ old ++ argument_pieces (drop count args)
-    → Moves names bank (term_text names tree) (2 * term_size tree) old start new end
-head_moves names bank h args count tree old new start end before inside is test written e =
-    let front : List ℕ = arguments_text names (term_trees bank (take count args)) in
-    moved names bank (term_text names tree) (2 * term_size tree) old new start end before (head_text names h ++ front) written
-    (argument_pieces (drop count args)) e
-    (argument_pieces-inside names bank (drop count args) (All-drop (λ (a : At). a.0 < length bank.terms) count args inside))
-    (applied_parts names bank h args count tree is test
-    ∙ ap (λ u. (head_text names h ++ front) ++ u) (sym (argument_text-pieces names bank (drop count args))))
-    (let a = argument_weight-pieces names bank (drop count args) in let l = arguments_light bank args count in
-    let b = size-apply (Con h) (term_trees bank args) in let c = ap term_size is in omega arith)
+  pub cons_begins : (args : List At) (d : At) (item : TermView) (start end : List ℕ) → length args ≡ 2 → IsViewOf has tree (get_or args 0 d).0 item
+      → BeginsText (opening_text (is_cons_view names item)) start end → BeginsText (cell_text names (map (λ (a : At). tree a.0) args)) start end
+  cons_begins [] d item start end two shown b = absurd (omega (arith, two))
+  cons_begins (x ∷ []) d item start end two shown b = absurd (omega (arith, two))
+  cons_begins (x ∷ y ∷ z ∷ args) d item start end two shown b = absurd (omega (arith, two))
+  cons_begins (x ∷ l ∷ []) d item start end two shown b =
+      begins_first (cell_text names (map (λ (a : At). tree a.0) (x ∷ l ∷ []))) start end (opening_text (is_cons_view names item))
+      (term_text names (view_term tree item)
+      ++ (stack_text names tree (closing_pieces (is_cons_view names item)) ++ (codes "::" ++ term_text names (tree l.0))))
+      (cell_parts names has tree x l item shown) b
 
 -- the text and the work of a `::` with its arguments
-pub cell_is : (names : List (List ℕ)) (bank : Nodes) (h : Head) (args : List At) (tree : Term) → tree ≡ app h (term_trees bank args)
-    → (eqb (length args) 2 && is_cons_head names h) ≡ true
-    → (term_text names tree ≡ cell_text names (term_trees bank args)) × (2 * term_size tree ≡ cell_weight (term_trees bank args))
-cell_is names bank h [] tree is test = absurd (let x : ⊥ = cc in x)
-cell_is names bank h (x ∷ []) tree is test = absurd (let x : ⊥ = cc in x)
-cell_is names bank h (x ∷ l ∷ []) tree is test = (
-  ap (term_text names) is ∙ cons_text names h (term_tree bank x.0) (term_tree bank l.0) test,
-  let e = ap term_size is in omega arith,
-)
-cell_is names bank h (x ∷ y ∷ z ∷ args) tree is test =
+pub cell_is : (names : List (List ℕ)) (tree : ℕ → Term) (h : Head) (args : List At) → (eqb (length args) 2 && is_cons_head names h) ≡ true
+    → (term_text names (app h (map (λ (a : At). tree a.0) args)) ≡ cell_text names (map (λ (a : At). tree a.0) args))
+    × (2 * term_size (app h (map (λ (a : At). tree a.0) args)) ≡ cell_weight (map (λ (a : At). tree a.0) args))
+cell_is names tree h [] test = absurd (let x : ⊥ = cc in x)
+cell_is names tree h (x ∷ []) test = absurd (let x : ⊥ = cc in x)
+cell_is names tree h (x ∷ l ∷ []) test = (cons_text names h (tree x.0) (tree l.0) test, omega arith)
+cell_is names tree h (x ∷ y ∷ z ∷ args) test =
     absurd (let p = eqb-true (suc (suc (suc (length args)))) 2 (and_parts (eqb (suc (suc (suc (length args)))) 2) (is_cons_head names h) test).0 in omega arith)
 
--- nothing was printed yet, or all that is to be
-pub begins_same : (text start end : List ℕ) → end ≡ start → BeginsText text start end
-begins_same text start end e = record { written = []; rest = text; is = e ∙ sym (append-nil start); begun = refl }
+-- ---- a head and its arguments
 
-pub begins_by : (text start end written rest : List ℕ) → end ≡ start ++ written → text ≡ written ++ rest → BeginsText text start end
-begins_by text start end written rest e b = record { written = written; rest = rest; is = e; begun = b }
+-- arguments in front, one of them, and those behind it
+arguments_parts : (names : List (List ℕ)) (tree : ℕ → Term) (args : List At) (i : ℕ) (d : At) → i < length args
+    → arguments_text names (map (λ (a : At). tree a.0) args)
+    ≡ arguments_text names (map (λ (a : At). tree a.0) (take i args))
+    ++ ((codes " " ++ argument_text (tree (get_or args i d).0) (term_text names (tree (get_or args i d).0)))
+    ++ arguments_text names (map (λ (a : At). tree a.0) (drop (i + 1) args)))
+arguments_parts names tree args i d l =
+    go args i l
+    ∙ ap (λ k. arguments_text names (map (λ (a : At). tree a.0) (take i args)) ++ ((codes " " ++ argument_text (tree (get_or args i d).0)
+    (term_text names (tree (get_or args i d).0))) ++ arguments_text names (map (λ (a : At). tree a.0) (drop k args))))
+    (let e : suc i ≡ i + 1 = omega arith in e)
+  where
+    go : (as' : List At) (k : ℕ) → k < length as'
+        → arguments_text names (map (λ (a : At). tree a.0) as')
+        ≡ arguments_text names (map (λ (a : At). tree a.0) (take k as'))
+        ++ ((codes " " ++ argument_text (tree (get_or as' k d).0) (term_text names (tree (get_or as' k d).0)))
+        ++ arguments_text names (map (λ (a : At). tree a.0) (drop (suc k) as')))
+    go [] k l = absurd (omega (arith, l))
+    go (a ∷ as') zero l =
+        append_assoc (codes " ") (argument_text (tree a.0) (term_text names (tree a.0))) (arguments_text names (map (λ (b : At). tree b.0) as'))
+    go (a ∷ as') (suc k) l =
+        let t : List ℕ = codes " " ++ argument_text (tree a.0) (term_text names (tree a.0)) in
+        ap (λ u. t ++ u) (go as' k (omega (arith, l))) ∙ sym (append_assoc t _ _)
 
-pub begins_all : (text start end : List ℕ) → end ≡ start ++ text → BeginsText text start end
-begins_all text start end e = record { written = text; rest = []; is = e; begun = sym (append-nil text) }
+-- one more in front
+arguments_more : (names : List (List ℕ)) (tree : ℕ → Term) (args : List At) (i : ℕ) (d : At) → i < length args
+    → arguments_text names (map (λ (a : At). tree a.0) (take (i + 1) args))
+    ≡ arguments_text names (map (λ (a : At). tree a.0) (take i args))
+    ++ (codes " " ++ argument_text (tree (get_or args i d).0) (term_text names (tree (get_or args i d).0)))
+arguments_more names tree args i d l =
+    ap (λ k. arguments_text names (map (λ (a : At). tree a.0) (take k args))) (let e : i + 1 ≡ suc i = omega arith in e) ∙ go args i l
+  where
+    go : (as' : List At) (k : ℕ) → k < length as'
+        → arguments_text names (map (λ (a : At). tree a.0) (take (suc k) as'))
+        ≡ arguments_text names (map (λ (a : At). tree a.0) (take k as'))
+        ++ (codes " " ++ argument_text (tree (get_or as' k d).0) (term_text names (tree (get_or as' k d).0)))
+    go [] k l = absurd (omega (arith, l))
+    go (a ∷ as') zero l = append-nil (codes " " ++ argument_text (tree a.0) (term_text names (tree a.0)))
+    go (a ∷ as') (suc k) l =
+        let t : List ℕ = codes " " ++ argument_text (tree a.0) (term_text names (tree a.0)) in
+        ap (λ u. t ++ u) (go as' k (omega (arith, l))) ∙ sym (append_assoc t _ _)
+
+-- fewer arguments are no more work
+arguments_light : (tree : ℕ → Term) (args : List At) (i : ℕ) (d : At) → i < length args
+    → 2 * term_size (tree (get_or args i d).0) + 2 + arguments_weight (map (λ (a : At). tree a.0) (drop (i + 1) args))
+    ≤ arguments_weight (map (λ (a : At). tree a.0) args)
+arguments_light tree args i d l =
+    subst (λ k. 2 * term_size (tree (get_or args i d).0) + 2 + arguments_weight (map (λ (a : At). tree a.0) (drop k args))
+    ≤ arguments_weight (map (λ (a : At). tree a.0) args)) (let e : suc i ≡ i + 1 = omega arith in e) (go args i l)
+  where
+    go : (as' : List At) (k : ℕ) → k < length as'
+        → 2 * term_size (tree (get_or as' k d).0) + 2 + arguments_weight (map (λ (a : At). tree a.0) (drop (suc k) as'))
+        ≤ arguments_weight (map (λ (a : At). tree a.0) as')
+    go [] k l = absurd (omega (arith, l))
+    go (a ∷ as') zero l = omega arith
+    go (a ∷ as') (suc k) l = let h = go as' k (omega (arith, l)) in omega arith
+
+module _ (names : List (List ℕ)) (has : ℕ → Type 0) (tree : ℕ → Term) (args : List At) (i : ℕ) (d : At) (view : TermView) (start now : List ℕ)
+    (within : i < length args) (shown : IsViewOf has tree (get_or args i d).0 view)
+    (so_far : now ≡ start ++ arguments_text names (map (λ (a : At). tree a.0) (take i args))) where
+  abbrev whole : List ℕ
+  whole = arguments_text names (map (λ (a : At). tree a.0) args)
+
+  abbrev front : List ℕ
+  front = arguments_text names (map (λ (a : At). tree a.0) (take i args))
+
+  abbrev one : List ℕ
+  one = codes " " ++ argument_text (tree (get_or args i d).0) (term_text names (tree (get_or args i d).0))
+
+  abbrev others : List ℕ
+  others = arguments_text names (map (λ (a : At). tree a.0) (drop (i + 1) args))
+
+  -- one without arguments was printed too
+  pub arguments_on : (next : List ℕ) → has_arguments_view view ≡ false → next ≡ now ++ (codes " " ++ sign_text names view)
+      → next ≡ start ++ arguments_text names (map (λ (a : At). tree a.0) (take (i + 1) args))
+  arguments_on next h e =
+      e ∙ (ap (λ u. now ++ u) (sym (short-is names has tree (get_or args i d) view shown h))
+      ∙ (ap (λ u. u ++ one) so_far ∙ (append_assoc start front one ∙ ap (λ u. start ++ u) (sym (arguments_more names tree args i d within)))))
+
+  -- a refusal within it
+  argument_refused : (next : List ℕ) → BeginsText one now next → BeginsText whole start next
+  argument_refused next b =
+      begins_on whole start now next front (one ++ others) so_far (arguments_parts names tree args i d within)
+      (begins_first (one ++ others) now next one others refl b)
+
+  pub arguments_short_refused : (next : List ℕ) → has_arguments_view view ≡ false → BeginsText (codes " " ++ sign_text names view) now next
+      → BeginsText whole start next
+  arguments_short_refused next h b = argument_refused next (subst (λ t. BeginsText t now next)
+      (sym (short-is names has tree (get_or args i d) view shown h)) b)
+
+  pub arguments_opens_refused : (next : List ℕ) → has_arguments_view view ≡ true → BeginsText (codes " (") now next → BeginsText whole start next
+  arguments_opens_refused next h b = argument_refused next (opens_refused names has tree (get_or args i d) view shown now next h b)
+
+  -- and one in front of it
+  pub arguments_stop : (next : List ℕ) → next ≡ now → BeginsText whole start next
+  arguments_stop next e = argument_refused next (begins_same one now next e)
+
+  -- one with arguments goes on, and those behind it are left
+  pub arguments_opens : (old middle new : List Piece) (end : List ℕ) → All (HasPiece has) old → All (λ (a : At). has a.0) args
+      → has_arguments_view view ≡ true → middle ≡ old ++ argument_pieces (drop (i + 1) args) → new ≡ middle ++ BracketPiece ∷ [] → end ≡ now ++ codes " ("
+      → Moves names has tree whole (arguments_weight (map (λ (a : At). tree a.0) args) + 2) old start new (Some view) end
+  arguments_opens old middle new end before inside h m e is =
+      let qs : List Piece = argument_pieces (drop (i + 1) args) in
+      let text : List ℕ = term_text names (view_term tree view) in
+      let left : stack_text names tree (qs ++ BracketPiece ∷ []) ≡ codes ")" ++ others =
+      stack_text-append names tree qs (BracketPiece ∷ []) ∙ ap (λ u. codes ")" ++ u) (argument_text-pieces names tree (drop (i + 1) args)) in
+      moved names has tree whole (arguments_weight (map (λ (a : At). tree a.0) args) + 2) old new (qs ++ BracketPiece ∷ []) (Some view) start end
+      (front ++ codes " (") before (is ∙ (ap (λ u. u ++ codes " (") so_far ∙ append_assoc start front (codes " (")))
+      (e ∙ (ap (λ ps. ps ++ BracketPiece ∷ []) m ∙ append_assoc old qs (BracketPiece ∷ [])))
+      (All-push (HasPiece has) qs BracketPiece (argument_pieces-inside has (drop (i + 1) args) (All-drop (λ (a : At). has a.0) (i + 1) args inside)) tt)
+      (view-has has tree (get_or args i d).0 view shown)
+      (arguments_parts names tree args i d within
+      ∙ (ap (λ u. front ++ (u ++ others)) (opened-is names has tree (get_or args i d) view shown h)
+      ∙ (ap (λ u. front ++ u) (append_assoc (codes " (") (text ++ codes ")") others)
+      ∙ (ap (λ u. front ++ (codes " (" ++ u)) (append_assoc text (codes ")") others ∙ ap (λ u. text ++ u) (sym left))
+      ∙ sym (append_assoc front (codes " (") (text ++ stack_text names tree (qs ++ BracketPiece ∷ [])))))))
+      (let a = stack_weight-append names tree qs (BracketPiece ∷ []) in let b = argument_weight-pieces names tree (drop (i + 1) args) in
+      let c = arguments_light tree args i d within in let k = ap term_size (view-tree has tree (get_or args i d).0 view shown) in omega arith)
+
+-- a head that is not that of a `::` was printed, and its arguments follow
+module _ (names : List (List ℕ)) (tree : ℕ → Term) (h : Head) (args : List At) (test : (eqb (length args) 2 && is_cons_head names h) ≡ false) where
+  pub applied_is : term_text names (app h (map (λ (a : At). tree a.0) args)) ≡ head_text names h ++ arguments_text names (map (λ (a : At). tree a.0) args)
+  applied_is =
+      app_text names h (map (λ (a : At). tree a.0) args)
+      (ap (λ n. eqb n 2 && is_cons_head names h) (length-map args (λ (a : At). tree a.0)) ∙ test)
+
+  pub applied_moves : (has : ℕ → Type 0) (old new : List Piece) (next : Option TermView) (start middle end : List ℕ) → middle ≡ start ++ head_text names h
+      → Moves names has tree (arguments_text names (map (λ (a : At). tree a.0) args)) (arguments_weight (map (λ (a : At). tree a.0) args) + 2)
+      old middle new next end
+      → Moves names has tree (term_text names (app h (map (λ (a : At). tree a.0) args))) (2 * term_size (app h (map (λ (a : At). tree a.0) args)))
+      old start new next end
+  applied_moves has old new next start middle end e m = record {
+    written = head_text names h ++ m.written;
+    is = m.is ∙ (ap (λ xs. xs ++ m.written) e ∙ append_assoc start (head_text names h) m.written);
+    rest = append_assoc (head_text names h) m.written (next_text names tree next ++ stack_text names tree new)
+        ∙ (ap (λ u. head_text names h ++ u) m.rest
+        ∙ (sym (append_assoc (head_text names h) (arguments_text names (map (λ (a : At). tree a.0) args)) (stack_text names tree old))
+        ∙ ap (λ u. u ++ stack_text names tree old) (sym applied_is)));
+    inside = m.inside;
+    next_inside = m.next_inside;
+    lighter = let k = m.lighter in let b = size-apply (Con h) (map (λ (a : At). tree a.0) args) in omega arith;
+  }
 
 -- ---- the whole
 
-pub printing_begins : (names : List (List ℕ)) (bank : Nodes) (at : At) (start : List ℕ) (pieces : List Piece) → HasTerm bank at.0 → pieces ≡ TermPiece at ∷ []
-    → IsPrinting names bank (term_text names (term_tree bank at.0)) start start pieces
-printing_begins names bank at start pieces h e = record {
-  written = [];
-  is = sym (append-nil start);
-  rest = ap (stack_text names bank) e;
-  inside = rw e (All-cons (HasPiece bank) (TermPiece at) [] h (λ k d l. absurd (omega arith)));
-}
+-- no term goes on, and the piece on top is taken off
+module _ (names : List (List ℕ)) (has : ℕ → Type 0) (tree : ℕ → Term) (text start now : List ℕ) (pieces : List Piece) (next : Option TermView)
+    (p : IsPrinting names has tree text start now pieces next) (popped : List Piece) (top : Piece) (none : next ≡ None) (is : pieces ≡ popped ++ top ∷ [])
+  where
+    piece_first : next_text names tree next ++ stack_text names tree pieces ≡ piece_text names tree top ++ stack_text names tree popped
+    piece_first =
+        ap (λ n. next_text names tree n ++ stack_text names tree pieces) none
+        ∙ (ap (stack_text names tree) is ∙ stack_text-append names tree popped (top ∷ []))
 
-pub printing_on : (names : List (List ℕ)) (bank : Nodes) (text start now next : List ℕ) (pieces popped left : List Piece) (p : Piece)
-    → IsPrinting names bank text start now pieces
-    → pieces ≡ popped ++ p ∷ [] → Moves names bank (piece_text names bank p) (piece_weight bank p) popped now left next
-    → IsPrinting names bank text start next left
-printing_on names bank text start now next pieces popped left p c e m = record {
-  written = c.written ++ m.written;
-  is = m.is ∙ (ap (λ xs. xs ++ m.written) c.is ∙ append_assoc start c.written m.written);
-  rest = append_assoc c.written m.written (stack_text names bank left)
-      ∙ (ap (λ u. c.written ++ u) (m.rest ∙ sym (stack_text-append names bank popped (p ∷ [])))
-      ∙ (ap (λ ps. c.written ++ stack_text names bank ps) (sym e) ∙ c.rest));
-  inside = m.inside;
-}
+    -- its beginning was printed
+    module _ (left : List Piece) (goes : Option TermView) (end : List ℕ)
+        (m : Moves names has tree (piece_text names tree top) (piece_weight tree top) popped now left goes end) where
+      pub piece_on : IsPrinting names has tree text start end left goes
+      piece_on = record {
+        written = p.written ++ m.written;
+        is = m.is ∙ (ap (λ xs. xs ++ m.written) p.is ∙ append_assoc start p.written m.written);
+        rest = append_assoc p.written m.written (next_text names tree goes ++ stack_text names tree left)
+            ∙ (ap (λ u. p.written ++ u) (m.rest ∙ sym piece_first) ∙ p.rest);
+        inside = m.inside;
+        next_inside = m.next_inside;
+      }
 
-pub printing_refused : (names : List (List ℕ)) (bank : Nodes) (text start now next : List ℕ) (pieces popped : List Piece) (p : Piece)
-    → IsPrinting names bank text start now pieces
-    → pieces ≡ popped ++ p ∷ [] → BeginsText (piece_text names bank p) now next → BeginsText text start next
-printing_refused names bank text start now next pieces popped p c e b = record {
-  written = c.written ++ b.written;
-  rest = b.rest ++ stack_text names bank popped;
-  is = b.is ∙ (ap (λ xs. xs ++ b.written) c.is ∙ append_assoc start c.written b.written);
-  begun = sym c.rest ∙ (ap (λ ps. c.written ++ stack_text names bank ps) e ∙ (ap (λ u. c.written ++ u) (stack_text-append names bank popped (p ∷ [])
-      ∙ (ap (λ u. u ++ stack_text names bank popped) b.begun ∙ append_assoc b.written b.rest (stack_text names bank popped)))
-      ∙ sym (append_assoc c.written b.written (b.rest ++ stack_text names bank popped))));
-}
+      pub piece_lighter : next_weight tree goes + stack_weight tree left < next_weight tree next + stack_weight tree pieces
+      piece_lighter =
+          let k = m.lighter in let a = ap (stack_weight tree) is in let b = stack_weight-append names tree popped (top ∷ []) in
+          let w = ap (next_weight tree) none in omega arith
 
-pub printing_ends : (names : List (List ℕ)) (bank : Nodes) (text start now : List ℕ) (pieces : List Piece) → IsPrinting names bank text start now pieces
-    → pieces ≡ [] → now ≡ start ++ text
-printing_ends names bank text start now pieces c e =
-    c.is ∙ ap (λ u. start ++ u) (sym (append-nil c.written) ∙ (ap (λ ps. c.written ++ stack_text names bank ps) (sym e) ∙ c.rest))
-
-pub weight_falls : (names : List (List ℕ)) (bank : Nodes) (now next : List ℕ) (pieces popped left : List Piece) (p : Piece) → pieces ≡ popped ++ p ∷ []
-    → Moves names bank (piece_text names bank p) (piece_weight bank p) popped now left next → stack_weight bank left < stack_weight bank pieces
-weight_falls names bank now next pieces popped left p e m =
-    let a = ap (stack_weight bank) e in let b = stack_weight-append names bank popped (p ∷ []) in let c = m.lighter in omega arith
+    -- a refusal within it
+    pub piece_refused : (end : List ℕ) → BeginsText (piece_text names tree top) now end → BeginsText text start end
+    piece_refused end b = record {
+      written = p.written ++ b.written;
+      rest = b.rest ++ stack_text names tree popped;
+      is = b.is ∙ (ap (λ xs. xs ++ b.written) p.is ∙ append_assoc start p.written b.written);
+      begun = sym p.rest ∙ (ap (λ u. p.written ++ u) (piece_first ∙ (ap (λ u. u ++ stack_text names tree popped) b.begun
+          ∙ append_assoc b.written b.rest (stack_text names tree popped)))
+          ∙ sym (append_assoc p.written b.written (b.rest ++ stack_text names tree popped)));
+    }

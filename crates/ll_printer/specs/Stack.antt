@@ -1,31 +1,76 @@
--- The pieces of a text that are still to be printed, the last one first.
-use Rattle.std.specs.Prelude.{◌≡◌, ℕ, ◌+◌, ◌*◌, ◌<◌, Bool, true, false, List, [], ◌∷◌, ◌++◌, Option, Some, None, All, codes}
+-- The pieces of a text that are still to be printed, the last one first. The terms stand at places: `has` says which places are those of
+-- terms, and `tree` gives the term of each.
+use Rattle.std.specs.Prelude.{◌≡◌, ℕ, ◌+◌, ◌*◌, ◌<◌, ◌&&◌, Bool, true, false, not, nat_eq, List, [], ◌∷◌, ◌++◌, length, map, Option, Some, None, All, codes}
+use Rattle.std.specs.Prelude.{decimal}
+use Rattle.std.specs.Fmt.{signed_decimal}
 use Rattle.ll_bank.specs.declared.At.{At}
-use Rattle.ll_bank.specs.Term.{Term, Var, Int, Con, Ap}
-use Rattle.ll_bank.specs.Nodes.{Nodes, term_tree, HasTerm}
-use Rattle.ll_laws.specs.Output.{term_text, argument_text, bracket_if, is_cons}
+use Rattle.ll_bank.specs.declared.TermView.{TermView}
+use Rattle.ll_bank.specs.declared.TermView.TheVariants.{Var as VarView, Int as IntView, App as AppView}
+use Rattle.ll_bank.specs.Term.{Term, Var, Int, Con, Ap, app}
+use Rattle.ll_laws.specs.Output.{term_text, head_text, argument_text, bracket_if, is_cons, is_cons_head}
 use Rattle.ll_printer.specs.declared.pieces.Piece.{Piece}
-use Rattle.ll_printer.specs.declared.pieces.Piece.TheVariants.{Term as TermPiece, Argument as ArgumentPiece, Rest as RestPiece}
-use Rattle.ll_printer.specs.declared.pieces.Piece.TheVariants.{Bracket as BracketPiece}
+use Rattle.ll_printer.specs.declared.pieces.Piece.TheVariants.{Argument as ArgumentPiece, Rest as RestPiece, Bracket as BracketPiece}
+
+-- ---- what stands at the place of a term
+
+-- its term
+abbrev pub view_term : (ℕ → Term) → TermView → Term
+view_term tree (VarView n) = Var n
+view_term tree (IntView z) = Int z
+view_term tree (AppView h args) = app h (map (λ a. tree a.0) args.now)
+
+-- its arguments are at places of terms
+abbrev pub HasView : (ℕ → Type 0) → TermView → Type 0
+HasView has (VarView n) = Unit {0}
+HasView has (IntView z) = Unit {0}
+HasView has (AppView h args) = All (λ a. has a.0) args.now
+
+-- it has arguments
+abbrev pub has_arguments_view : TermView → Bool
+has_arguments_view (VarView n) = false
+has_arguments_view (IntView z) = false
+has_arguments_view (AppView h args) = not (nat_eq (length args.now) 0)
+
+-- it is of the form `X::L`
+abbrev pub is_cons_view : List (List ℕ) → TermView → Bool
+is_cons_view names (VarView n) = false
+is_cons_view names (IntView z) = false
+is_cons_view names (AppView h args) = nat_eq (length args.now) 2 && is_cons_head names h
+
+-- its text without its arguments
+abbrev pub sign_text : List (List ℕ) → TermView → List ℕ
+sign_text names (VarView n) = codes "?" ++ decimal n
+sign_text names (IntView z) = signed_decimal z
+sign_text names (AppView h args) = head_text names h
+
+-- ---- pieces
 
 -- the text of a piece
-abbrev pub piece_text : List (List ℕ) → Nodes → Piece → List ℕ
-piece_text names bank (TermPiece at) = term_text names (term_tree bank at.0)
-piece_text names bank (ArgumentPiece at) = codes " " ++ argument_text (term_tree bank at.0) (term_text names (term_tree bank at.0))
-piece_text names bank (RestPiece at) = codes "::" ++ term_text names (term_tree bank at.0)
-piece_text names bank BracketPiece = codes ")"
+abbrev pub piece_text : List (List ℕ) → (ℕ → Term) → Piece → List ℕ
+piece_text names tree (ArgumentPiece at) = codes " " ++ argument_text (tree at.0) (term_text names (tree at.0))
+piece_text names tree (RestPiece at) = codes "::" ++ term_text names (tree at.0)
+piece_text names tree BracketPiece = codes ")"
 
 -- the text of all pieces, of which the last one comes first
-abbrev pub stack_text : List (List ℕ) → Nodes → List Piece → List ℕ
-stack_text names bank [] = []
-stack_text names bank (p ∷ ps) = stack_text names bank ps ++ piece_text names bank p
+abbrev pub stack_text : List (List ℕ) → (ℕ → Term) → List Piece → List ℕ
+stack_text names tree [] = []
+stack_text names tree (p ∷ ps) = stack_text names tree ps ++ piece_text names tree p
 
--- the term of a piece is in the bank
-abbrev pub HasPiece : Nodes → Piece → Type 0
-HasPiece bank (TermPiece at) = HasTerm bank at.0
-HasPiece bank (ArgumentPiece at) = HasTerm bank at.0
-HasPiece bank (RestPiece at) = HasTerm bank at.0
-HasPiece bank BracketPiece = Unit {0}
+-- the text of the term that goes on, if there is one
+abbrev pub next_text : List (List ℕ) → (ℕ → Term) → Option TermView → List ℕ
+next_text names tree None = []
+next_text names tree (Some view) = term_text names (view_term tree view)
+
+-- the term of a piece is at a place of one
+abbrev pub HasPiece : (ℕ → Type 0) → Piece → Type 0
+HasPiece has (ArgumentPiece at) = has at.0
+HasPiece has (RestPiece at) = has at.0
+HasPiece has BracketPiece = Unit {0}
+
+-- and so are the arguments of the term that goes on
+abbrev pub HasNext : (ℕ → Type 0) → Option TermView → Type 0
+HasNext has None = Unit {0}
+HasNext has (Some view) = HasView has view
 
 -- the number of signs in a term
 abbrev pub term_size : Term → ℕ
@@ -35,24 +80,29 @@ term_size (Con h) = 1
 term_size (Ap f a) = term_size f + term_size a + 1
 
 -- how much work a piece is
-abbrev pub piece_weight : Nodes → Piece → ℕ
-piece_weight bank (TermPiece at) = 2 * term_size (term_tree bank at.0)
-piece_weight bank (ArgumentPiece at) = 2 * term_size (term_tree bank at.0) + 2
-piece_weight bank (RestPiece at) = 2 * term_size (term_tree bank at.0) + 1
-piece_weight bank BracketPiece = 1
+abbrev pub piece_weight : (ℕ → Term) → Piece → ℕ
+piece_weight tree (ArgumentPiece at) = 2 * term_size (tree at.0) + 2
+piece_weight tree (RestPiece at) = 2 * term_size (tree at.0) + 1
+piece_weight tree BracketPiece = 1
 
-abbrev pub stack_weight : Nodes → List Piece → ℕ
-stack_weight bank [] = 0
-stack_weight bank (p ∷ ps) = piece_weight bank p + stack_weight bank ps
+abbrev pub stack_weight : (ℕ → Term) → List Piece → ℕ
+stack_weight tree [] = 0
+stack_weight tree (p ∷ ps) = piece_weight tree p + stack_weight tree ps
 
--- some first bytes of a text were appended, and the pieces that were put on the stack are what is left of it, with less work
-pub record Moves (names : List (List ℕ)) (bank : Nodes) (text : List ℕ) (weight : ℕ) (old : List Piece) (start : List ℕ) (new : List Piece) (end : List ℕ) :
-    Type 0 where
+abbrev pub next_weight : (ℕ → Term) → Option TermView → ℕ
+next_weight tree None = 0
+next_weight tree (Some view) = 2 * term_size (view_term tree view)
+
+-- some first bytes of a text were appended, and the term that goes on and the pieces that were put on the stack are what is left of it, with
+-- less work
+pub record Moves (names : List (List ℕ)) (has : ℕ → Type 0) (tree : ℕ → Term) (text : List ℕ) (weight : ℕ) (old : List Piece) (start : List ℕ)
+    (new : List Piece) (next : Option TermView) (end : List ℕ) : Type 0 where
   pub written : List ℕ
   pub is : end ≡ start ++ written
-  pub rest : written ++ stack_text names bank new ≡ text ++ stack_text names bank old
-  pub inside : All (HasPiece bank) new
-  pub lighter : stack_weight bank new < weight + stack_weight bank old
+  pub rest : written ++ (next_text names tree next ++ stack_text names tree new) ≡ text ++ stack_text names tree old
+  pub inside : All (HasPiece has) new
+  pub next_inside : HasNext has next
+  pub lighter : next_weight tree next + stack_weight tree new < weight + stack_weight tree old
 
 -- the arguments of a head, each behind a space
 abbrev pub arguments_text : List (List ℕ) → List Term → List ℕ
@@ -64,12 +114,14 @@ abbrev pub arguments_weight : List Term → ℕ
 arguments_weight [] = 0
 arguments_weight (t ∷ ts) = 2 * term_size t + 2 + arguments_weight ts
 
--- a text on its way: what was appended, and the pieces that are left
-pub record IsPrinting (names : List (List ℕ)) (bank : Nodes) (text start now : List ℕ) (pieces : List Piece) : Type 0 where
+-- a text on its way: what was appended, and the term that goes on and the pieces that are left
+pub record IsPrinting (names : List (List ℕ)) (has : ℕ → Type 0) (tree : ℕ → Term) (text start now : List ℕ) (pieces : List Piece)
+    (next : Option TermView) : Type 0 where
   pub written : List ℕ
   pub is : now ≡ start ++ written
-  pub rest : written ++ stack_text names bank pieces ≡ text
-  pub inside : All (HasPiece bank) pieces
+  pub rest : written ++ (next_text names tree next ++ stack_text names tree pieces) ≡ text
+  pub inside : All (HasPiece has) pieces
+  pub next_inside : HasNext has next
 
 -- the pieces of arguments, of which the first one is on top
 abbrev pub argument_pieces : List At → List Piece
@@ -95,13 +147,3 @@ opening_text false = []
 abbrev pub closing_pieces : Bool → List Piece
 closing_pieces true = BracketPiece ∷ []
 closing_pieces false = []
-
--- the pieces, with one on top of them, if there is one
-abbrev pub on_top : List Piece → Option Piece → List Piece
-on_top ps None = ps
-on_top ps (Some p) = ps ++ p ∷ []
-
--- the pieces, with a term that goes on at once on top of them, if there is one
-abbrev pub with_next : List Piece → Option At → List Piece
-with_next ps None = ps
-with_next ps (Some at) = ps ++ TermPiece at ∷ []

@@ -1,7 +1,7 @@
 //! The bytes of terms, programs, answers and counts.
 #![tactic(auto)]
 
-ghost use Rattle.std.specs.Prelude.{◌≡◌, ◌≤◌, ◌++◌, length, OnOk, codes, decimal};
+ghost use Rattle.std.specs.Prelude.{◌≡◌, ◌≤◌, ◌++◌, [], All, length, map, OnOk, codes, decimal};
 ghost use Rattle.ll_bank.specs.Nodes.{term_tree, HasTerm};
 ghost use Rattle.ll_laws.specs.Output.{line, term_text, answer_text, bindings_text, counts_text};
 ghost use Rattle.ll_printer.specs.Pieces.{BeginsText};
@@ -15,11 +15,11 @@ mod words;
 
 pub use crate::answers::title;
 use crate::answers::{has_names, write_bindings, write_yes};
-use crate::pieces::{Piece, next_piece, print_piece};
+use crate::pieces::write_term;
 pub use crate::programs::program;
 use crate::words::write_number;
 use ll_bank::{At, Bank, Names, OutOfMemory};
-use ll_laws::{Branch, Counts, Problem};
+use ll_laws::{Branch, Counts, Problem, Terms};
 use std::alloc::Global;
 
 /// Appends the text of a term: `?n` for a variable, `#n` for an eigenconstant, `X::L` with brackets round an `X` of this form. A name
@@ -37,13 +37,7 @@ pub fn term(
     ensures text { OnOk result (out.new.items ≡ out.old.items ++ term_text names.now (term_tree bank.now at.0)) }
     ensures begun { BeginsText (term_text names.now (term_tree bank.now at.0)) out.old.items out.new.items }
 {
-    let mut pieces = Vec::new(alloc);
-    let mut next = Some(Piece::Term(at));
-    while let Some(piece) = next {
-        let left = print_piece(names, bank, piece, &mut pieces, out)?;
-        next = next_piece(left, &mut pieces);
-    }
-    Ok(())
+    write_term(alloc, names, bank, at, out)
 }
 
 /// Appends the lines of an answer: its number, and a line for each named variable of the query, or `yes` if none has a name.
@@ -77,15 +71,29 @@ pub fn bindings(
     ensures text { OnOk result (out.new.items ≡ out.old.items ++ bindings_text problem.now branch.now) }
     ensures begun { BeginsText (bindings_text problem.now branch.now) out.old.items out.new.items }
 {
+    bindings_of(alloc, problem, &branch.bank, &branch.terms, out)
+}
+
+/// Appends the lines of an answer behind its number, from terms that are looked at by their places: a line for each named variable of the
+/// query, or `yes` if none has a name.
+///
+/// After a refusal some first bytes of them may have been appended.
+pub fn bindings_of<T: Terms>(
+    alloc: Global,
+    problem: &Problem,
+    terms: &T,
+    places: &[At],
+    out: &mut Vec<u8>,
+) -> Result<(), OutOfMemory>
+    requires inside { All (λ a. T.has terms.now a.0) places.now }
+    requires enough { length problem.now.asked ≤ length places.now }
+    ensures text { OnOk result (out.new.items ≡ out.old.items
+        ++ bindings_text problem.now (record { terms = map (λ a. T.tree terms.now a.0) places.now; steps = [] })) }
+    ensures begun { BeginsText (bindings_text problem.now (record { terms = map (λ a. T.tree terms.now a.0) places.now; steps = [] }))
+        out.old.items out.new.items }
+{
     if has_names(&problem.asked) {
-        write_bindings(
-            alloc,
-            &problem.names,
-            &problem.asked,
-            &branch.bank,
-            &branch.terms,
-            out,
-        )
+        write_bindings(alloc, &problem.names, &problem.asked, terms, places, out)
     } else {
         write_yes(out)
     }

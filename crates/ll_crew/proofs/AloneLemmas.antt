@@ -34,6 +34,7 @@ module _ {O : Type 0} (takes breaks : O → Event → O → Type 0) (welcome : O
     };
     counting = record { answers = no_count 0 (omega arith); reached = no_count 0 (omega arith) };
     cost = ap (λ (x : Owing). cut_count (x.made + x.cost)) h ∙ ap cut_count (let z : 0 + problem_cost p ≡ problem_cost p = omega arith in z);
+    problem = ap (λ (x : Owing). x.problem) h;
   }
 
   module _ (engine : Owing) (out : O) (counts : Counts) (a : IsAlone takes welcome faults start p engine out counts) where
@@ -81,6 +82,7 @@ module _ {O : Type 0} (takes breaks : O → Event → O → Type 0) (welcome : O
           reached = counts_more is_reached 0 counts.reached counts'.reached a.done es a.counting.reached reached;
         };
         cost = cost_moves old.made old.cost new.made new.cost (cut_count (problem_cost p)) s.cost s.made a.cost;
+        problem = s.problem ∙ a.problem;
       }
 
       -- where the engine owes nothing more, all was given

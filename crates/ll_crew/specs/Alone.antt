@@ -14,3 +14,4 @@ pub record IsAlone {O : Type 0} (takes : O → Event → O → Type 0) (welcome 
   pub giving : Giving takes welcome faults start (problem_events p) out done engine.events
   pub counting : Counting (record { answers = 0; reached = 0; inferences = 0 }) counts done
   pub cost : cut_count (engine.made + engine.cost) ≡ cut_count (problem_cost p)
+  pub problem : engine.problem ≡ p

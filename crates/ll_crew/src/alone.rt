@@ -40,7 +40,7 @@ pub(crate) fn search_alone<'p, O: Outlet>(
     let Ok(mut engine) = Engine::start_with(alloc, problem, index) else {
         return Err(CrewFault::OutOfMemory);
     };
-    let given = give_each(alloc, problem, &mut engine, out);
+    let given = give_each(alloc, &mut engine, out);
     drop(engine);
     given
 }
@@ -48,12 +48,11 @@ pub(crate) fn search_alone<'p, O: Outlet>(
 // Gives the outlet all events of a new engine, those of one stretch of its steps at a time.
 fn give_each<'p, O: Outlet>(
     alloc: Global,
-    problem: &'p Problem,
     engine: &mut Engine<'p>,
     out: &mut O,
 ) -> Result<Counts, CrewFault>
     requires starts { engine.old ≡ fresh engine.old.problem }
-    requires suits { O.Found.suits problem.now }
+    requires suits { O.Found.suits engine.old.problem }
     requires welcome { Every (O.welcome out.old) (problem_events engine.old.problem) }
     ensures given { OnOk result (Gives O.takes out.old (problem_events engine.old.problem) out.new) }
     ensures counts { IfOk result (λ counts. CountsOf counts (problem_events engine.old.problem) (problem_cost engine.old.problem)) }
@@ -68,7 +67,7 @@ fn give_each<'p, O: Outlet>(
     };
     'stretches: loop {
         let mut events = Vec::new(alloc);
-        let Ok(done) = stretch(alloc, problem, engine, &mut events, false) else {
+        let Ok(done) = stretch(engine, &mut events, false) else {
             return Err(CrewFault::OutOfMemory);
         };
         match give_some(events, counts, out) {

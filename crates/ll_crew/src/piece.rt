@@ -15,13 +15,12 @@ ghost use Rattle.ll_job.specs.Seats.{IsSeat, Calm};
 
 use ll_bank::OutOfMemory;
 use ll_core::Look;
-use ll_engine::{Engine, Step2};
+use ll_engine::{Engine, Progress};
 use ll_freeze::Frozen;
 use ll_job::{Job, Offer, Offered, Told, look, publish, report};
-use ll_laws::{Batch, Notice, Problem};
+use ll_laws::{Batch, Notice};
 use ll_order::Outlet;
 use ll_pool::Seat;
-use std::alloc::Global;
 use std::sync::{Arc, Wait};
 
 /// So many steps an engine goes between two looks.
@@ -30,25 +29,22 @@ const STEPS: u32 = 256;
 /// At most `STEPS` steps of an engine, whose events are put behind those that there are, and no step behind an answer that is to be
 /// reported at once. True where the engine is done.
 pub(crate) fn stretch<E: Notice>(
-    alloc: Global,
-    problem: &Problem,
     engine: &mut Engine<'_>,
     events: &mut Vec<E>,
     at_once: bool,
 ) -> Result<bool, OutOfMemory>
-    requires suits { E.suits problem.now }
+    requires suits { E.suits engine.old.problem }
     ensures { IfOk result (λ done. Stretched done (map E.stands_for events.old.items) engine.old (map E.stands_for events.new.items) engine.new) }
 {
     for _step in 0..STEPS {
-        match engine.step()? {
-            Step2::Moved => {}
-            Step2::Event(event) => {
-                events.push(E::make(alloc, problem, event)?)?;
+        match engine.note(events)? {
+            Progress::Moved => {}
+            Progress::Noted => {
                 if at_once && ends_with_answer(events) {
                     return Ok(false);
                 }
             }
-            Step2::Done => return Ok(true),
+            Progress::Done => return Ok(true),
         }
     }
     Ok(false)
@@ -175,13 +171,7 @@ fn run<'p, R: Wait, O: Outlet>(
         seat.old seat.new) }
 {
     'stretches: loop {
-        if stretch(
-            job.alloc,
-            job.problem,
-            engine,
-            events,
-            job.reports_at_once(),
-        )? {
+        if stretch(engine, events, job.reports_at_once())? {
             return Ok(Ran::Done);
         }
         let Some(seen) = look(job, seat, told, out) else {
@@ -205,7 +195,7 @@ fn run_alone<'p, R: Wait, O: Outlet>(
     told: &mut Told,
     out: &mut O,
 ) -> Result<bool, OutOfMemory>
-    requires suits { O.Found.suits job.now.problem.now }
+    requires suits { O.Found.suits engine.old.problem }
     requires seat { IsSeat job.now.pool.now job.now.problem.now seat.old }
     requires stands { Stands O.takes O.breaks O.welcome O.faults job.now.start.now.value job.now.problem.now seat.old out.old told.old }
     ensures leads { told.new.leads ≡ told.old.leads }
@@ -220,7 +210,7 @@ fn run_alone<'p, R: Wait, O: Outlet>(
         seat.old seat.new) }
 {
     'stretches: loop {
-        if stretch(job.alloc, job.problem, engine, events, false)? {
+        if stretch(engine, events, false)? {
             return Ok(true);
         }
         if look(job, seat, told, out).is_none() {

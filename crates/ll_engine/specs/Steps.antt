@@ -8,7 +8,9 @@ use Rattle.ll_laws.specs.Problem.{ProblemTree, setting_of, start_of, problem_eve
 use Rattle.ll_engine.specs.Seen.{Owing}
 use Rattle.ll_engine.specs.Owed.{work}
 use Rattle.ll_engine.specs.declared.engine.Step2.{Step2}
-use Rattle.ll_engine.specs.declared.engine.Step2.TheVariants.{Event as Found, Done}
+use Rattle.ll_engine.specs.declared.engine.Step2.TheVariants.{Moved, Event as Found, Done}
+use Rattle.ll_engine.specs.declared.engine.Progress.{Progress}
+use Rattle.ll_engine.specs.declared.engine.Progress.TheVariants.{Moved as Goes, Noted, Done as Over}
 
 -- the engine of a problem before its first step: it owes the whole search
 abbrev pub fresh : ProblemTree → Owing
@@ -52,3 +54,9 @@ pub record Steps (old : Owing) (s : Step2) (new : Owing) : Type 0 where
   pub made : new.made ≡ cut_count (old.made + (old.cost - new.cost))
   pub ends : Ends old s new
   pub forks : KeepsForks s new
+
+-- one step, whose event was put behind those that there were
+abbrev pub Notes : Owing → Progress → List Event → List Event → Owing → Type 0
+Notes old Goes before after new = Steps old Moved new × (after ≡ before)
+Notes old Noted before after new = (e : Event) × Steps old (Found e) new × (after ≡ before ++ e ∷ [])
+Notes old Over before after new = Steps old Done new × (after ≡ before)

@@ -1,16 +1,18 @@
 //! The end of a branch: whether a state is an answer, and which one.
-ghost use Rattle.std.specs.Prelude.{◌≡◌, IfOk};
+ghost use Rattle.std.specs.Prelude.{◌≡◌, true, IfOk};
 ghost use Rattle.ll_bank.specs.Nodes.{AllInTerms, no_nodes, term_trees};
 ghost use Rattle.ll_laws.specs.Settle.{has_live};
 ghost use Rattle.ll_freeze.specs.Parts.{parts_of};
 ghost use Rattle.ll_freeze.specs.Shown.{state_of};
 ghost use Rattle.ll_freeze.specs.Fits.{Fits};
+ghost use Rattle.ll_engine.specs.Moves.{end_event};
 ghost use Rattle.ll_engine.specs.Turned.{is_empty, answers};
 
 use ll_bank::{At, Bank, FormAt, OutOfMemory};
+use ll_bindings::Reading;
 use ll_copy::{Carrier, read_into};
 use ll_freeze::Machine;
-use ll_laws::{Branch, Step};
+use ll_laws::{Branch, Event, Notice, Step};
 use std::alloc::Global;
 use std::marker::Model;
 
@@ -59,6 +61,37 @@ impl Workshop {
         Workshop {
             carrier: Carrier::new(alloc),
             grown: Bank::new(alloc),
+        }
+    }
+}
+
+/// What stands for the state as an answer: made of the machine's terms where that is enough, and else of a branch.
+pub fn answer_notice<E: Notice>(
+    machine: &Machine<'_>,
+    alloc: Global,
+    workshop: &mut Workshop,
+) -> Result<E, OutOfMemory>
+    requires fits { Fits (parts_of machine.now) }
+    requires suits { E.suits machine.now.problem.now }
+    ensures { IfOk result (λ e. E.stands_for e ≡ end_event true (state_of (parts_of machine.now))) }
+{
+    let store = &machine.store;
+    let reading = Reading {
+        bank: &store.bank,
+        table: &store.cells,
+    };
+    let notice = E::of_answer(
+        alloc,
+        machine.problem,
+        &reading,
+        &machine.terms,
+        machine.steps.as_slice(),
+    )?;
+    match notice {
+        Some(notice) => Ok(notice),
+        None => {
+            let branch = branch(machine, alloc, workshop)?;
+            E::make(alloc, machine.problem, Event::Answer(branch))
         }
     }
 }

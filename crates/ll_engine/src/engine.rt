@@ -1,5 +1,5 @@
 //! Engines, and one turn of an engine.
-ghost use Rattle.std.specs.Prelude.{◌≡◌, ◌<◌, true, false, length, slice_get, Some, IfOk, OnErr, IsErr};
+ghost use Rattle.std.specs.Prelude.{◌≡◌, ◌<◌, true, false, length, map, slice_get, Some, IfOk, OnErr, IsErr};
 ghost use Rattle.std.specs.Arc.{arc_value};
 ghost use Rattle.ll_laws.specs.Pool.{Owed};
 ghost use Rattle.ll_laws.specs.declared.Event.{Event as TheEvent};
@@ -8,8 +8,8 @@ ghost use Rattle.ll_freeze.specs.Indexed.{IsIndexOf};
 ghost use Rattle.ll_laws.specs.Valid.{IsValid};
 ghost use Rattle.ll_engine.specs.Pointed.{spine_of, IsSound};
 ghost use Rattle.ll_engine.specs.Turned.{Turned, has_none};
-ghost use Rattle.ll_engine.specs.Moves.{found_of, made_of, running_of};
-ghost use Rattle.ll_engine.specs.Steps.{Steps, fresh};
+ghost use Rattle.ll_engine.specs.Moves.{ends_in, found_by, made_of, running_of};
+ghost use Rattle.ll_engine.specs.Steps.{Notes, Steps, fresh};
 ghost use Rattle.ll_engine.specs.Owed.{owing};
 ghost use Rattle.ll_engine.specs.Healthy.{Healthy};
 ghost use Rattle.ll_engine.specs.Resumes.{Resumes, resumed};
@@ -19,10 +19,21 @@ use crate::spine::Spine;
 use ll_bank::OutOfMemory;
 use ll_freeze::Frozen;
 use ll_index::Index;
-use ll_laws::{Event, Problem};
+use ll_laws::{Event, Notice, Problem};
 use std::alloc::{AllocError, Global};
 use std::marker::Model;
 use std::sync::Arc;
+
+/// What one step of an engine came to, where its event is noted elsewhere.
+#[derive(Clone, Copy)]
+pub enum Progress {
+    /// It went on, with no event.
+    Moved,
+    /// The next event was noted.
+    Noted,
+    /// Nothing is left.
+    Done,
+}
 
 /// What one step of an engine did.
 #[derive(Drop)]
@@ -36,34 +47,34 @@ pub enum Step2 {
 }
 
 // What one turn gave, and whether a state is to be searched next.
-#[derive(Drop)]
+#[derive(Clone, Copy)]
 enum Move {
     // No inference was made, or one that was counted already: that of a goal whose further candidate was tried.
     Quiet { running: bool },
     // One inference was made.
     Inferred { running: bool },
-    // An event was found, and the branch ends.
-    Gives(Event),
+    // The branch ends, in an answer or at the bound. The machine shows its last state still.
+    Ends { answers: bool },
 }
 
 // A turn with a state that is to be searched.
 fn search(spine: &mut Spine<'_>) -> Result<Move, OutOfMemory>
     requires sound { IsSound true spine.old }
     ensures sound { IfOk result (λ m. IsSound (running_of m) spine.new) }
-    ensures turned { IfOk result (λ m. Turned (spine_of spine.old) true (found_of m) (made_of m) (spine_of spine.new) (running_of m)) }
+    ensures shown { IfOk result (λ m. ends_in m ≡ true → IsSound true spine.new) }
+    ensures turned { IfOk result (λ m. Turned (spine_of spine.old) true (found_by m (spine_of spine.new)) (made_of m) (spine_of spine.new) (running_of m)) }
 {
     if !spine.settle()? {
         return Ok(Move::Quiet { running: false });
     }
     if spine.is_empty() {
         if spine.answers() {
-            let branch = spine.branch()?;
-            return Ok(Move::Gives(Event::Answer(branch)));
+            return Ok(Move::Ends { answers: true });
         }
         return Ok(Move::Quiet { running: false });
     }
     if spine.left() == 0 {
-        return Ok(Move::Gives(Event::Reached));
+        return Ok(Move::Ends { answers: false });
     }
     let running = spine.expand()?;
     Ok(Move::Inferred { running })
@@ -74,7 +85,8 @@ fn go_back(spine: &mut Spine<'_>) -> Result<Move, OutOfMemory>
     requires sound { IsSound false spine.old }
     requires points { has_none (spine_of spine.old).points ≡ false }
     ensures sound { IfOk result (λ m. IsSound (running_of m) spine.new) }
-    ensures turned { IfOk result (λ m. Turned (spine_of spine.old) false (found_of m) (made_of m) (spine_of spine.new) (running_of m)) }
+    ensures shown { IfOk result (λ m. ends_in m ≡ true → IsSound true spine.new) }
+    ensures turned { IfOk result (λ m. Turned (spine_of spine.old) false (found_by m (spine_of spine.new)) (made_of m) (spine_of spine.new) (running_of m)) }
 {
     let running = spine.retry()?;
     Ok(Move::Quiet { running })
@@ -85,7 +97,9 @@ fn turn(spine: &mut Spine<'_>, running: bool) -> Result<Move, OutOfMemory>
     requires sound { IsSound running spine.old }
     requires points { running ≡ false → has_none (spine_of spine.old).points ≡ false }
     ensures sound { IfOk result (λ m. IsSound (running_of m) spine.new) }
-    ensures turned { IfOk result (λ m. Turned (spine_of spine.old) running (found_of m) (made_of m) (spine_of spine.new) (running_of m)) }
+    ensures shown { IfOk result (λ m. ends_in m ≡ true → IsSound true spine.new) }
+    ensures turned { IfOk result (λ m. Turned (spine_of spine.old) running (found_by m (spine_of spine.new)) (made_of m) (spine_of spine.new)
+        (running_of m)) }
 {
     if running {
         search(spine)
@@ -251,29 +265,55 @@ impl<'p> Engine<'p> {
         ensures refused { OnErr result (self.new.spent ≡ true) }
         ensures step { IfOk result (λ s. Steps self.old s self.new) }
     {
+        let mut events = Vec::new(self.spine.alloc);
+        match self.note(&mut events)? {
+            Progress::Moved => Ok(Step2::Moved),
+            Progress::Noted => match events.pop() {
+                Some(event) => Ok(Step2::Event(event)),
+                None => unreachable!(),
+            },
+            Progress::Done => Ok(Step2::Done),
+        }
+    }
+
+    /// Goes on by one step, as `step` does, and puts what stands for its event behind what there is. The terms of an answer are copied only
+    /// where its notice is not made of those of the machine.
+    ///
+    /// A refusal notes nothing.
+    pub fn note<E: Notice>(&mut self, events: &mut Vec<E>) -> Result<Progress, OutOfMemory>
+        requires suits { E.suits self.old.problem }
+        ensures spent { self.old.spent ≡ true → IsErr result }
+        ensures refused { OnErr result (self.new.spent ≡ true) }
+        ensures kept { OnErr result (events.new.items ≡ events.old.items) }
+        ensures step { IfOk result (λ p. Notes self.old p (map E.stands_for events.old.items) (map E.stands_for events.new.items) self.new) }
+    {
         if self.spent {
             return Err(AllocError);
         }
         let made = self.made;
         if !self.running && self.spine.is_over() {
-            return Ok(Step2::Done);
+            return Ok(Progress::Done);
         }
         self.spent = true;
         let went = turn(&mut self.spine, self.running)?;
-        self.spent = false;
         match went {
             Move::Quiet { running } => {
                 self.running = running;
-                Ok(Step2::Moved)
+                self.spent = false;
+                Ok(Progress::Moved)
             }
             Move::Inferred { running } => {
                 self.running = running;
                 self.made = made.saturating_add(1);
-                Ok(Step2::Moved)
+                self.spent = false;
+                Ok(Progress::Moved)
             }
-            Move::Gives(event) => {
+            Move::Ends { answers } => {
+                let notice = self.spine.notice(answers)?;
+                events.push(notice)?;
                 self.running = false;
-                Ok(Step2::Event(event))
+                self.spent = false;
+                Ok(Progress::Noted)
             }
         }
     }

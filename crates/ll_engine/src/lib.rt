@@ -20,4 +20,4 @@ mod spine;
 mod split;
 mod take;
 
-pub use engine::{Engine, Step2};
+pub use engine::{Engine, Progress, Step2};

@@ -9,17 +9,18 @@ ghost use Rattle.ll_freeze.specs.Fits.{Fits};
 ghost use Rattle.ll_freeze.specs.Indexed.{IsIndexOf};
 ghost use Rattle.ll_engine.specs.Based.{IsBased, KeepsFloors};
 ghost use Rattle.ll_engine.specs.Pointed.{spine_of, helds, IsSound, IsOpen, AreKept, AreMarks, AreTries, Puts, KeepsKept, ChoseOf};
+ghost use Rattle.ll_engine.specs.Moves.{end_event};
 ghost use Rattle.ll_engine.specs.Turned.{has_none, is_empty, answers, starting, Settles, Expands, Retries};
 
 use crate::ancestor::Ancestor;
-use crate::answer::{Workshop, answers, branch, is_empty};
+use crate::answer::{Workshop, answer_notice, answers, is_empty};
 use crate::attempt::attempt;
 use crate::candidates::{candidates, is_sure};
 use crate::settle::settle;
 use ll_bank::OutOfMemory;
 use ll_freeze::{ChoiceMark, Machine};
 use ll_index::Index;
-use ll_laws::{Branch, Candidate, Problem};
+use ll_laws::{Candidate, Event, Notice, Problem};
 use std::alloc::Global;
 use std::collections::VecDeque;
 use std::snapshot::Snapshot;
@@ -114,18 +115,19 @@ impl<'p> Spine<'p> {
         self.machine.left()
     }
 
-    /// The state as a branch. Nothing changes but what branches are made with.
-    pub fn branch(&mut self) -> Result<Branch, OutOfMemory>
+    /// What stands for the end of the branch, in an answer or at the bound. Nothing changes but what branches are made with.
+    pub fn notice<E: Notice>(&mut self, answers: bool) -> Result<E, OutOfMemory>
         requires sound { IsSound true self.old }
-        ensures branch { IfOk result (λ b. b ≡ record {
-          terms = (state_of (parts_of self.old.machine)).terms;
-          steps =
-              (state_of (parts_of self.old.machine)).steps;
-        }) }
+        requires suits { E.suits self.old.problem.now }
+        ensures notice { IfOk result (λ e. E.stands_for e ≡ end_event answers (state_of (parts_of self.old.machine))) }
         ensures sound { IsSound false self.new }
         ensures same { spine_of self.new ≡ spine_of self.old }
     {
-        branch(&self.machine, self.alloc, &mut self.workshop)
+        if answers {
+            answer_notice(&self.machine, self.alloc, &mut self.workshop)
+        } else {
+            E::make(self.alloc, self.problem, Event::Reached)
+        }
     }
 
     /// Takes the first goal apart by its first candidate that can match, and keeps the others in a choice point; false where it gives

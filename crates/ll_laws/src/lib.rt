@@ -207,8 +207,9 @@ impl Terms for Bank {
 ///
 /// Contracts see the event that it stands for, so whatever carries it says the same of every kind.
 pub trait Notice: Drop + Send + Sync {
-    ghost use Rattle.std.specs.Prelude.{◌≡◌, IfOk};
+    ghost use Rattle.std.specs.Prelude.{◌≡◌, IfOk, IfSome, All, map};
     ghost use Rattle.ll_laws.specs.declared.Event.{Event};
+    ghost use Rattle.ll_laws.specs.declared.Event.TheVariants.{Answer};
     ghost use Rattle.ll_laws.specs.Problem.{ProblemTree};
     ghost use Rattle.ll_laws.specs.Search.{is_answer as is_answer_of};
 
@@ -223,6 +224,20 @@ pub trait Notice: Drop + Send + Sync {
         requires { suits problem.now }
         ensures { IfOk result (λ notice. stands_for notice ≡ event) };
 
+    /// Makes it of an answer of the search of a problem whose terms stand at these places, and keeps none of them. None where it is made of
+    /// events alone.
+    fn of_answer<T: Terms>(
+        alloc: Global,
+        problem: &Problem,
+        terms: &T,
+        places: &[At],
+        steps: &[Step],
+    ) -> Result<Option<Self>, OutOfMemory>
+        requires suits { suits problem.now }
+        requires places { All (λ a. T.has terms.now a.0) places.now }
+        ensures { IfOk result (λ made. IfSome made (λ notice. stands_for notice
+            ≡ Answer (record { terms = map (λ a. T.tree terms.now a.0) places.now; steps = steps.now }))) };
+
     /// Whether the event is an answer.
     fn is_answer(&self) -> bool
         ensures { result ≡ is_answer_of (stands_for self.now) };
@@ -235,6 +250,16 @@ impl Notice for Event {
 
     fn make(_alloc: Global, _problem: &Problem, event: Event) -> Result<Event, OutOfMemory> {
         Ok(event)
+    }
+
+    fn of_answer<T: Terms>(
+        _alloc: Global,
+        _problem: &Problem,
+        _terms: &T,
+        _places: &[At],
+        _steps: &[Step],
+    ) -> Result<Option<Event>, OutOfMemory> {
+        Ok(None)
     }
 
     fn is_answer(&self) -> bool {

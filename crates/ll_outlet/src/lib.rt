@@ -1,6 +1,7 @@
 //! Outlets of a run: one that writes the lines of each event as it comes, and one that keeps nothing.
 #![tactic(auto)]
 
+mod ghost_event;
 mod line;
 mod outlet;
 mod silent;

@@ -1,15 +1,15 @@
 //! The lines of an answer, made by the worker that found it.
-ghost use Rattle.std.specs.Prelude.{◌≡◌, IfOk, option_map};
+ghost use Rattle.std.specs.Prelude.{◌≡◌, [], IfOk, All, map, option_map};
 ghost use Rattle.ll_outlet.specs.Lines.{Tells, lines_behind, line_text};
 
+use crate::ghost_event::{GhostEvent, ghost_by, ghost_by_terms};
 use crate::outlet::Lined;
-use ll_bank::OutOfMemory;
-use ll_laws::{Branch, Event, Notice, Problem};
-use ll_printer::{bindings, title};
+use ll_bank::{At, OutOfMemory};
+use ll_laws::{Event, Notice, Problem, Step, Terms};
+use ll_printer::{bindings_of, title};
 use smallvec::SmallVec;
 use std::alloc::Global;
 use std::marker::{Brand, PhantomData};
-use std::snapshot::Snapshot;
 
 /// So many bytes are the lines of most answers. They are kept in place, so those of a report lie one behind the other for its taker.
 const ROOM: usize = 64;
@@ -34,8 +34,7 @@ impl Asked for Brand {
 pub struct Line<K: Asked> {
     // The lines of an answer behind its number. None stand for a branch that reached the bound.
     text: Option<SmallVec<u8, ROOM>>,
-    // The event, which lives in contracts alone.
-    event: Snapshot<Event>,
+    event: GhostEvent,
     of: PhantomData<K>,
     ghost tells: { Tells K.problem (option_map (λ v. v.items) text) event.value },
 }
@@ -47,14 +46,31 @@ impl<K: Asked> Notice for Line<K> {
 
     fn make(alloc: Global, problem: &Problem, event: Event) -> Result<Line<K>, OutOfMemory> {
         let text = match &event {
-            Event::Answer(branch) => Some(lines_behind(alloc, problem, branch)?),
+            Event::Answer(branch) => {
+                Some(lines_behind(alloc, problem, &branch.bank, &branch.terms)?)
+            }
             Event::Reached => None,
         };
         Ok(Line {
             text,
-            event: Snapshot::of(&event),
+            event: ghost_by(&event),
             of: PhantomData,
         })
+    }
+
+    fn of_answer<T: Terms>(
+        alloc: Global,
+        problem: &Problem,
+        terms: &T,
+        places: &[At],
+        steps: &[Step],
+    ) -> Result<Option<Line<K>>, OutOfMemory> {
+        let text = lines_behind(alloc, problem, terms, places)?;
+        Ok(Some(Line {
+            text: Some(text),
+            event: ghost_by_terms(terms, places, steps),
+            of: PhantomData,
+        }))
     }
 
     fn is_answer(&self) -> bool {
@@ -84,17 +100,20 @@ impl<K: Asked> Lined for Line<K> {
     }
 }
 
-// The lines of an answer behind its number. An answer that lacks a term of a variable that is asked for has none.
-fn lines_behind(
+// The lines of an answer behind its number, whose terms stand at these places. An answer that lacks a term of a variable that is asked for
+// has none.
+fn lines_behind<T: Terms>(
     alloc: Global,
     problem: &Problem,
-    branch: &Branch,
+    terms: &T,
+    places: &[At],
 ) -> Result<SmallVec<u8, ROOM>, OutOfMemory>
-    ensures { IfOk result (λ lines. lines.items ≡ lines_behind problem.now branch.now) }
+    requires { All (λ a. T.has terms.now a.0) places.now }
+    ensures { IfOk result (λ lines. lines.items ≡ lines_behind problem.now (record { terms = map (λ a. T.tree terms.now a.0) places.now; steps = [] })) }
 {
     let mut lines = Vec::with_capacity(alloc, ROOM)?;
-    if problem.asked.len() <= branch.terms.len() {
-        bindings(alloc, problem, branch, &mut lines)?;
+    if problem.asked.len() <= places.len() {
+        bindings_of(alloc, problem, terms, places, &mut lines)?;
     }
     Ok(SmallVec::from_vec(lines))
 }

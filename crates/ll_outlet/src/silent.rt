@@ -2,18 +2,17 @@
 ghost use Rattle.std.specs.Prelude.{◌≡◌};
 ghost use Rattle.ll_laws.specs.Search.{is_answer as is_answer_of};
 
-use ll_bank::OutOfMemory;
-use ll_laws::{Event, Notice, Problem};
+use crate::ghost_event::{GhostEvent, ghost_by, ghost_by_terms};
+use ll_bank::{At, OutOfMemory};
+use ll_laws::{Event, Notice, Problem, Step, Terms};
 use ll_order::{OutFault, Outlet};
 use std::alloc::Global;
-use std::snapshot::Snapshot;
 
 /// What is counted of an event: whether it is an answer.
 #[derive(Drop)]
 pub struct Kind {
     is_answer: bool,
-    // The event, which lives in contracts alone.
-    event: Snapshot<Event>,
+    event: GhostEvent,
     ghost is: { is_answer ≡ is_answer_of event.value },
 }
 
@@ -25,8 +24,21 @@ impl Notice for Kind {
     fn make(_alloc: Global, _problem: &Problem, event: Event) -> Result<Kind, OutOfMemory> {
         Ok(Kind {
             is_answer: event.is_answer(),
-            event: Snapshot::of(&event),
+            event: ghost_by(&event),
         })
+    }
+
+    fn of_answer<T: Terms>(
+        _alloc: Global,
+        _problem: &Problem,
+        terms: &T,
+        places: &[At],
+        steps: &[Step],
+    ) -> Result<Option<Kind>, OutOfMemory> {
+        Ok(Some(Kind {
+            is_answer: true,
+            event: ghost_by_terms(terms, places, steps),
+        }))
     }
 
     fn is_answer(&self) -> bool {

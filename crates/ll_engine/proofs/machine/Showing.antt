@@ -1,15 +1,13 @@
 -- What a machine's parts say of the state that it shows.
-use Rattle.std.proofs.Common.{◌≡◌, ℕ, ◌+◌, refl, ap, sym, ◌∙◌, Bool, true, false, List, [], ◌∷◌, map, take, get_or}
-use Rattle.std.proofs.lemmas.List.Folds.{list_any_at, list_any_more}
-use Rattle.std.proofs.lemmas.Option.{get_or_from_slice_get, slice_get_within}
-use Rattle.std.specs.Prelude.{Option, Some, None, All, length, is_some, IsNone, ◌↔◌, not, ◌||◌, ◌&&◌, slice_get}
+use Rattle.std.proofs.Common.{◌≡◌, refl, ap, sym, ◌∙◌, Bool, true, false, List, [], ◌∷◌, map}
+use Rattle.std.specs.Prelude.{Option, Some, None, All, length, is_some, IsNone, ◌↔◌, not, ◌||◌, ◌&&◌}
 use Rattle.std.specs.List.{list_all}
 use Rattle.std.proofs.lemmas.List.Elements.{All-nil, All-cons, All-head, All-tail}
 use Rattle.std.proofs.lemmas.Bool.{or_right as or_true}
 use Rattle.ll_lists.proofs.CallerLemmas.{and_true_left as and_left, and_true_right as and_right}
 use Rattle.ll_bank.specs.declared.At.{At}
 use Rattle.ll_bank.specs.declared.FormAt.{FormAt}
-use Rattle.ll_bank.specs.Term.{Term, is_closed, eigens_below}
+use Rattle.ll_bank.specs.Term.{Term, is_closed, eigens_below, sub}
 use Rattle.ll_bank.specs.Nodes.{Nodes, HasTerm, AllInTerms, term_tree}
 use Rattle.ll_laws.specs.Answered.{Answered}
 use Rattle.ll_laws.specs.Consistent.{is_made}
@@ -24,7 +22,7 @@ use Rattle.ll_freeze.specs.Parts.{Parts, table}
 use Rattle.ll_freeze.specs.Fits.{Fits}
 use Rattle.ll_engine.proofs.machine.ReadLemmas.{fits_table}
 use Rattle.ll_freeze.specs.declared.machine.Item.{Item}
-use Rattle.ll_freeze.specs.Reading.{read_term}
+use Rattle.ll_freeze.specs.Reading.{reading, read_term}
 use Rattle.ll_freeze.specs.Shown.{shown_item, shown_entry, items_of, state_of}
 use Rattle.ll_engine.specs.Turned.{is_empty, answers}
 
@@ -64,18 +62,6 @@ unfolding state_of
 unflagged m b l e f h =
     ap (λ x. not x) (h ∙ sym (live_map m.bank m.bound m.resources.entries)) ∙ sym (or_false _ m.resources.flag (sym e ∙ f))
 
-module _ {C : Type 0} where
-  pub live_here : (es : List (Entry C)) (i : ℕ) (e : Entry C) (b : Bool) → slice_get es i ≡ Some e → b ≡ e.live → b ≡ true → true ≡ has_live es
-  live_here es i e b h l t =
-      sym (list_any_at (λ (e : Entry C). e.live) es i e (slice_get_within es i e h)
-      (ap (λ (x : Entry C). x.live) (get_or_from_slice_get es i e e h) ∙ (sym l ∙ t)))
-
-  pub not_live_more : (es : List (Entry C)) (i : ℕ) (e : Entry C) (b : Bool) → slice_get es i ≡ Some e → b ≡ e.live → b ≡ false → has_live (take i es) ≡ false
-      → has_live (take (i + 1) es) ≡ false
-  not_live_more es i e b h l f k =
-      list_any_more (λ (e : Entry C). e.live) es i e (slice_get_within es i e h)
-      ∙ (ap (λ x. x || (get_or es i e).live) k ∙ (ap (λ (x : Entry C). x.live) (get_or_from_slice_get es i e e h) ∙ (sym l ∙ f)))
-
 -- the terms and the steps of a state
 abbrev branched : State → Answered
 branched s = record { terms = s.terms; steps = s.steps }
@@ -90,6 +76,14 @@ branch_of m bank new bound terms read steps e1 e2 e3 r e4 =
     let make : List Term → List Step → Answered = λ xs ys. record { terms = xs; steps = ys } in
     let a : map (read_term bank bound) terms ≡ map (read_term m.bank m.bound) m.terms = rw (e1, e2, e3) refl in
     ap (λ xs. make xs steps) (r ∙ a) ∙ ap (λ ys. make (map (read_term m.bank m.bound) m.terms) ys) e4
+
+-- the terms of a machine, read where they stand, and its steps are those of its state
+pub read_in_place : (m : Parts) (terms : List At) (steps : List Step) → terms ≡ m.terms → steps ≡ m.steps
+    → record { terms = map (λ at. sub (reading m.bank m.bound) (term_tree m.bank at.0)) terms; steps = steps } ≡ branched (state_of m)
+unfolding state_of
+read_in_place m terms steps e1 e2 =
+    let make : List Term → List Step → Answered = λ xs ys. record { terms = xs; steps = ys } in
+    ap (λ ats. make (map (read_term m.bank m.bound) ats) steps) e1 ∙ ap (λ ys. make (map (read_term m.bank m.bound) m.terms) ys) e2
 
 -- ---- the terms of a machine are places over its cells
 

@@ -9,9 +9,9 @@ use Rattle.ll_engine.specs.Seen.{Owing, Point, Spine}
 use Rattle.ll_engine.specs.Owed.{owing, cost_of_spine}
 use Rattle.ll_engine.specs.Healthy.{Healthy, here}
 use Rattle.ll_engine.specs.Turned.{Turned, ForksKept, has_none, starting}
-use Rattle.ll_engine.specs.Moves.{found_of, made_of, running_of}
+use Rattle.ll_engine.specs.Moves.{end_event, found_by, made_of, running_of}
 use Rattle.ll_engine.specs.declared.engine.Move.{Move}
-use Rattle.ll_engine.specs.declared.engine.Move.TheVariants.{Quiet, Inferred, Gives}
+use Rattle.ll_engine.specs.declared.engine.Move.TheVariants.{Quiet, Inferred, Ends}
 use Rattle.ll_engine.specs.declared.engine.Step2.TheVariants.{Moved, Event as Found, Done}
 use Rattle.ll_engine.specs.Steps.{KeepsForks, Steps}
 
@@ -37,17 +37,17 @@ moves z0 z was r m m' s n t e =
       forks = tt;
     }
 
-pub quiet : (z0 z : Spine) (was r : Bool) (m s : ℕ) (w : Move) → w ≡ Quiet r → Turned z0 was (found_of w) (made_of w) z (running_of w)
+pub quiet : (z0 z : Spine) (was r : Bool) (m s : ℕ) (w : Move) → w ≡ Quiet r → Turned z0 was (found_by w z) (made_of w) z (running_of w)
     → m ≤ 18446744073709551615
     → Steps (owing z0 was m s false) Moved (owing z r m s false)
 quiet z0 z was r m s w e t h =
-    let P : Move → Type 0 = λ w. Turned z0 was (found_of w) (made_of w) z (running_of w) in
+    let P : Move → Type 0 = λ w. Turned z0 was (found_by w z) (made_of w) z (running_of w) in
     moves z0 z was r m m s 0 (subst P e t) (cut_same m (cost_of_spine r z) h)
 
-pub inferred : (z0 z : Spine) (was r : Bool) (m m' s : ℕ) (w : Move) → w ≡ Inferred r → Turned z0 was (found_of w) (made_of w) z (running_of w)
+pub inferred : (z0 z : Spine) (was r : Bool) (m m' s : ℕ) (w : Move) → w ≡ Inferred r → Turned z0 was (found_by w z) (made_of w) z (running_of w)
     → m' ≡ min (m + 1) (18446744073709551615) → Steps (owing z0 was m s false) Moved (owing z r m' s false)
 inferred z0 z was r m m' s w e t h =
-    let P : Move → Type 0 = λ w. Turned z0 was (found_of w) (made_of w) z (running_of w) in
+    let P : Move → Type 0 = λ w. Turned z0 was (found_by w z) (made_of w) z (running_of w) in
     moves z0 z was r m m' s 1 (subst P e t) (h ∙ cut_more m (cost_of_spine r z))
 
 keeps : (z0 z : Spine) (s : ℕ) (e : Event) → z.problem ≡ z0.problem → z.first ≡ z0.first → ForksKept z0 s (e ∷ []) z
@@ -55,10 +55,10 @@ keeps : (z0 z : Spine) (s : ℕ) (e : Event) → z.problem ≡ z0.problem → z.
 keeps z0 z s (Answer a) e1 e2 h m = λ f e. rw e1 (h f (sym e2 ∙ e))
 keeps z0 z s Reached e1 e2 h m = tt
 
-pub gives : (z0 z : Spine) (was : Bool) (m s : ℕ) (w : Move) (e : Event) → w ≡ Gives e → Turned z0 was (found_of w) (made_of w) z (running_of w)
-    → Healthy s was z0 → m ≤ 18446744073709551615 → Steps (owing z0 was m s false) (Found e) (owing z false m s false)
-gives z0 z was m s w v e t0 h b =
-    let P : Move → Type 0 = λ w. Turned z0 was (found_of w) (made_of w) z (running_of w) in
+pub ends : (z0 z : Spine) (was : Bool) (m s : ℕ) (w : Move) (a : Bool) → w ≡ Ends a → Turned z0 was (found_by w z) (made_of w) z (running_of w)
+    → Healthy s was z0 → m ≤ 18446744073709551615 → Steps (owing z0 was m s false) (Found (end_event a z.now)) (owing z false m s false)
+ends z0 z was m s w v e t0 h b =
+    let P : Move → Type 0 = λ w. Turned z0 was (found_by w z) (made_of w) z (running_of w) in
     let t = subst P e t0 in
     record {
       problem = t.problem;
@@ -69,10 +69,10 @@ gives z0 z was m s w v e t0 h b =
       cost = let a = t.cost in omega (arith, a);
       made = rw t.cost (cut_same m (cost_of_spine false z) b);
       ends = t.work;
-      forks = keeps z0 z s v t.problem t.first (t.forks s h) m;
+      forks = keeps z0 z s (end_event v z.now) t.problem t.first (t.forks s h) m;
     }
 
-pub healthy_turn : (z0 z : Spine) (was r : Bool) (s : ℕ) (w : Move) → running_of w ≡ r → Turned z0 was (found_of w) (made_of w) z (running_of w)
+pub healthy_turn : (z0 z : Spine) (was r : Bool) (s : ℕ) (w : Move) → running_of w ≡ r → Turned z0 was (found_by w z) (made_of w) z (running_of w)
     → Healthy s was z0 → Healthy s r z
 healthy_turn z0 z was r s w e t h = subst (λ (r : Bool). Healthy s r z) e (t.healthy s h)
 

@@ -1,4 +1,4 @@
-use Rattle.std.proofs.Common.{ap}
+use Rattle.std.proofs.Common.{ap, subst, sym}
 use Rattle.std.specs.Prelude.{map}
 use Rattle.ll_crew.proofs.AloneLemmas.{alone_starts, alone_wants, alone_goes_on, alone_ends, alone_breaks}
 use Rattle.ll_crew.proofs.AloneLemmas.{alone_keeps, alone_keeps_on, alone_prefix}
@@ -79,4 +79,4 @@ pub returns-then-done-clause-refused : goal.returns-then-done-clause-refused
 returns-then-done-clause-refused g c = _
 
 pub stretch-requires-clause-suits : goal.stretch-requires-clause-suits
-stretch-requires-clause-suits g c κs within = c.requires.suits
+stretch-requires-clause-suits g c κs within = subst (λ p. g.O.Found.Notice.suits p) (sym c.stretches.invariant.problem) c.requires.suits

@@ -1,4 +1,4 @@
-use Rattle.std.proofs.Common.{ap, subst, OnErr}
+use Rattle.std.proofs.Common.{ap, subst, sym, OnErr}
 use Rattle.ll_laws.specs.Problem.{problem_events}
 use Rattle.ll_engine.specs.Seen.{Owing}
 use Rattle.ll_order.specs.Outlets.{GivesPrefix}
@@ -22,4 +22,5 @@ pub start_with-requires-clause-index : goal.start_with-requires-clause-index
 start_with-requires-clause-index g c = c.requires.index
 
 pub give_each-given-requires-clause-suits : goal.give_each-given-requires-clause-suits
-give_each-given-requires-clause-suits g c κs within = c.requires.suits
+give_each-given-requires-clause-suits g c κs within =
+    subst (λ p. g.O.Found.Notice.suits p) (sym (ap (λ (e : Owing). e.problem) c.in-Ok.ensures)) c.requires.suits

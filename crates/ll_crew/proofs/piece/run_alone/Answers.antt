@@ -1,5 +1,5 @@
 use Rattle.std.specs.Prelude.{map, IsSome, IsNone}
-use Rattle.std.proofs.Common.{◌∙◌, refl, sym, arith, rules}
+use Rattle.std.proofs.Common.{◌∙◌, refl, sym, arith, rules, subst}
 use Rattle.std.proofs.lemmas.Bool.{true≢false}
 use Rattle.std.proofs.lemmas.Result.{IfOk-from_err}
 use Rattle.ll_lists.proofs.CallerLemmas.{OnErr-always}
@@ -95,4 +95,4 @@ pub returns-then-is_none-clause-failed : goal.returns-then-is_none-clause-failed
 returns-then-is_none-clause-failed g c = _
 
 pub stretch-requires-clause-suits : goal.stretch-requires-clause-suits
-stretch-requires-clause-suits g c κs within = c.requires.suits
+stretch-requires-clause-suits g c κs within = subst g.O.Found.Notice.suits (sym c.stretches.invariant.2.problem) c.requires.suits

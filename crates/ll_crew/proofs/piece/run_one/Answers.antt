@@ -79,7 +79,7 @@ pub engine_for-requires-clause-of : goal.engine_for-requires-clause-of
 engine_for-requires-clause-of g c κs within = c.requires.of
 
 pub run_alone-done-requires-clause-suits : goal.run_alone-done-requires-clause-suits
-run_alone-done-requires-clause-suits g c κs within = c.requires.suits
+run_alone-done-requires-clause-suits g c κs within = subst g.O.Found.Notice.suits (sym c.in_ok-engine.ensures.problem) c.requires.suits
 
 pub run_alone-done-requires-clause-seat : goal.run_alone-done-requires-clause-seat
 run_alone-done-requires-clause-seat g c κs within = c.requires.seat

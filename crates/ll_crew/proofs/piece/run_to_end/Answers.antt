@@ -1,6 +1,6 @@
 use Rattle.std.proofs.lemmas.Result.{IfOk-from_err}
 use Rattle.std.specs.Prelude.{map}
-use Rattle.std.proofs.Common.{ap, ◌∙◌, refl, true, false}
+use Rattle.std.proofs.Common.{ap, ◌∙◌, refl, true, false, subst, sym}
 use Rattle.std.specs.Arc.{arc_value}
 use Rattle.ll_lists.proofs.CallerLemmas.{OnOk-weaker, OnErr-weaker}
 use Rattle.ll_laws.specs.Search.{cut_count}
@@ -91,4 +91,5 @@ pub run-requires-clause-owes : goal.run-requires-clause-owes
 run-requires-clause-owes g c κs within = c.requires.owes
 
 pub run_alone-done-requires-clause-suits : goal.run_alone-done-requires-clause-suits
-run_alone-done-requires-clause-suits g c κs within = c.requires.suits
+run_alone-done-requires-clause-suits g c κs within =
+    subst g.O.Found.Notice.suits (sym c.in_ok-run.ensures.problem) c.requires.suits

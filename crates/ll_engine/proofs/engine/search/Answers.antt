@@ -1,12 +1,6 @@
-use Rattle.std.proofs.Common.{rules, sym, subst, ◌∙◌, ◌≡◌, true, false, [], ◌∷◌}
+use Rattle.std.proofs.Common.{rules, sym, subst, ◌∙◌}
 use Rattle.std.proofs.lemmas.Result.{IfOk-from_err}
-use Rattle.ll_laws.specs.declared.Event.TheVariants.{Answer}
-use Rattle.ll_laws.specs.Answered.{Answered}
-use Rattle.ll_freeze.specs.Parts.{parts_of}
-use Rattle.ll_freeze.specs.Shown.{state_of}
 use Rattle.ll_engine.specs.Pointed.{spine_of, IsSound}
-use Rattle.ll_engine.specs.Seen.{Spine}
-use Rattle.ll_engine.specs.Turned.{Turned}
 use Rattle.ll_engine.proofs.turns.Turns.{turned_fails, turned_over, turned_answer, turned_reached, turned_expand}
 use Rattle.ll_engine.proofs.engine.search.Goals as goal
 
@@ -26,13 +20,8 @@ returns-then-left-eq0-clause-turned c =
 
 pub returns-then-answers-clause-turned : goal.returns-then-answers-clause-turned
 returns-then-answers-clause-turned c =
-    let a = turned_answer (spine_of c.args.spine.now) (spine_of c.settle.new.self) c.in_ok-settle.field-0 c.if-not-branch.false c.in_ok-settle.ensures.settles
-    (search rules) (search rules) in
-    let e : record { terms = (state_of (parts_of c.settle.new.self.machine)).terms; steps = (state_of (parts_of c.settle.new.self.machine)).steps }
-    ≡ c.in_ok-branch.branch = sym c.in_ok-branch.ensures.branch in
-    let P : Answered → Type 0 = λ b. Turned (spine_of c.args.spine.now) true (Answer b ∷ []) 0 (spine_of c.settle.new.self) false in
-    let Q : Spine → Type 0 = λ z. Turned (spine_of c.args.spine.now) true (Answer c.in_ok-branch.branch ∷ []) 0 z false in
-    subst Q (sym c.branch-spine.ensures.same) (subst P e a)
+    turned_answer (spine_of c.args.spine.now) (spine_of c.settle.new.self) c.in_ok-settle.field-0 c.if-not-branch.false c.in_ok-settle.ensures.settles
+    (search rules) (search rules)
 
 pub returns-clause-turned : goal.returns-clause-turned
 returns-clause-turned c =
@@ -49,12 +38,6 @@ returns-in_err-settle-clause-sound c = IfOk-from_err c.from_residual.result _ c.
 pub returns-in_err-settle-clause-turned : goal.returns-in_err-settle-clause-turned
 returns-in_err-settle-clause-turned c = IfOk-from_err c.from_residual.result _ c.from_residual.ensures.0
 
-pub returns-in_err-branch-clause-sound : goal.returns-in_err-branch-clause-sound
-returns-in_err-branch-clause-sound c = IfOk-from_err c.from_residual-in_err-branch.result _ c.from_residual-in_err-branch.ensures.0
-
-pub returns-in_err-branch-clause-turned : goal.returns-in_err-branch-clause-turned
-returns-in_err-branch-clause-turned c = IfOk-from_err c.from_residual-in_err-branch.result _ c.from_residual-in_err-branch.ensures.0
-
 pub returns-in_err-running-clause-sound : goal.returns-in_err-running-clause-sound
 returns-in_err-running-clause-sound c = IfOk-from_err c.from_residual-in_err-running.result _ c.from_residual-in_err-running.ensures.0
 
@@ -70,11 +53,11 @@ is_empty-requires c = record { sound = subst (λ b. IsSound b c.settle.new.self)
 pub answers-requires : goal.answers-requires
 answers-requires c = record { sound = subst (λ b. IsSound b c.settle.new.self) c.if-not-branch.false c.in_ok-settle.ensures.sound }
 
-pub branch-spine-requires : goal.branch-spine-requires
-branch-spine-requires c = record { sound = subst (λ b. IsSound b c.settle.new.self) c.if-not-branch.false c.in_ok-settle.ensures.sound }
+pub returns-then-answers-clause-shown : goal.returns-then-answers-clause-shown
+returns-then-answers-clause-shown c = λ e. subst (λ b. IsSound b c.settle.new.self) c.if-not-branch.false c.in_ok-settle.ensures.sound
 
-pub returns-then-answers-clause-sound : goal.returns-then-answers-clause-sound
-returns-then-answers-clause-sound c = c.branch-spine.ensures.sound
+pub returns-then-left-eq0-clause-shown : goal.returns-then-left-eq0-clause-shown
+returns-then-left-eq0-clause-shown c = λ e. subst (λ b. IsSound b c.settle.new.self) c.if-not-branch.false c.in_ok-settle.ensures.sound
 
 pub expand-requires-clause-sound : goal.expand-requires-clause-sound
 expand-requires-clause-sound c = subst (λ b. IsSound b c.settle.new.self) c.if-not-branch.false c.in_ok-settle.ensures.sound

@@ -1,5 +1,4 @@
 use Rattle.std.proofs.Common.{le_refl, ap, Some}
-use Rattle.ll_edge.proofs.CallerLemmas.{taken_front}
 use Rattle.ll_outlet.proofs.outlet.write_waiting.Goals as goal
 
 pub returns-then-is_empty-clause-cut : goal.returns-then-is_empty-clause-cut

@@ -69,7 +69,7 @@ impl<'p> Outlet for Lines<'p> {
 }
 
 // The problem of a made program, with a bound that no branch comes to.
-fn made(alloc: Global, kind: MakeKind, number: u32) -> Result<Problem, TextFault>
+pub(crate) fn made(alloc: Global, kind: MakeKind, number: u32) -> Result<Problem, TextFault>
     requires { Fits kind number }
     ensures { IfOk result (λ problem. IsValid problem) }
 {

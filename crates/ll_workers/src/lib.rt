@@ -1,5 +1,5 @@
 //! Tests of workers: that they claim side by side, that answers are written while others work, that a failed write stops all of them,
-//! that a run stops after the answers that are wanted, and that a batch that came back is searched.
+//! that a run stops after the answers that are wanted, that a batch that came back is searched, and that a bell that rang keeps nobody.
 #![tactic(auto)]
 
 #[cfg(test)]
@@ -8,6 +8,8 @@ mod apart;
 mod early;
 #[cfg(test)]
 mod meeting;
+#[cfg(test)]
+mod ringing;
 #[cfg(test)]
 mod stopping;
 #[cfg(test)]

@@ -15,7 +15,8 @@ use Rattle.ll_laws.specs.ProofText.{derivation_text}
 use Rattle.ll_outlet.specs.Running.{event_lines, all_lines}
 use Rattle.ll_top.specs.Outcome.{whole_text}
 use Rattle.ll_top.specs.Agreeing.{answers_of, lines_of}
-use Rattle.ll_top.proofs.calls.RunLemmas.{whole-lines, last_text}
+use Rattle.ll_top.specs.MadeRuns.{last_line}
+use Rattle.ll_top.proofs.calls.RunLemmas.{whole-lines}
 
 -- ---- lines
 
@@ -71,8 +72,8 @@ lines-answers false p k (Reached ∷ es) = lines-answers false p k es
 lines-answers true p k (Reached ∷ es) = lines-answers true p k es
 
 -- the text of a whole run is the lines of its answers and the last line
-pub whole-answers : (proofs : Bool) (p : ProblemTree) → whole_text proofs p ≡ lines_of proofs p 0 (answers_of p) ++ last_text p
-whole-answers proofs p = sym (whole-lines proofs p) ∙ ap (λ l. l ++ last_text p) (lines-answers proofs p 0 (problem_events p))
+pub whole-answers : (proofs : Bool) (p : ProblemTree) → whole_text proofs p ≡ lines_of proofs p 0 (answers_of p) ++ last_line p
+whole-answers proofs p = sym (whole-lines proofs p) ∙ ap (λ l. l ++ last_line p) (lines-answers proofs p 0 (problem_events p))
 
 -- ---- the first answers
 

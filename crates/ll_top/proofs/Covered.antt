@@ -1,11 +1,9 @@
 -- A cover of a derivation that a run prints names its answer or an earlier one.
 use Rattle.std.proofs.Common.{◌≡◌, ℕ, zero, suc, ◌≤◌, List, [], ◌∷◌, length, Some, None, ap, sym, subst, ◌∙◌, refl, true, false, inl, inr, arith}
 use Rattle.std.specs.Prelude.{Option, is_some, unwrap_or, slice_get, Contains}
-use Rattle.std.specs.List.{list_any, position_from, IsDistinct}
-use Rattle.std.specs.Str.{bytes_eq}
+use Rattle.std.specs.List.{list_any, position_from}
 use Rattle.std.proofs.lemmas.Bool.{cases_lt}
 use Rattle.ll_edge.specs.Texts.{Texts}
-use Rattle.ll_bank.specs.Names.{with_names}
 use Rattle.ll_bank.specs.Term.{Var}
 use Rattle.ll_laws.specs.declared.Event.{Event}
 use Rattle.ll_laws.specs.declared.Event.TheVariants.{Reached, Answer}
@@ -21,24 +19,19 @@ use Rattle.ll_laws.specs.Verdict.{DerivationShows}
 use Rattle.ll_laws.proofs.CallerLemmas.{among, subs_id}
 use Rattle.ll_textbook.proofs.CallerLemmas.{steps_within}
 use Rattle.ll_cover.specs.Covering.{IsCoveredBy, NamesFirst}
-use Rattle.ll_polarity.specs.Asks.{part_of, problem_with}
-use Rattle.ll_prooftext.specs.Mentions.{text_names}
-use Rattle.ll_prooftext.specs.Versions.{IsProofText}
-use Rattle.ll_session.proofs.CallerLemmas.{query-once}
 use Rattle.ll_spelled.specs.Laws.{AnswersAreSpelled, SpelledIsRead}
 use Rattle.ll_words.specs.Words.{CheckWords, IsCheck}
 use Rattle.ll_words.proofs.CallerLemmas.{bad-not-in-form, checked-in-form, checked-kind}
 use Rattle.ll_judge.specs.declared.judge.Role.TheVariants.{Program, Query, Proof}
-use Rattle.ll_judge.specs.Faults.{Cause, Usage, Absent, Unreadable, Oversized, OversizedAs, Faulty, fault_text, cause_status}
-use Rattle.ll_judge.specs.Judging.{TextsAsk, TextsGive}
-use Rattle.ll_judge.specs.Outcome.{AnyName, NoName, longest_text}
+use Rattle.ll_judge.specs.Faults.{Cause, fault_text, cause_status}
+use Rattle.ll_judge.specs.Judging.{TextsAsk}
+use Rattle.ll_judge.specs.Outcome.{AnyName, NoName}
 use Rattle.ll_check.specs.Verdicts.{yes_text, covered_text}
 use Rattle.ll_check.specs.Outcome.{bound_in, CheckFails, texts_not_read, faulty_text, CheckGives, CheckComesTo, shown, refuted, covered, too_long, counting}
 use Rattle.ll_check.specs.Outcome.{check_failed}
 use Rattle.ll_check.proofs.CallerLemmas.{none-counts, cause-not-zero}
 use Rattle.ll_top.specs.Calls.{ComesTo, checks, misused}
 use Rattle.ll_top.specs.Accepted.{NamesUpTo, PrintedIsCovered}
-use Rattle.ll_top.proofs.calls.DistinctNames.{differ-names, differ-problem}
 use Rattle.ll_top.proofs.outcomes.CallLemmas.{comes-kind}
 use Rattle.ll_top.proofs.outcomes.LawLemmas.{Laws, given-once, check-once}
 use Rattle.ll_top.proofs.outcomes.OneText.{one-check}

@@ -42,7 +42,6 @@ use Rattle.ll_top.specs.Rewriting.{ConvertedIsJudgedAlike}
 use Rattle.ll_top.proofs.Accepted.{few}
 use Rattle.ll_top.proofs.RewritingNames.{first-moved}
 use Rattle.ll_top.proofs.RewritingProofs.{Twins, added-names, own-differ, spelled-in, first-line, second-line, convert-of, conversion-of}
-use Rattle.ll_top.proofs.calls.DistinctNames.{differ-names, differ-problem}
 use Rattle.ll_top.proofs.outcomes.CallLemmas.{comes-kind}
 use Rattle.ll_top.proofs.outcomes.LawLemmas.{Laws, given-differ, one-read}
 use Rattle.ll_top.proofs.outcomes.OneText.{one-check}
@@ -191,9 +190,6 @@ module _ (laws : Laws) (twins : Twins) (later : Texts) (one two : CheckWords) (a
     (second_read : IsRead (Some later) two.proof b) where
   bound-is : (check : CheckWords) → check.bound ≡ None → bound_in check ≡ 0
   bound-is check e = ap (λ (o : Option ℕ). unwrap_or o 0) e
-
-  names-of : (p : ProblemTree) → List ℕ → List (List ℕ)
-  names-of p text = with_names p.names (text_names text)
 
   problem-valid : (program query : List ℕ) (p : ProblemTree) → length program ≤ longest_text → length query ≤ longest_text
       → TextsAsk program query 0 p → IsValid p

@@ -1,5 +1,5 @@
 -- What a print writes is the program that it was made of.
-use Rattle.std.proofs.Common.{◌≡◌, ℕ, List, ap, sym, subst, ◌∙◌, refl, Option, Some}
+use Rattle.std.proofs.Common.{◌≡◌, ℕ, List, ap, sym, subst, ◌∙◌, refl, Some}
 use Rattle.ll_edge.specs.Texts.{Texts}
 use Rattle.ll_lexer.specs.Reading.{LexedText, IsLexed}
 use Rattle.ll_parser.specs.Bare.{bare_program}

@@ -1,5 +1,5 @@
 -- Texts of one program ask the same, and have the same faults beside them.
-use Rattle.std.proofs.Common.{◌≡◌, ◌+◌, ℕ, refl, List, [], ◌∷◌, length, ap, sym, subst, ◌∙◌, arith, map}
+use Rattle.std.proofs.Common.{◌≡◌, ◌+◌, ℕ, List, [], ap, sym, subst, ◌∙◌, map}
 use Rattle.std.specs.Prelude.{Ok, Err, Result}
 use Rattle.ll_laws.specs.Line.{DerivationLines}
 use Rattle.ll_laws.specs.Problem.{ProblemTree}

@@ -1,14 +1,8 @@
 -- What a program is printed as, and what it fixes of a problem, do not depend on places.
-use Rattle.std.proofs.Common.{◌≡◌, ℕ, suc, refl, ap, sym, ◌∙◌, Bool, true, false, List, [], ◌∷◌, ◌++◌, map, reverse, length, length-append, arith, codes}
-use Rattle.std.specs.Prelude.{Option, Some, None, cond, if◌then◌else◌, find, nat_eq}
-use Rattle.std.specs.List.{flat_map, list_any}
-use Rattle.std.specs.Str.{bytes_eq}
-use Rattle.std.proofs.lemmas.List.{map-append, length-map, reverse-append}
-use Rattle.std.proofs.lemmas.List.Concat.{flat_map-cons}
+use Rattle.std.proofs.Common.{◌≡◌, ℕ, refl, ap, ◌∙◌, Bool, true, false, List, [], ◌∷◌, ◌++◌, map, length, codes}
+use Rattle.std.specs.Prelude.{cond, if◌then◌else◌}
+use Rattle.std.proofs.lemmas.List.{length-map}
 use Rattle.ll_lists.proofs.CallerLemmas.{map_map}
-use Rattle.ll_lexer.specs.declared.Place.{Place}
-use Rattle.ll_lexer.specs.declared.Fault.{Fault}
-use Rattle.ll_laws.specs.Valid.{Side, ClauseSide}
 use Rattle.ll_bank.specs.Names.{with_name}
 use Rattle.ll_laws.specs.Module as laws
 use Rattle.ll_bank.specs.Form.{Form, Relation, Is, Less, Most, Use, Num}
@@ -16,17 +10,14 @@ use Rattle.ll_bank.specs.Term.{Term, apply}
 use Rattle.ll_parser.specs.Tokens.{Identifier}
 use Rattle.ll_parser.specs.Raw.{Raw, truth, erasure, braces, universal, existential, load, binary, is_goal, less_goal, most_goal, head, anything, int, RawList}
 use Rattle.ll_parser.specs.Raw.{none, more, ClauseTree, ModuleTree, ProgramTree}
-use Rattle.ll_parser.specs.Bare.{nowhere, bare_identifier, bare_raw, bare_raws, bare_clause, bare_module, bare_program}
+use Rattle.ll_parser.specs.Bare.{bare_identifier, bare_raw, bare_raws, bare_clause, bare_module, bare_program}
 use Rattle.ll_parser.specs.Printed.{Rank, clauses, arrows, op_rank, left_rank, right_rank, op_bytes, is_looser, between, bracketed, is_pair, has_arguments}
 use Rattle.ll_parser.specs.Printed.{head_text, term_text, arguments_text, pair_text, is_sum, is_product, expr_text, sides_text}
 use Rattle.ll_parser.specs.Printed.{bound_text, formula_text, line_end, names_text, clause_text, clauses_text, locals_text, module_text, modules_text}
 use Rattle.ll_parser.specs.Printed.{program_text}
 use Rattle.ll_made.proofs.CallerLemmas.{scope-bare}
-use Rattle.ll_polarity.specs.Scope.{Scope, binds, declares, module_scope, meaning}
+use Rattle.ll_polarity.specs.Scope.{Scope, binds, module_scope, meaning}
 use Rattle.ll_polarity.specs.Reading.{Met, Read, read_name, read_term, read_terms, read_form, read_number, joined, module_in, number_in, quantified}
-use Rattle.ll_polarity.specs.Faults.{unless, may_be_head, count, applied_fault, term_faults, terms_faults, left_side, right_side}
-use Rattle.ll_polarity.specs.Faults.{may_join, on_goal_side, Heading}
-use Rattle.ll_polarity.specs.Faults.{is_named, load_fault, number_faults, form_faults, clauses_faults, repeated, modules_faults, heading, program_faults}
 use Rattle.ll_polarity.specs.Asks.{ProgramPart, Named, read_clause, read_clauses, read_module, read_modules, module_names, part_of, kind_of}
 
 -- ---- printing

@@ -1,8 +1,8 @@
 -- What each form comes to.
 pub mod DeepenLemmas
 pub mod DistinctNames
+pub mod EndLemmas
 pub mod FaultLemmas
-pub mod FirstRunLemmas
 pub mod MadeRunLemmas
 pub mod NothingLemmas
 pub mod ProvedLemmas

@@ -127,7 +127,7 @@ fn run_deepened<R: Threads + Wait + Sync, O: Sink, G: Gate>(
 {
     let bound = decide(team, series, problem)?;
     write_heading(sink, "bound ", bound)?;
-    run(team, problem, proofs, sink)
+    run(team, problem, proofs, None, sink)
 }
 
 // Gives a problem the bound that decides: the first of the series at which the search has an answer or reaches no bound, and the last one

@@ -4,7 +4,6 @@
 mod accepting;
 mod agreeing;
 mod deepening;
-mod first_run;
 mod indexes;
 mod made_runs;
 mod making;
@@ -41,7 +40,6 @@ pub use agreeing::{
     workers_change_nothing,
 };
 use deepening::serve_deepen;
-use first_run::run_first;
 use ll_check::serve_check;
 use ll_edge::{FileShelf, Gate, OpenGate, Shelf, Sink, StdSink};
 use ll_judge::{Cause, Refusal, Role, prepare, refuse, serve_convert, serve_print};
@@ -51,7 +49,7 @@ use ll_parser::{one_program, one_query};
 use ll_prooftext::one_derivation_in_any;
 use ll_session::one_session;
 use ll_textbook::answers_are_what_follows;
-use ll_words::{Command, RunCommand, read_command, workers_of};
+use ll_words::{Command, RunCommand, read_command};
 pub use made_runs::made_asks;
 use made_runs::serve_made_run;
 use making::serve_make;
@@ -65,7 +63,7 @@ use std::alloc::Global;
 use std::rt::Files;
 use std::sync::Wait;
 use std::thread::Threads;
-use team::Team;
+use team::{Means, Team};
 
 /// Does what the words say, over the texts of the shelf, and writes to the sink. The answer is the program's exit status:
 ///
@@ -157,7 +155,8 @@ pub fn lolli<R: Threads + Wait + Sync, F: Shelf, O: Sink, G: Gate>(
 {
     one_text();
     answers_are_what_follows();
-    serve(rt, alloc, words, shelf, sink, gate)
+    let means = Means { rt, alloc, gate };
+    serve(&means, words, shelf, sink)
 }
 
 /// Does what `lolli` does over the files and the standard output of the system: this is what the program runs. What it says of texts holds of all
@@ -247,12 +246,10 @@ pub fn one_text()
 
 // Serves words of any form, or of none.
 fn serve<R: Threads + Wait + Sync, F: Shelf, O: Sink, G: Gate>(
-    rt: &R,
-    alloc: Global,
+    means: &Means<'_, R, G>,
     words: &[&str],
     shelf: &mut F,
     sink: &mut O,
-    gate: &G,
 ) -> u8
     ensures kept { ShelfKept F.texts F.faults F.absences F.log shelf.old shelf.new }
     ensures sink_faults_kept { O.faults sink.old ≤ O.faults sink.new }
@@ -276,67 +273,26 @@ fn serve<R: Threads + Wait + Sync, F: Shelf, O: Sink, G: Gate>(
         (O.taken sink.new)) result }
     ensures misused { (IsInForm (word_texts words.now) → ⊥) → (result ≡ 3) ⊎ (result ≡ 6) }
 {
-    match lolli_plain(alloc, words, shelf, sink) {
-        Some(status) => status,
-        None => serve_search(rt, alloc, words, shelf, sink, gate),
+    match read_command(words) {
+        Ok(command) => match command {
+            Command::Run(run) => serve_run(&means.team(run.workers), &run, shelf, sink),
+            Command::Session(session) => {
+                serve_session(&means.team(session.workers), &session, shelf, sink)
+            }
+            Command::Deepen(deepen) => {
+                serve_deepen(&means.team(deepen.workers), &deepen, shelf, sink)
+            }
+            Command::MadeRun(made) => serve_made_run(&means.team(made.workers), made, sink),
+            Command::Print(name) => serve_print(means.alloc, name, shelf, sink),
+            Command::Check(check) => serve_check(means.alloc, &check, shelf, sink),
+            Command::Convert(convert) => serve_convert(means.alloc, &convert, shelf, sink),
+            Command::Make(make) => serve_make(means.alloc, make, sink),
+        },
+        Err(number) => refuse(Cause::Usage(number), sink),
     }
 }
 
-// Serves words of a form with `--workers`.
-fn serve_search<R: Threads + Wait + Sync, F: Shelf, O: Sink, G: Gate>(
-    rt: &R,
-    alloc: Global,
-    words: &[&str],
-    shelf: &mut F,
-    sink: &mut O,
-    gate: &G,
-) -> u8
-    requires workers { IsInWorkersForm (word_texts words.now) }
-
-    ensures kept { ShelfKept F.texts F.faults F.absences F.log shelf.old shelf.new }
-    ensures sink_faults_kept { O.faults sink.old ≤ O.faults sink.new }
-    ensures faults_told { StatusTold F.faults F.absences O.faults shelf.old shelf.new sink.old sink.new result }
-
-    ensures outcome { (told : Option Texts) → Fits told (F.log shelf.old) (F.log shelf.new)
-        → Ends (ComesTo (word_texts words.now) told (Met F.absences F.log shelf.old shelf.new NoText)
-        (Met F.faults F.log shelf.old shelf.new Unreadable)) (Rose (O.faults sink.old) (O.faults sink.new)) (Some (O.taken sink.old)) (Some
-        (O.taken sink.new)) result }
-    ensures run_reads { (run : RunWords) → IsRun (word_texts words.now) run → result ≤ 2
-        → RunReads run (F.log shelf.old) (F.log shelf.new) (O.taken sink.old) (O.taken sink.new) result }
-    ensures proved { (run : RunWords) → IsRun (word_texts words.now) run → result ≤ 2
-        → (told : Option Texts) → Fits told (F.log shelf.old) (F.log shelf.new) → WritesShown told run (Some (O.taken sink.old)) (Some (O.taken sink.new)) }
-    ensures nothing { (run : RunWords) → IsRun (word_texts words.now) run → result ≡ 1
-        → (told : Option Texts) → Fits told (F.log shelf.old) (F.log shelf.new) → AsksInVain told run }
-    ensures replied { (session : SessionWords) → IsSession (word_texts words.now) session → result ≡ 0
-        → (told : Option Texts) → Fits told (F.log shelf.old) (F.log shelf.new) → SessionShown told session (Some (O.taken sink.old)) (Some
-        (O.taken sink.new)) }
-    ensures deepened { (deepen : DeepenWords) → IsDeepen (word_texts words.now) deepen → result ≤ 2
-        → (told : Option Texts) → Fits told (F.log shelf.old) (F.log shelf.new) → DeepenShown told deepen (Some (O.taken sink.old)) (Some
-        (O.taken sink.new)) result }
-{
-    let Ok(command) = read_command(words) else {
-        unreachable!()
-    };
-    let Some(workers) = workers_of(command) else {
-        unreachable!()
-    };
-    let team = Team {
-        rt,
-        alloc,
-        workers,
-        gate,
-    };
-    match command {
-        Command::Run(run) => serve_run(&team, &run, shelf, sink),
-        Command::Session(session) => serve_session(&team, &session, shelf, sink),
-        Command::Deepen(deepen) => serve_deepen(&team, &deepen, shelf, sink),
-        Command::MadeRun(made) => serve_made_run(&team, made, sink),
-        // The others have no workers.
-        _ => unreachable!(),
-    }
-}
-
-// Serves words of any other form, or of none.
+// Serves words of any form but those with `--workers`, or of none.
 fn serve_plain<F: Shelf, O: Sink>(
     alloc: Global,
     words: &[&str],
@@ -424,33 +380,9 @@ fn run_texts<R: Threads + Wait + Sync, F: Shelf, O: Sink, G: Gate>(
         (O.taken sink.old) (O.taken sink.new) (status_of_found found)) }
 {
     let problem = prepare(team.alloc, command, shelf)?;
-    let found = run_problem(team, &problem, command.proofs, command.first, sink);
+    let found = run(team, &problem, command.proofs, command.first, sink);
     drop(problem);
     found
-}
-
-// Runs a problem, to its end or until so many answers are found.
-fn run_problem<R: Threads + Wait + Sync, O: Sink, G: Gate>(
-    team: &Team<'_, R, G>,
-    problem: &Problem,
-    proofs: bool,
-    first: Option<u32>,
-    sink: &mut O,
-) -> Result<Found, Refusal>
-    requires valid { IsValid problem.now }
-    requires first { IfSome first (λ wanted. 0 < wanted) }
-
-    ensures faults_kept { O.faults sink.old ≤ O.faults sink.new }
-    ensures sink_told { SinkTold (O.faults sink.old) (O.faults sink.new) result }
-    ensures found { IfOk result (λ found. status_of_found found ≡ status_of_run first problem.now) }
-    ensures text { OnOk result (Some (O.taken sink.new) ≡ append_known (Some (O.taken sink.old)) (text_of_run first proofs problem.now)) }
-    ensures refused { IfErr result (IsRunRefusal (O.faults sink.old) (O.faults sink.new)) }
-    ensures prefix { OnErr result (AppendsFront (Some (O.taken sink.old)) (text_of_run first proofs problem.now) (Some (O.taken sink.new))) }
-{
-    match first {
-        None => run(team, problem, proofs, sink),
-        Some(wanted) => run_first(team, problem, proofs, wanted, sink),
-    }
 }
 
 // The name of a run's text.

@@ -23,11 +23,10 @@ ghost use Rattle.ll_top.specs.Endings.{status_of_found};
 ghost use Rattle.ll_top.specs.Running.{IsRunRefusal};
 
 use crate::found_status;
-use crate::run::{Found, what_was_found};
+use crate::run::{Found, write_summary};
 use crate::team::Team;
 use ll_crew::crew;
-use ll_edge::{Gate, Sink, write_all};
-use ll_job::CrewFault;
+use ll_edge::{Gate, Sink};
 use ll_judge::{Refusal, problem_of};
 use ll_laws::{Counts, Problem};
 use ll_lexer::one_reading;
@@ -35,7 +34,6 @@ use ll_made::made_texts;
 use ll_make::{program, query};
 use ll_outlet::Silent;
 use ll_parser::{one_program, one_query};
-use ll_printer::summary;
 use ll_prooftext::one_derivation_in_any;
 use ll_words::MadeRunCommand;
 use std::sync::Wait;
@@ -57,9 +55,10 @@ pub fn serve_made_run<R: Threads + Wait + Sync, O: Sink, G: Gate>(
 {
     match run_made(team, run, sink) {
         Ok(found) => found_status(found),
-        Err(Refusal::Text(_, _)) => unreachable!(),
         Err(Refusal::Unwritable) => 6,
         Err(Refusal::OutOfMemory) => 10,
+        // No text that is made has a fault.
+        Err(Refusal::Text(_, _)) => 10,
     }
 }
 
@@ -110,9 +109,7 @@ fn write_counts<R: Threads + Wait + Sync, O: Sink, G: Gate>(
 {
     let counts = count_events(team, problem)?;
     let mut line = Vec::new(team.alloc);
-    summary(&counts, &mut line)?;
-    write_all(sink, &line)?;
-    Ok(what_was_found(&counts))
+    write_summary(&counts, &mut line, sink)
 }
 
 /// Counts the events of the problem and its inferences, each cut at the greatest `u64`, and writes nothing.
@@ -134,7 +131,7 @@ pub fn count_events<R: Threads + Wait + Sync, G: Gate>(
         &mut out,
     ) {
         Ok(counts) => Ok(counts),
-        Err(CrewFault::Write) => unreachable!(),
-        Err(CrewFault::OutOfMemory) => Err(Refusal::OutOfMemory),
+        // No write of a silent outlet fails.
+        Err(_) => Err(Refusal::OutOfMemory),
     }
 }

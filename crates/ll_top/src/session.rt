@@ -22,7 +22,7 @@ ghost use Rattle.ll_top.specs.Shown.{WritesReplies, SessionShown};
 ghost use Rattle.ll_words.specs.Words.{shown_session};
 
 use crate::indexes::program_index;
-use crate::run::run_with;
+use crate::run::{Wanted, run_with};
 use crate::team::Team;
 use ll_edge::{Gate, Shelf, Sink};
 use ll_index::Index;
@@ -35,6 +35,14 @@ use ll_textbook::answers_are_what_follows;
 use ll_words::SessionCommand;
 use std::sync::{Arc, Wait};
 use std::thread::Threads;
+
+/// What the queries of a session are asked over: a program that was loaded, with an index of its clauses.
+#[derive(Drop)]
+struct Base<'a> {
+    session: &'a SessionCommand<'a>,
+    loaded: &'a Loaded,
+    index: &'a Arc<Index>,
+}
 
 /// Replies to each query of a session, and answers the status: 0 where all replies were written, whatever they say, or that of the line
 /// that says why the session was not begun: a text was not read, or the program has a fault. Where the sink failed it is 6, and 10 where
@@ -154,7 +162,12 @@ fn reply_over<R: Threads + Wait + Sync, O: Sink, G: Gate>(
         → WritesReplies session.now.proofs session.now.queries.now program text.now session.now.bound (Some (O.taken sink.old)) (Some (O.taken sink.new))) }
 {
     let index = program_index(team.alloc, loaded)?;
-    reply_to_lines(team, session, loaded, &index, text, sink)
+    let base = Base {
+        session,
+        loaded,
+        index: &index,
+    };
+    reply_to_lines(team, &base, text, sink)
 }
 
 // Replies to each line of a text that is a query, over a program that was loaded. Each reply is written before the next line is looked at.
@@ -163,23 +176,21 @@ fn reply_over<R: Threads + Wait + Sync, O: Sink, G: Gate>(
 // method of a trait of our own can be proved to do that: its contract would rest on a bound that is assumed of this thread alone.
 fn reply_to_lines<R: Threads + Wait + Sync, O: Sink, G: Gate>(
     team: &Team<'_, R, G>,
-    session: &SessionCommand<'_>,
-    loaded: &Loaded,
-    index: &Arc<Index>,
+    base: &Base<'_>,
     text: &[u8],
     sink: &mut O,
 ) -> Result<(), Refusal>
-    requires loaded { IsLoaded loaded.now }
-    requires index { HasIndex loaded.now.clauses (arc_value index.now) }
+    requires loaded { IsLoaded base.now.loaded.now }
+    requires index { HasIndex base.now.loaded.now.clauses (arc_value base.now.index.now) }
     requires text { length text.now ≤ 16777216 }
-    requires bound { session.now.bound ≤ 1000000 }
+    requires bound { base.now.session.now.bound ≤ 1000000 }
     ensures faults_kept { O.faults sink.old ≤ O.faults sink.new }
     ensures sink_told { SinkTold (O.faults sink.old) (O.faults sink.new) result }
-    ensures ends { (program : ProgramTree) → IsProgramOf program loaded.now
-        → EndsOwn (RepliesTo session.now.proofs session.now.queries.now program text.now session.now.bound) (λ done. 0) NoneFails
+    ensures ends { let s = base.now.session.now in (program : ProgramTree) → IsProgramOf program base.now.loaded.now
+        → EndsOwn (RepliesTo s.proofs s.queries.now program text.now s.bound) (λ done. 0) NoneFails
         (Rose (O.faults sink.old) (O.faults sink.new)) (Some (O.taken sink.old)) (Some (O.taken sink.new)) result }
-    ensures replied { OnOk result ((program : ProgramTree) → IsProgramOf program loaded.now
-        → WritesReplies session.now.proofs session.now.queries.now program text.now session.now.bound (Some (O.taken sink.old)) (Some (O.taken sink.new))) }
+    ensures replied { let s = base.now.session.now in OnOk result ((program : ProgramTree) → IsProgramOf program base.now.loaded.now
+        → WritesReplies s.proofs s.queries.now program text.now s.bound (Some (O.taken sink.old)) (Some (O.taken sink.new))) }
 {
     one_session();
     let mut rest = text;
@@ -189,7 +200,7 @@ fn reply_to_lines<R: Threads + Wait + Sync, O: Sink, G: Gate>(
         rest = behind;
         number += 1;
         if is_query_line(line) {
-            reply_to_line(team, session, loaded, index, line, number, sink)?;
+            reply_to_line(team, base, line, number, sink)?;
         }
     }
     Ok(())
@@ -198,35 +209,35 @@ fn reply_to_lines<R: Threads + Wait + Sync, O: Sink, G: Gate>(
 // Replies to the line of this number, which is a query. What was loaded is copied for it.
 fn reply_to_line<R: Threads + Wait + Sync, O: Sink, G: Gate>(
     team: &Team<'_, R, G>,
-    session: &SessionCommand<'_>,
-    loaded: &Loaded,
-    index: &Arc<Index>,
+    base: &Base<'_>,
     line: &[u8],
     number: u32,
     sink: &mut O,
 ) -> Result<(), Refusal>
-    requires loaded { IsLoaded loaded.now }
-    requires index { HasIndex loaded.now.clauses (arc_value index.now) }
+    requires loaded { IsLoaded base.now.loaded.now }
+    requires index { HasIndex base.now.loaded.now.clauses (arc_value base.now.index.now) }
     requires line { length line.now ≤ 16777216 }
-    requires bound { session.now.bound ≤ 1000000 }
+    requires bound { base.now.session.now.bound ≤ 1000000 }
     ensures faults_kept { O.faults sink.old ≤ O.faults sink.new }
     ensures sink_told { SinkTold (O.faults sink.old) (O.faults sink.new) result }
-    ensures replies { OnOk result ((program : ProgramTree) → IsProgramOf program loaded.now
-        → Replies (WritesReply session.now.proofs session.now.queries.now) (CutsReply session.now.proofs session.now.queries.now) program session.now.bound
-        number line.now (Some (O.taken sink.old)) (Some (O.taken sink.new))) }
-    ensures cut { OnErr result ((program : ProgramTree) → IsProgramOf program loaded.now
-        → RefusesLine (WritesReply session.now.proofs session.now.queries.now) (CutsReply session.now.proofs session.now.queries.now) program session.now.bound
-        number line.now (Some (O.taken sink.old)) (Some (O.taken sink.new))) }
+    ensures replies { let s = base.now.session.now in OnOk result ((program : ProgramTree) → IsProgramOf program base.now.loaded.now
+        → Replies (WritesReply s.proofs s.queries.now) (CutsReply s.proofs s.queries.now) program s.bound number line.now
+        (Some (O.taken sink.old)) (Some (O.taken sink.new))) }
+    ensures cut { let s = base.now.session.now in OnErr result ((program : ProgramTree) → IsProgramOf program base.now.loaded.now
+        → RefusesLine (WritesReply s.proofs s.queries.now) (CutsReply s.proofs s.queries.now) program s.bound number line.now
+        (Some (O.taken sink.old)) (Some (O.taken sink.new))) }
     ensures refused { IfErr result (IsRunRefusal (O.faults sink.old) (O.faults sink.new)) }
 {
-    let part = loaded.copy(team.alloc)?;
-    match ask_text(team.alloc, part, line, session.bound) {
+    let part = base.loaded.copy(team.alloc)?;
+    match ask_text(team.alloc, part, line, base.session.bound) {
         Ok(problem) => {
-            let reply = reply_with_run(team, session, number, &problem, index, sink);
+            let reply = reply_with_run(team, base, number, &problem, sink);
             drop(problem);
             reply
         }
-        Err(TextFault::Text(fault)) => { reply_with_fault(session, on_line(number, fault), sink) }
+        Err(TextFault::Text(fault)) => {
+            reply_with_fault(base.session, on_line(number, fault), sink)
+        }
         Err(TextFault::OutOfMemory) => Err(Refusal::OutOfMemory),
     }
 }
@@ -234,24 +245,29 @@ fn reply_to_line<R: Threads + Wait + Sync, O: Sink, G: Gate>(
 // Writes the reply to a query with this problem.
 fn reply_with_run<R: Threads + Wait + Sync, O: Sink, G: Gate>(
     team: &Team<'_, R, G>,
-    session: &SessionCommand<'_>,
+    base: &Base<'_>,
     number: u32,
     problem: &Problem,
-    index: &Arc<Index>,
     sink: &mut O,
 ) -> Result<(), Refusal>
     requires valid { IsValid problem.now }
-    requires index { HasIndex problem.now.clauses (arc_value index.now) }
+    requires index { HasIndex problem.now.clauses (arc_value base.now.index.now) }
     ensures faults_kept { O.faults sink.old ≤ O.faults sink.new }
     ensures sink_told { SinkTold (O.faults sink.old) (O.faults sink.new) result }
-    ensures text { OnOk result (Some (O.taken sink.new) ≡ append_known (Some (O.taken sink.old))
-        (reply_text session.now.proofs session.now.queries.now (record { line = number; asked = Ok problem.now }))) }
+    ensures text { let s = base.now.session.now in OnOk result (Some (O.taken sink.new) ≡ append_known (Some (O.taken sink.old))
+        (reply_text s.proofs s.queries.now (record { line = number; asked = Ok problem.now }))) }
     ensures refused { IfErr result (IsRunRefusal (O.faults sink.old) (O.faults sink.new)) }
-    ensures prefix { OnErr result (AppendsFront (Some (O.taken sink.old))
-        (reply_text session.now.proofs session.now.queries.now (record { line = number; asked = Ok problem.now })) (Some (O.taken sink.new))) }
+    ensures prefix { let s = base.now.session.now in OnErr result (AppendsFront (Some (O.taken sink.old))
+        (reply_text s.proofs s.queries.now (record { line = number; asked = Ok problem.now })) (Some (O.taken sink.new))) }
 {
     write_heading(sink, "query ", number)?;
-    run_with(team, problem, index, session.proofs, sink)?;
+    let wanted = Wanted {
+        problem,
+        index: base.index,
+        proofs: base.session.proofs,
+        limit: None,
+    };
+    run_with(team, &wanted, sink)?;
     Ok(())
 }
 

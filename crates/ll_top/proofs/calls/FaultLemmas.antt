@@ -1,15 +1,15 @@
 -- What an outlet tells of its sink's faults.
-use Rattle.std.proofs.Common.{◌≡◌, ℕ, Bool, true, false, inl, inr}
-use Rattle.ll_edge.specs.Counts.{Rose}
+use Rattle.std.proofs.Common.{◌≡◌, ◌∙◌, ℕ, Bool, true, false, inl, inr, subst, sym}
+use Rattle.ll_judge.specs.declared.refusing.Refusal.{Refusal}
+use Rattle.ll_judge.specs.declared.refusing.Refusal.TheVariants.{Unwritable, OutOfMemory}
+use Rattle.ll_judge.specs.Told.{WritesBy}
 use Rattle.ll_outlet.specs.Running.{TellsFaults}
+use Rattle.ll_top.specs.Running.{IsRunRefusal}
 
--- the count rose where it tells that a write failed
-pub failed-rose : (told : Bool) (before : ℕ) (later : Bool) (after : ℕ) → TellsFaults told before later after → told ≡ false → later ≡ true
-    → Rose before after
-failed-rose told before later after (inl (same, still)) none failed = absurd (let no : ⊥ = cc in no)
-failed-rose told before later after (inr (tells, rose)) none failed = rose
-
--- and stands still where it does not
-pub unfailed-still : (told : Bool) (before : ℕ) (later : Bool) (after : ℕ) → TellsFaults told before later after → later ≡ false → after ≡ before
-unfailed-still told before later after (inl (same, still)) none = still
-unfailed-still told before later after (inr (tells, rose)) none = absurd (let no : ⊥ = cc in no)
+-- A refusal says that the sink failed exactly where the outlet tells so, and then the count rose. Else the count stands still.
+pub told-refusal : (told : Bool) (before : ℕ) (later : Bool) (after : ℕ) (e : Refusal) → TellsFaults told before later after → told ≡ false
+    → (later ≡ true → e ≡ Unwritable) → (later ≡ false → e ≡ OutOfMemory) → IsRunRefusal before after e × WritesBy before after e
+told-refusal told before later after e (inl (same, still)) none unwritable memory =
+    subst (λ x. IsRunRefusal before after x × WritesBy before after x) (sym (memory (same ∙ none))) (tt, still)
+told-refusal told before later after e (inr (tells, rose)) none unwritable memory =
+    subst (λ x. IsRunRefusal before after x × WritesBy before after x) (sym (unwritable tells)) (rose, tt)

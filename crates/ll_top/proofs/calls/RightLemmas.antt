@@ -1,5 +1,5 @@
 -- That the run of a problem is right, from the laws of what follows.
-use Rattle.std.proofs.Common.{◌≡◌, ◌≤◌, ℕ, Bool, List, [], ◌∷◌, ap, Option, None, Some, sym, refl, ◌∙◌, arith}
+use Rattle.std.proofs.Common.{◌≡◌, ◌≤◌, ℕ, Bool, List, [], ◌∷◌, ap, Option, None, sym, ◌∙◌, arith}
 use Rattle.std.specs.Prelude.{Result, Ok, Err, IfOk}
 use Rattle.std.specs.Io.KnownBytes.{append_known}
 use Rattle.std.proofs.lemmas.List.{append-nil}
@@ -17,7 +17,6 @@ use Rattle.ll_laws.specs.Valid.{IsValid}
 use Rattle.ll_textbook.specs.Follows.{reckons}
 use Rattle.ll_textbook.specs.Laws.{AnswersFollow, InstancesFollow, FollowsIsAnswered, NothingFollows, NumberlessFollows}
 use Rattle.ll_session.specs.Queries.{QueryLine}
-use Rattle.ll_deepen.specs.declared.series.Series.{Series}
 use Rattle.ll_words.specs.Words.{SessionWords, DeepenWords}
 use Rattle.ll_judge.specs.Judging.{IsFaultless}
 use Rattle.ll_judge.specs.Outcome.{IsRead, RunAsks}

@@ -1,14 +1,12 @@
 -- A run from its start to its end.
 use Rattle.std.proofs.Common.{◌≡◌, ◌≤◌, ℕ, zero, suc, ◌+◌, refl, subst, ap, sym, ◌∙◌, Bool, true, false, List, [], ◌∷◌, ◌++◌, length, take, arith}
 use Rattle.std.proofs.Common.{append_assoc, inl, inr}
-use Rattle.std.specs.Prelude.{Option, count_by, cond, nat_lt, ◌||◌}
+use Rattle.std.specs.Prelude.{count_by, cond, nat_lt, ◌||◌}
 use Rattle.std.specs.List.{list_any, Contains}
-use Rattle.std.specs.Io.KnownBytes.{append_known}
 use Rattle.std.proofs.lemmas.List.Sums.{sum_by-cons}
 use Rattle.std.proofs.lemmas.Bool.{lt-ltb}
-use Rattle.std.proofs.lemmas.List.{append-nil, length-take}
+use Rattle.std.proofs.lemmas.List.{length-take}
 use Rattle.std.proofs.lemmas.List.Elements.{Contains-append_right}
-use Rattle.ll_edge.proofs.CallerLemmas.{append_known-append, no_front, front_in}
 use Rattle.ll_bank.specs.Term.{Term}
 use Rattle.ll_edge.specs.Pieces.{AppendsFront}
 use Rattle.ll_laws.specs.declared.Event.{Event}
@@ -23,6 +21,7 @@ use Rattle.ll_laws.specs.Valid.{IsValid}
 use Rattle.ll_laws.specs.Sound.{Every}
 use Rattle.ll_order.specs.Outlets.{GivesPrefix, CountsOf}
 use Rattle.ll_outlet.proofs.CallerLemmas.{events-same, refused-same, front-written, refused-lines}
+use Rattle.ll_top.specs.MadeRuns.{last_line}
 use Rattle.ll_top.specs.Outcome.{whole_text}
 use Rattle.ll_outlet.specs.Running.{all_lines, AnswersAll, IsWelcome, OutletState, SameOutlet, Writes, BreaksOff}
 use Rattle.ll_top.specs.Running.{status_of_counts}
@@ -44,10 +43,6 @@ enough-terms p a ts e f = let g = ap length e in let h = length-take (length p.a
 pub found-answers_all : AnswersAreShown → (p : ProblemTree) (e : Event) → IsValid p → Contains (problem_events p) e → AnswersAll p e
 found-answers_all shown p (Answer a) v has = let d = shown p a v has in enough-terms p a d.0.asked d.2 d.4.count
 found-answers_all shown p Reached v has = tt
-
--- the last line of a text
-abbrev pub last_text : ProblemTree → List ℕ
-last_text p = summary_text (count_by is_answer (problem_events p)) (count_by is_reached (problem_events p)) (problem_cost p)
 
 -- ---- events that were given
 
@@ -93,11 +88,6 @@ module _ {W : Type 0} (takes breaks : W → Event → W → Type 0) (state : W �
       ∙ (ap (λ n. all_lines (state x).proofs p n es ++ last) k ∙ t) in
       subst (λ xs. AppendsFront (state x).written xs (state y).written) same f
 
-  -- of the whole text of a problem
-  pub text-begun : (x y : W) (p : ProblemTree) → (state x).problem ≡ p → (state x).answers ≡ 0 → GivesPrefix takes breaks x (problem_events p) y
-      → AppendsFront (state x).written (whole_text (state x).proofs p) (state y).written
-  text-begun x y p e k g = lines-begun x y p (problem_events p) (last_text p) (whole_text (state x).proofs p) e k (whole-lines (state x).proofs p) g
-
 any-count : (test : Event → Bool) (es : List Event) → list_any test es ≡ nat_lt 0 (count_by test es)
 any-count test [] = refl
 any-count test (e ∷ es) = step (test e) refl (any-count test es)
@@ -122,37 +112,8 @@ status-by (suc a) r (suc n) m e f = sym (ap (λ b. status_by b (nat_lt 0 m)) (lt
 -- ---- the end
 
 -- the last line has the counts of the whole search, cut
-pub last-line : (p : ProblemTree) (c : Counts) → CountsOf c (problem_events p) (problem_cost p) → counts_text c.answers c.reached c.inferences ≡ last_text p
+pub last-line : (p : ProblemTree) (c : Counts) → CountsOf c (problem_events p) (problem_cost p) → counts_text c.answers c.reached c.inferences ≡ last_line p
 last-line p c h = let a = h.0 in let b = h.1 in let m = h.2 in cc
-
--- everything was written once the last line is
-pub whole-written : (proofs : Bool) (p : ProblemTree) (c : Counts) (before now after : Option (List ℕ)) → CountsOf c (problem_events p) (problem_cost p)
-    → now ≡ append_known before (all_lines proofs p 0 (problem_events p)) → after ≡ append_known now (counts_text c.answers c.reached c.inferences)
-    → after ≡ append_known before (whole_text proofs p)
-whole-written proofs p c before now after h d w =
-    let lines = all_lines proofs p 0 (problem_events p) in
-    w
-    ∙ (ap (λ o. append_known o (counts_text c.answers c.reached c.inferences)) d
-    ∙ (ap (append_known (append_known before lines)) (last-line p c h)
-    ∙ (append_known-append before lines (last_text p) ∙ ap (append_known before) (whole-lines proofs p))))
-
--- or a prefix of it, where the last line is not
-pub last-broken : (proofs : Bool) (p : ProblemTree) (c : Counts) (before now after : Option (List ℕ)) → CountsOf c (problem_events p) (problem_cost p)
-    → now ≡ append_known before (all_lines proofs p 0 (problem_events p)) → AppendsFront now (counts_text c.answers c.reached c.inferences) after
-    → AppendsFront before (whole_text proofs p) after
-last-broken proofs p c before now after h d f =
-    let lines = all_lines proofs p 0 (problem_events p) in
-    let last = counts_text c.answers c.reached c.inferences in
-    front_in before now after lines last [] (whole_text proofs p) d
-    (ap (λ xs. lines ++ xs) (append-nil last) ∙ (ap (λ xs. lines ++ xs) (last-line p c h) ∙ whole-lines proofs p)) f
-
--- the lines of all events are a prefix
-pub lines-front : (proofs : Bool) (p : ProblemTree) (before now : Option (List ℕ)) → now ≡ append_known before (all_lines proofs p 0 (problem_events p))
-    → AppendsFront before (whole_text proofs p) now
-lines-front proofs p before now d =
-    let lines = all_lines proofs p 0 (problem_events p) in
-    front_in before now now lines (last_text p) [] (whole_text proofs p) d (ap (λ xs. lines ++ xs) (append-nil (last_text p)) ∙ whole-lines proofs p)
-    (no_front now (last_text p))
 
 -- the status is that of the whole search
 pub run-status : (p : ProblemTree) (c : Counts) → CountsOf c (problem_events p) (problem_cost p) → status_of_counts c.answers c.reached ≡ run_status p

@@ -1,5 +1,5 @@
 -- What a call comes to, from the way its command ended, and what that says.
-use Rattle.std.proofs.Common.{◌≡◌, ◌⊎◌, ◌≤◌, ◌↔◌, ℕ, refl, ap, sym, subst, ◌∙◌, Bool, true, false, List, [], ◌∷◌, inl, inr, arith}
+use Rattle.std.proofs.Common.{◌≡◌, ◌⊎◌, ◌≤◌, ℕ, refl, ap, sym, subst, ◌∙◌, Bool, true, false, List, [], ◌∷◌, inl, inr, arith}
 use Rattle.std.specs.Prelude.{Option, None, Some, is_some, IfSome, if◌then◌else◌}
 use Rattle.std.specs.Io.KnownBytes.{append_known}
 use Rattle.std.specs.List.{list_any}
@@ -8,7 +8,7 @@ use Rattle.ll_laws.specs.Problem.{ProblemTree, problem_events}
 use Rattle.ll_laws.specs.Search.{is_answer, is_reached}
 use Rattle.ll_laws.specs.Output.{run_status, status_by}
 use Rattle.ll_words.specs.Words.{RunWords, SessionWords, DeepenWords, CheckWords, ConvertWords, FitsForm, cover_form, IsCheckForm, IsInForm, IsRun, IsSession}
-use Rattle.ll_words.specs.Words.{IsDeepen, IsPrint, IsCheck, IsConvert, IsMake, IsMadeRun, IsBadWord, IsInWorkersForm, run_form}
+use Rattle.ll_words.specs.Words.{IsDeepen, IsPrint, IsCheck, IsConvert, IsMake, IsMadeRun, IsBadWord}
 use Rattle.ll_check.proofs.CallerLemmas.{cause-not-zero}
 use Rattle.ll_top.specs.Making.{MakeComesTo}
 use Rattle.ll_words.specs.Making.{MakeWords, MadeRunWords}
@@ -561,19 +561,6 @@ module _ (words : List (List ℕ)) (told : Option Texts) (absence read_failed : 
           → IfSome o (Completes words told any_failed write_failed before after)
       by None h = tt
       by (Some status) h = completes one words told absence read_failed write_failed before after status any_failed rose h
-
-  pub plain-heads : ((words : List (List ℕ)) (texts : Texts) (status other : ℕ) (text more : List ℕ) → ComesTo words (Some texts) AnyName NoName status text
-      → ComesTo words (Some texts) AnyName NoName other more → (status ≡ other) × (text ≡ more))
-      → (status : ℕ) → answer ≡ Some status → Headline words told before after status
-  plain-heads one status e = heads one words told absence read_failed write_failed before after status (at-status_of status e)
-
--- no words of a form with workers were served
-pub no-plain : (words : List (List ℕ)) (status : ℕ) → ((Some status ≡ None) ↔ IsInWorkersForm words) → IsInWorkersForm words → ⊥
-no-plain words status h f = let e = h.1 f in cc
-
--- no words of a run were served
-pub no-plain-run : (words : List (List ℕ)) (status : ℕ) → ((Some status ≡ None) ↔ IsInWorkersForm words) → FitsForm run_form words → ⊥
-no-plain-run words status h f = let e = h.1 (inl (inl f)) in cc
 
 -- a status that is one of two
 pub plain-misused : (status first second : ℕ) → (Some status ≡ Some first) ⊎ (Some status ≡ Some second) → (status ≡ first) ⊎ (status ≡ second)

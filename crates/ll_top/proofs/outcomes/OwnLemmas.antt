@@ -9,7 +9,7 @@ use Rattle.ll_judge.specs.declared.judge.Role.{Role}
 use Rattle.ll_judge.specs.declared.refusing.TextRefusal.{TextRefusal}
 use Rattle.ll_judge.specs.declared.refusing.Refusal.{Refusal}
 use Rattle.ll_judge.specs.declared.refusing.Refusal.TheVariants.{Text, Unwritable, OutOfMemory}
-use Rattle.ll_judge.specs.CallEnds.{AppendsOwn, nothing, front, Ends, unwritable, no_memory, whole}
+use Rattle.ll_judge.specs.CallEnds.{front, Ends, unwritable, no_memory, whole}
 use Rattle.ll_top.specs.OwnEnds.{EndsOwn}
 use Rattle.ll_top.specs.Running.{IsRunRefusal}
 use Rattle.ll_top.proofs.outcomes.CallLemmas.{own-more}

@@ -8,8 +8,8 @@ use Rattle.ll_top.proofs.run_texts.Goals as goal
 pub returns-clause-ends : goal.returns-clause-ends
 returns-clause-ends g c =
     λ told fits. run-ended-as told _ _ (shown_words c.args.command.now) _ c.in_ok-problem.problem _ _ _ _ _ refl (c.in_ok-problem.ensures.prepares told fits)
-    c.in_ok-problem.ensures.valid c.run_problem-found.ensures.found c.run_problem-found.ensures.text c.run_problem-found.ensures.refused
-    c.run_problem-found.ensures.prefix
+    c.in_ok-problem.ensures.valid c.run-found.ensures.found c.run-found.ensures.text c.run-found.ensures.refused
+    c.run-found.ensures.prefix
 
 pub returns-in_err-problem-clause-kept : goal.returns-in_err-problem-clause-kept
 returns-in_err-problem-clause-kept g c = c.in_err-problem.ensures.kept
@@ -25,12 +25,12 @@ pub returns-clause-kept : goal.returns-clause-kept
 returns-clause-kept g c = c.in_ok-problem.ensures.kept
 
 pub returns-clause-sink_faults_kept : goal.returns-clause-sink_faults_kept
-returns-clause-sink_faults_kept g c = c.run_problem-found.ensures.faults_kept
+returns-clause-sink_faults_kept g c = c.run-found.ensures.faults_kept
 
 pub returns-clause-run_reads : goal.returns-clause-run_reads
 returns-clause-run_reads g c =
-    run-reads (shown_words c.args.command.now) _ _ _ _ c.in_ok-problem.problem _ c.in_ok-problem.ensures.reads c.run_problem-found.ensures.found
-    c.run_problem-found.ensures.text
+    run-reads (shown_words c.args.command.now) _ _ _ _ c.in_ok-problem.problem _ c.in_ok-problem.ensures.reads c.run-found.ensures.found
+    c.run-found.ensures.text
 
 pub returns-in_err-problem-clause-run_reads : goal.returns-in_err-problem-clause-run_reads
 returns-in_err-problem-clause-run_reads g c = IfOk-from_err c.from_residual.result _ c.from_residual.ensures.0
@@ -46,4 +46,4 @@ pub returns-clause-shelf_told : goal.returns-clause-shelf_told
 returns-clause-shelf_told g c = shelf-read _ c.in_ok-problem.ensures.shelf_told
 
 pub returns-clause-sink_told : goal.returns-clause-sink_told
-returns-clause-sink_told g c = c.run_problem-found.ensures.sink_told
+returns-clause-sink_told g c = c.run-found.ensures.sink_told

@@ -20,3 +20,9 @@ returns-in-Ok-clause-write_told g c = λ more. let e = c.in-Ok.ensures.sink_told
 pub returns-in-Err-OutOfMemory-clause-write_told : goal.returns-in-Err-OutOfMemory-clause-write_told
 returns-in-Err-OutOfMemory-clause-write_told g c = λ more.
     let e = rw c.in-Err-OutOfMemory.field-0-is at c.in-Err-OutOfMemory.ensures.sink_told in absurd (omega arith)
+
+pub returns-in-Err-Text-clause-ends : goal.returns-in-Err-Text-clause-ends
+returns-in-Err-Text-clause-ends g c = absurd (rw c.in-Err-Text.field-0-is at c.in-Err-Text.ensures.ends)
+
+pub returns-in-Err-Text-clause-write_told : goal.returns-in-Err-Text-clause-write_told
+returns-in-Err-Text-clause-write_told g c = absurd (rw c.in-Err-Text.field-0-is at c.in-Err-Text.ensures.ends)

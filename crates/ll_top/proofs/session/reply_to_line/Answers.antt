@@ -17,14 +17,14 @@ reply_with_run-reply-requires-clause-valid g c κs within = let l = c.requires.l
 pub reply_with_run-reply-requires-clause-index : goal.reply_with_run-reply-requires-clause-index
 reply_with_run-reply-requires-clause-index g c κs within =
     let l = c.requires.loaded in
-    query-indexed l.0 c.args.loaded.now c.args.line.now c.args.session.now.bound c.in-Ok.problem _ l.1
+    query-indexed l.0 c.args.base.now.loaded.now c.args.line.now c.args.base.now.session.now.bound c.in-Ok.problem _ l.1
     (c.in-Ok.ensures.asks l.0 (subst (IsProgramOf l.0) (sym c.in_ok-part.ensures) l.1)).0 c.requires.index
 
 pub returns-in-Ok-clause-replies : goal.returns-in-Ok-clause-replies
 returns-in-Ok-clause-replies g c =
-    let s = c.args.session.now in
+    let s = c.args.base.now.session.now in
     on-ok
-    {Q = (program : ProgramTree) → IsProgramOf program c.args.loaded.now
+    {Q = (program : ProgramTree) → IsProgramOf program c.args.base.now.loaded.now
     → Replies (WritesReply s.proofs s.queries.now) (CutsReply s.proofs s.queries.now) program s.bound c.args.number c.args.line.now
     (Some (g.O.Sink.taken c.args.sink.now)) (Some (g.O.Sink.taken c.reply_with_run-reply.new.sink))}
     c.reply_with_run-reply.result
@@ -37,9 +37,9 @@ returns-in-Ok-clause-replies g c =
 
 pub returns-in-Ok-clause-cut : goal.returns-in-Ok-clause-cut
 returns-in-Ok-clause-cut g c =
-    let s = c.args.session.now in
+    let s = c.args.base.now.session.now in
     on-err
-    {Q = (program : ProgramTree) → IsProgramOf program c.args.loaded.now
+    {Q = (program : ProgramTree) → IsProgramOf program c.args.base.now.loaded.now
     → RefusesLine (WritesReply s.proofs s.queries.now) (CutsReply s.proofs s.queries.now) program s.bound c.args.number c.args.line.now
     (Some (g.O.Sink.taken c.args.sink.now)) (Some (g.O.Sink.taken c.reply_with_run-reply.new.sink))}
     c.reply_with_run-reply.result
@@ -48,11 +48,11 @@ returns-in-Ok-clause-cut g c =
 
 pub returns-in-Err-Text-clause-replies : goal.returns-in-Err-Text-clause-replies
 returns-in-Err-Text-clause-replies g c =
-    let s = c.args.session.now in
+    let s = c.args.base.now.session.now in
     let cause = rw c.in-Err-Text.field-0-is at c.in-Err-Text.ensures.cause in
     let asked = rw c.on_line.ensures at c.reply_with_fault.ensures.text in
     on-ok
-    {Q = (program : ProgramTree) → IsProgramOf program c.args.loaded.now
+    {Q = (program : ProgramTree) → IsProgramOf program c.args.base.now.loaded.now
     → Replies (WritesReply s.proofs s.queries.now) (CutsReply s.proofs s.queries.now) program s.bound c.args.number c.args.line.now
     (Some (g.O.Sink.taken c.args.sink.now)) (Some (g.O.Sink.taken c.reply_with_fault.new.sink))}
     c.reply_with_fault.result
@@ -65,11 +65,11 @@ returns-in-Err-Text-clause-replies g c =
 
 pub returns-in-Err-Text-clause-cut : goal.returns-in-Err-Text-clause-cut
 returns-in-Err-Text-clause-cut g c =
-    let s = c.args.session.now in
+    let s = c.args.base.now.session.now in
     let cause = rw c.in-Err-Text.field-0-is at c.in-Err-Text.ensures.cause in
     let asked = rw c.on_line.ensures at c.reply_with_fault.ensures.prefix in
     on-err
-    {Q = (program : ProgramTree) → IsProgramOf program c.args.loaded.now
+    {Q = (program : ProgramTree) → IsProgramOf program c.args.base.now.loaded.now
     → RefusesLine (WritesReply s.proofs s.queries.now) (CutsReply s.proofs s.queries.now) program s.bound c.args.number c.args.line.now
     (Some (g.O.Sink.taken c.args.sink.now)) (Some (g.O.Sink.taken c.reply_with_fault.new.sink))}
     c.reply_with_fault.result

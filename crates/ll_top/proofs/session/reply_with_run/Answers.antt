@@ -13,7 +13,7 @@ use Rattle.ll_top.proofs.session.reply_with_run.Goals as goal
 
 pub returns-in_err-write_heading-clause-prefix : goal.returns-in_err-write_heading-clause-prefix
 returns-in_err-write_heading-clause-prefix g c =
-    on_err _ (first-cut _ _ (line (codes "query " ++ decimal c.args.number)) (whole_text c.args.session.now.proofs c.args.problem.now)
+    on_err _ (first-cut _ _ (line (codes "query " ++ decimal c.args.number)) (whole_text c.args.base.now.session.now.proofs c.args.problem.now)
     c.in_err-write_heading.ensures.prefix)
 
 pub returns-in_err-run_with-clause-refused : goal.returns-in_err-run_with-clause-refused
@@ -23,12 +23,12 @@ returns-in_err-run_with-clause-refused g c =
 
 pub returns-in_err-run_with-clause-prefix : goal.returns-in_err-run_with-clause-prefix
 returns-in_err-run_with-clause-prefix g c =
-    on_err _ (second-cut _ _ _ (line (codes "query " ++ decimal c.args.number)) (whole_text c.args.session.now.proofs c.args.problem.now)
+    on_err _ (second-cut _ _ _ (line (codes "query " ++ decimal c.args.number)) (whole_text c.args.base.now.session.now.proofs c.args.problem.now)
     c.in_ok-write_heading.ensures.line c.in_err-run_with.ensures.prefix)
 
 pub returns-clause-text : goal.returns-clause-text
 returns-clause-text g c =
-    both-written (Some (g.O.Sink.taken c.args.sink.now)) _ _ (line (codes "query " ++ decimal c.args.number)) (whole_text c.args.session.now.proofs c.args.problem.now)
+    both-written (Some (g.O.Sink.taken c.args.sink.now)) _ _ (line (codes "query " ++ decimal c.args.number)) (whole_text c.args.base.now.session.now.proofs c.args.problem.now)
     c.in_ok-write_heading.ensures.line c.in_ok-run_with.ensures.text
 
 pub returns-in_err-write_heading-clause-faults_kept : goal.returns-in_err-write_heading-clause-faults_kept

@@ -1,4 +1,4 @@
-use Rattle.ll_top.proofs.first_run.write_stop.Goals as goal
+use Rattle.ll_top.proofs.run.write_stop.Goals as goal
 
 pub returns-clause-line : goal.returns-clause-line
 returns-clause-line g c = rw c.format-digits.ensures.text at c.write_parts.ensures.line

@@ -1,9 +1,11 @@
 //! Iterative deepening (Korf 1985): a run with the first bound of a series that decides.
 ghost use Rattle.std.specs.Prelude.{◌≡◌, ◌≤◌, Option, Some, IfOk, IfErr};
+ghost use Rattle.std.specs.Arc.{arc_value};
 ghost use Rattle.ll_deepen.specs.Deciding.{events_within, cost_within, IsDeciding, IsSeries};
 ghost use Rattle.ll_edge.specs.Counts.{Rose};
 ghost use Rattle.ll_edge.specs.Log.{ShelfKept, Fits, Met, NoText, Unreadable};
 ghost use Rattle.ll_edge.specs.Texts.{Texts};
+ghost use Rattle.ll_index.specs.Index.{HasIndex};
 ghost use Rattle.ll_laws.specs.Valid.{IsValid};
 ghost use Rattle.ll_order.specs.Outlets.{CountsOf};
 ghost use Rattle.ll_judge.specs.declared.refusing.Refusal.TheVariants.{OutOfMemory};
@@ -18,16 +20,18 @@ ghost use Rattle.ll_top.specs.Shown.{DeepenShown};
 ghost use Rattle.ll_words.specs.Words.{shown_deepen};
 
 use crate::found_status;
+use crate::indexes::problem_index;
 use crate::made_runs::count_events;
-use crate::run::{Found, run};
+use crate::run::{Found, Wanted, run_with};
 use crate::team::Team;
 use ll_deepen::{Series, is_decided};
 use ll_edge::{Gate, Shelf, Sink};
+use ll_index::Index;
 use ll_judge::{Refusal, Role, prepare, refuse, write_heading};
 use ll_laws::{Counts, Problem, answers_are_shown};
 use ll_textbook::answers_are_what_follows;
 use ll_words::{DeepenCommand, RunCommand};
-use std::sync::Wait;
+use std::sync::{Arc, Wait};
 use std::thread::Threads;
 
 /// Writes the bound that decides and the text of the run with it, and answers the status: that of the run, or that of the line that says
@@ -110,7 +114,8 @@ fn deepen_texts<R: Threads + Wait + Sync, F: Shelf, O: Sink, G: Gate>(
     run_deepened(team, &deepen.series, deepen.proofs, &mut problem, sink)
 }
 
-// Runs a problem with the bound that decides. Its own bound is not looked at, and left as another one.
+// Runs a problem with the bound that decides. Its own bound is not looked at, and left as another one. One index of its clauses serves all
+// searches.
 fn run_deepened<R: Threads + Wait + Sync, O: Sink, G: Gate>(
     team: &Team<'_, R, G>,
     series: &Series,
@@ -125,9 +130,16 @@ fn run_deepened<R: Threads + Wait + Sync, O: Sink, G: Gate>(
     ensures ends { EndsOwn (DeepensTo proofs «series».now problem.old) status_of_found NoneFails
         (Rose (O.faults sink.old) (O.faults sink.new)) (Some (O.taken sink.old)) (Some (O.taken sink.new)) result }
 {
-    let bound = decide(team, series, problem)?;
+    let index = problem_index(team.alloc, problem)?;
+    let bound = decide(team, series, problem, &index)?;
     write_heading(sink, "bound ", bound)?;
-    run(team, problem, proofs, None, sink)
+    let wanted = Wanted {
+        problem,
+        index: &index,
+        proofs,
+        limit: None,
+    };
+    run_with(team, &wanted, sink)
 }
 
 // Gives a problem the bound that decides: the first of the series at which the search has an answer or reaches no bound, and the last one
@@ -139,8 +151,10 @@ fn decide<R: Threads + Wait + Sync, G: Gate>(
     team: &Team<'_, R, G>,
     series: &Series,
     problem: &mut Problem,
+    index: &Arc<Index>,
 ) -> Result<u32, Refusal>
     requires valid { IsValid problem.old }
+    requires index { HasIndex problem.old.clauses (arc_value index.now) }
     requires series { IsSeries «series».now }
     ensures decides { IfOk result (λ bound. IsDeciding problem.old «series».now bound) }
     ensures problem { IfOk result (λ bound. problem.new ≡ with_bound problem.old bound) }
@@ -149,7 +163,7 @@ fn decide<R: Threads + Wait + Sync, G: Gate>(
 {
     let mut bound = series.from;
     loop {
-        let counts = count_within(team, problem, bound)?;
+        let counts = count_within(team, problem, index, bound)?;
         if is_decided(&counts) || series.to - bound < series.by {
             return Ok(bound);
         }
@@ -161,9 +175,11 @@ fn decide<R: Threads + Wait + Sync, G: Gate>(
 fn count_within<R: Threads + Wait + Sync, G: Gate>(
     team: &Team<'_, R, G>,
     problem: &mut Problem,
+    index: &Arc<Index>,
     bound: u32,
 ) -> Result<Counts, Refusal>
     requires valid { IsValid problem.old }
+    requires index { HasIndex problem.old.clauses (arc_value index.now) }
     requires bound { bound ≤ 1000000 }
     ensures problem { problem.new ≡ with_bound problem.old bound }
     ensures valid { IsValid problem.new }
@@ -171,5 +187,5 @@ fn count_within<R: Threads + Wait + Sync, G: Gate>(
     ensures refused { IfErr result (λ refusal. refusal ≡ OutOfMemory) }
 {
     problem.bound = bound;
-    count_events(team, problem)
+    count_events(team, problem, index)
 }

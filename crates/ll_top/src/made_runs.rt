@@ -1,8 +1,10 @@
 //! A run of a program that is made from a kind and a number: the counts of its search.
 ghost use Rattle.std.specs.Prelude.{◌≡◌, ◌<◌, ◌≤◌, ℕ, IfOk, IfErr, OnOk, OnErr, Some};
 ghost use Rattle.std.specs.Io.KnownBytes.{append_known};
+ghost use Rattle.std.specs.Arc.{arc_value};
 ghost use Rattle.ll_edge.specs.Counts.{Rose};
 ghost use Rattle.ll_edge.specs.Pieces.{AppendsFront};
+ghost use Rattle.ll_index.specs.Index.{HasIndex};
 ghost use Rattle.ll_laws.specs.Output.{run_status};
 ghost use Rattle.ll_laws.specs.Problem.{ProblemTree, problem_events, problem_cost};
 ghost use Rattle.ll_laws.specs.Valid.{IsValid};
@@ -23,10 +25,12 @@ ghost use Rattle.ll_top.specs.Endings.{status_of_found};
 ghost use Rattle.ll_top.specs.Running.{IsRunRefusal};
 
 use crate::found_status;
+use crate::indexes::problem_index;
 use crate::run::{Found, write_summary};
 use crate::team::Team;
-use ll_crew::crew;
+use ll_crew::crew_with;
 use ll_edge::{Gate, Sink};
+use ll_index::Index;
 use ll_judge::{Refusal, problem_of};
 use ll_laws::{Counts, Problem};
 use ll_lexer::one_reading;
@@ -36,7 +40,7 @@ use ll_outlet::Silent;
 use ll_parser::{one_program, one_query};
 use ll_prooftext::one_derivation_in_any;
 use ll_words::MadeRunCommand;
-use std::sync::Wait;
+use std::sync::{Arc, Wait};
 use std::thread::Threads;
 
 /// Runs the program that is made with the query of its kind, writes the last line alone, and answers the status: 0, 1 or 2 as that of a run,
@@ -107,7 +111,8 @@ fn write_counts<R: Threads + Wait + Sync, O: Sink, G: Gate>(
     ensures refused { IfErr result (IsRunRefusal (O.faults sink.old) (O.faults sink.new)) }
     ensures prefix { OnErr result (AppendsFront (Some (O.taken sink.old)) (last_line problem.now) (Some (O.taken sink.new))) }
 {
-    let counts = count_events(team, problem)?;
+    let index = problem_index(team.alloc, problem)?;
+    let counts = count_events(team, problem, &index)?;
     let mut line = Vec::new(team.alloc);
     write_summary(&counts, &mut line, sink)
 }
@@ -116,16 +121,19 @@ fn write_counts<R: Threads + Wait + Sync, O: Sink, G: Gate>(
 pub fn count_events<R: Threads + Wait + Sync, G: Gate>(
     team: &Team<'_, R, G>,
     problem: &Problem,
+    index: &Arc<Index>,
 ) -> Result<Counts, Refusal>
     requires valid { IsValid problem.now }
+    requires index { HasIndex problem.now.clauses (arc_value index.now) }
     ensures counts { IfOk result (λ counts. CountsOf counts (problem_events problem.now) (problem_cost problem.now)) }
     ensures refused { IfErr result (λ refusal. refusal ≡ OutOfMemory) }
 {
     let mut out = Silent {};
-    match crew(
+    match crew_with(
         team.rt,
         team.alloc,
         problem,
+        index,
         team.workers,
         team.gate,
         &mut out,

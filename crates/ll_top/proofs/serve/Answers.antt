@@ -3,7 +3,8 @@ use Rattle.ll_words.specs.declared.words.Command.{Command}
 use Rattle.ll_words.specs.Words.{IsCommand, IsBounded, IsInWorkersForm, word_texts}
 use Rattle.ll_words.specs.Words.{shown_words, shown_session, shown_deepen, shown_made_run, shown_check, shown_convert, shown_make}
 use Rattle.ll_words.specs.CommandKinds.{command_kind, has_team}
-use Rattle.ll_words.proofs.CallerLemmas.{run-kind, session-kind, deepen-kind, made-run-kind, asked-alone, asked-run, asked-in-form, workers-in-form, bad-not-in-form}
+use Rattle.ll_words.proofs.CallerLemmas.{run-kind, session-kind, deepen-kind, made-run-kind, asked-alone, asked-run, asked-in-form}
+use Rattle.ll_words.proofs.CallerLemmas.{workers-in-form, bad-not-in-form}
 use Rattle.ll_edge.proofs.CallerLemmas.{kept_none}
 use Rattle.ll_top.proofs.outcomes.CallLemmas.{run-call, session-call, deepen-call, made-run-call, print-call, check-call, convert-call, make-call}
 use Rattle.ll_top.proofs.outcomes.CallLemmas.{usage-call, usage-misused, plain-misused}
@@ -369,20 +370,25 @@ returns-in-Err-clause-misused g c = λ h. plain-misused _ 3 6 (usage-misused c.i
 
 pub returns-in-Err-clause-run_reads : goal.returns-in-Err-clause-run_reads
 returns-in-Err-clause-run_reads g c = λ run is small.
-    let words = word_texts c.args.words.now in absurd (bad-not-in-form words c.in-Err.number c.in-Err.ensures.command (workers-in-form words (inl (inl is.form))))
+    let words = word_texts c.args.words.now in
+    absurd (bad-not-in-form words c.in-Err.number c.in-Err.ensures.command (workers-in-form words (inl (inl is.form))))
 
 pub returns-in-Err-clause-proved : goal.returns-in-Err-clause-proved
 returns-in-Err-clause-proved g c = λ run is small told fits.
-    let words = word_texts c.args.words.now in absurd (bad-not-in-form words c.in-Err.number c.in-Err.ensures.command (workers-in-form words (inl (inl is.form))))
+    let words = word_texts c.args.words.now in
+    absurd (bad-not-in-form words c.in-Err.number c.in-Err.ensures.command (workers-in-form words (inl (inl is.form))))
 
 pub returns-in-Err-clause-nothing : goal.returns-in-Err-clause-nothing
 returns-in-Err-clause-nothing g c = λ run is one told fits.
-    let words = word_texts c.args.words.now in absurd (bad-not-in-form words c.in-Err.number c.in-Err.ensures.command (workers-in-form words (inl (inl is.form))))
+    let words = word_texts c.args.words.now in
+    absurd (bad-not-in-form words c.in-Err.number c.in-Err.ensures.command (workers-in-form words (inl (inl is.form))))
 
 pub returns-in-Err-clause-replied : goal.returns-in-Err-clause-replied
 returns-in-Err-clause-replied g c = λ session is zero told fits.
-    let words = word_texts c.args.words.now in absurd (bad-not-in-form words c.in-Err.number c.in-Err.ensures.command (workers-in-form words (inl (inr (inl is.form)))))
+    let words = word_texts c.args.words.now in
+    absurd (bad-not-in-form words c.in-Err.number c.in-Err.ensures.command (workers-in-form words (inl (inr (inl is.form)))))
 
 pub returns-in-Err-clause-deepened : goal.returns-in-Err-clause-deepened
 returns-in-Err-clause-deepened g c = λ deepen is small told fits.
-    let words = word_texts c.args.words.now in absurd (bad-not-in-form words c.in-Err.number c.in-Err.ensures.command (workers-in-form words (inr is.form)))
+    let words = word_texts c.args.words.now in
+    absurd (bad-not-in-form words c.in-Err.number c.in-Err.ensures.command (workers-in-form words (inr is.form)))

@@ -13,7 +13,13 @@ pub returns-in_err-counts-clause-prefix : goal.returns-in_err-counts-clause-pref
 returns-in_err-counts-clause-prefix g c = on_err _ (no_front _ (last_line c.args.problem.now))
 
 pub returns-in_err-counts-clause-sink_told : goal.returns-in_err-counts-clause-sink_told
-returns-in_err-counts-clause-sink_told g c = sink-still _ _ c.from_residual.result refl
+returns-in_err-counts-clause-sink_told g c = sink-still _ _ c.from_residual-in_err-counts.result refl
+
+pub returns-in_err-index-clause-prefix : goal.returns-in_err-index-clause-prefix
+returns-in_err-index-clause-prefix g c = on_err _ (no_front _ (last_line c.args.problem.now))
+
+pub returns-in_err-index-clause-sink_told : goal.returns-in_err-index-clause-sink_told
+returns-in_err-index-clause-sink_told g c = sink-still _ _ c.from_residual.result refl
 
 pub returns-clause-found : goal.returns-clause-found
 returns-clause-found g c = subst (λ n. IfOk c.write_summary.result (λ found. status_of_found found ≡ n))

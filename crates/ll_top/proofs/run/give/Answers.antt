@@ -14,16 +14,18 @@ use Rattle.ll_top.proofs.run.give.Goals as goal
 
 pub crew_with-requires-clause-welcome : goal.crew_with-requires-clause-welcome
 crew_with-requires-clause-welcome g c κs within =
-    each_with _ (IsWelcome c.args.out.now.out.problem.now) (problem_events c.args.wanted.now.problem.now) c.requires.ready
-    (subst (λ p. Every (IsWelcome p) (problem_events c.args.wanted.now.problem.now)) (sym c.requires.problem)
+    let p = c.args.wanted.now.problem.now in
+    each_with _ (IsWelcome c.args.out.now.out.problem.now) (problem_events p) c.requires.ready
+    (subst (λ q. Every (IsWelcome q) (problem_events p)) (sym c.requires.problem)
     (welcome-all c.answers_are_shown.ensures _ c.requires.valid))
 
 pub returns-in-Ok-clause-none : goal.returns-in-Ok-clause-none
 returns-in-Ok-clause-none g c =
+    let p = c.args.wanted.now.problem.now in
     none_taken (λ w. w.problem.now) (λ w. w.waiting.now.items)
     (λ w. IsReady g.E.Lined.makes w.proofs w.problem.now w.waiting.now.items) (λ w r. r.none) _ _ _
-    (problem_events c.args.wanted.now.problem.now) (problem_events c.args.wanted.now.problem.now) c.requires.ready
-    (subst (λ p. Every (IsWelcome p) (problem_events c.args.wanted.now.problem.now)) (sym c.requires.problem)
+    (problem_events p) (problem_events p) c.requires.ready
+    (subst (λ q. Every (IsWelcome q) (problem_events p)) (sym c.requires.problem)
     (welcome-all c.answers_are_shown.ensures _ c.requires.valid))
     (λ e. e) c.in-Ok.ensures.welcome_kept c.in-Ok.ensures.given
 
@@ -51,10 +53,11 @@ returns-in-Ok-clause-lines g c = rw c.in-None.is
 
 pub returns-in-Err-clause-none : goal.returns-in-Err-clause-none
 returns-in-Err-clause-none g c =
+    let p = c.args.wanted.now.problem.now in
     none_given (λ w. w.problem.now) (λ w. w.waiting.now.items)
     (λ w. IsReady g.E.Lined.makes w.proofs w.problem.now w.waiting.now.items) (λ w r. r.none) _ _ _ _
-    (problem_events c.args.wanted.now.problem.now) (problem_events c.args.wanted.now.problem.now) c.requires.ready
-    (subst (λ p. Every (IsWelcome p) (problem_events c.args.wanted.now.problem.now)) (sym c.requires.problem)
+    (problem_events p) (problem_events p) c.requires.ready
+    (subst (λ q. Every (IsWelcome q) (problem_events p)) (sym c.requires.problem)
     (welcome-all c.answers_are_shown.ensures _ c.requires.valid))
     (λ e. e) c.in-Err.ensures.welcome_kept c.in-Err.ensures.refused
 
@@ -84,29 +87,34 @@ returns-in-Err-clause-sink_told g c =
     c.refusal_of.ensures.unwritable c.refusal_of.ensures.memory).1
 
 pub returns-in-Err-clause-prefix : goal.returns-in-Err-clause-prefix
-returns-in-Err-clause-prefix g c = rw c.in-None.is
+returns-in-Err-clause-prefix g c =
+    let p = c.args.wanted.now.problem.now in
+    rw c.in-None.is
     (shown_front _ _ _ _ _ c.requires.ready.none (returns-in-Err-clause-none g c)
     (lines-begun _ _
     (λ w. told_with w.problem.now w.proofs w.answers (Some (g.O.Sink.taken w.sink.now)) (g.O.Sink.faults w.sink.now)
     w.failed w.sink.ghost_name w.waiting.now.items)
-    (λ x e y h. h) (λ x e y h. h) _ _ c.args.wanted.now.problem.now (events_told None c.args.wanted.now.problem.now)
-    (end_of_run None c.args.wanted.now.problem.now) (text_of_run None c.args.out.now.out.proofs c.args.wanted.now.problem.now)
-    c.requires.problem c.requires.answers.1 (told-text None c.args.out.now.out.proofs c.args.wanted.now.problem.now) c.in-Err.ensures.refused))
+    (λ x e y h. h) (λ x e y h. h) _ _ p (events_told None p)
+    (end_of_run None p) (text_of_run None c.args.out.now.out.proofs p)
+    c.requires.problem c.requires.answers.1 (told-text None c.args.out.now.out.proofs p) c.in-Err.ensures.refused))
 
 pub crew_first-requires-clause-welcome : goal.crew_first-requires-clause-welcome
 crew_first-requires-clause-welcome g c κs within =
-    each_with _ (IsWelcome c.args.out.now.out.problem.now) (problem_events c.args.wanted.now.problem.now) c.requires.ready
-    (subst (λ p. Every (IsWelcome p) (problem_events c.args.wanted.now.problem.now)) (sym c.requires.problem)
+    let p = c.args.wanted.now.problem.now in
+    each_with _ (IsWelcome c.args.out.now.out.problem.now) (problem_events p) c.requires.ready
+    (subst (λ q. Every (IsWelcome q) (problem_events p)) (sym c.requires.problem)
     (welcome-all c.answers_are_shown.ensures _ c.requires.valid))
 
 pub returns-in-Ok-crew_first-clause-none : goal.returns-in-Ok-crew_first-clause-none
 returns-in-Ok-crew_first-clause-none g c =
+    let p = c.args.wanted.now.problem.now in
     none_taken (λ w. w.out.problem.now) (λ w. w.out.waiting.now.items)
     (λ w. IsReady g.E.Lined.makes w.out.proofs w.out.problem.now w.out.waiting.now.items) (λ w r. r.none) _ _ _
-    (problem_events c.args.wanted.now.problem.now) (first_of (problem_events c.args.wanted.now.problem.now) c.args.out.now.limit) c.requires.ready
-    (subst (λ p. Every (IsWelcome p) (problem_events c.args.wanted.now.problem.now)) (sym c.requires.problem)
+    (problem_events p) (first_of (problem_events p) c.args.out.now.limit) c.requires.ready
+    (subst (λ q. Every (IsWelcome q) (problem_events p)) (sym c.requires.problem)
     (welcome-all c.answers_are_shown.ensures _ c.requires.valid))
-    (λ e. ap (λ l. first_of l c.args.out.now.limit) e ∙ first-none c.args.out.now.limit) c.in-Ok-crew_first.ensures.welcome_kept c.in-Ok-crew_first.ensures.given
+    (λ e. ap (λ l. first_of l c.args.out.now.limit) e ∙ first-none c.args.out.now.limit)
+    c.in-Ok-crew_first.ensures.welcome_kept c.in-Ok-crew_first.ensures.given
 
 pub returns-in-Ok-crew_first-clause-same_reference : goal.returns-in-Ok-crew_first-clause-same_reference
 returns-in-Ok-crew_first-clause-same_reference g c =
@@ -132,12 +140,14 @@ returns-in-Ok-crew_first-clause-lines g c = rw (c.in-Some.is ∙ ap Some (sym (r
 
 pub returns-in-Err-crew_first-clause-none : goal.returns-in-Err-crew_first-clause-none
 returns-in-Err-crew_first-clause-none g c =
+    let p = c.args.wanted.now.problem.now in
     none_given (λ w. w.out.problem.now) (λ w. w.out.waiting.now.items)
     (λ w. IsReady g.E.Lined.makes w.out.proofs w.out.problem.now w.out.waiting.now.items) (λ w r. r.none) _ _ _ _
-    (problem_events c.args.wanted.now.problem.now) (first_of (problem_events c.args.wanted.now.problem.now) c.args.out.now.limit) c.requires.ready
-    (subst (λ p. Every (IsWelcome p) (problem_events c.args.wanted.now.problem.now)) (sym c.requires.problem)
+    (problem_events p) (first_of (problem_events p) c.args.out.now.limit) c.requires.ready
+    (subst (λ q. Every (IsWelcome q) (problem_events p)) (sym c.requires.problem)
     (welcome-all c.answers_are_shown.ensures _ c.requires.valid))
-    (λ e. ap (λ l. first_of l c.args.out.now.limit) e ∙ first-none c.args.out.now.limit) c.in-Err-crew_first.ensures.welcome_kept c.in-Err-crew_first.ensures.refused
+    (λ e. ap (λ l. first_of l c.args.out.now.limit) e ∙ first-none c.args.out.now.limit)
+    c.in-Err-crew_first.ensures.welcome_kept c.in-Err-crew_first.ensures.refused
 
 pub returns-in-Err-crew_first-clause-same_reference : goal.returns-in-Err-crew_first-clause-same_reference
 returns-in-Err-crew_first-clause-same_reference g c =
@@ -165,11 +175,13 @@ returns-in-Err-crew_first-clause-sink_told g c =
     c.refusal_of-in-Err-crew_first.ensures.unwritable c.refusal_of-in-Err-crew_first.ensures.memory).1
 
 pub returns-in-Err-crew_first-clause-prefix : goal.returns-in-Err-crew_first-clause-prefix
-returns-in-Err-crew_first-clause-prefix g c = rw (c.in-Some.is ∙ ap Some (sym (rw c.in-Some.is at c.requires.limit)))
+returns-in-Err-crew_first-clause-prefix g c =
+    let p = c.args.wanted.now.problem.now in
+    rw (c.in-Some.is ∙ ap Some (sym (rw c.in-Some.is at c.requires.limit)))
     (shown_front _ _ _ _ _ c.requires.ready.none (returns-in-Err-crew_first-clause-none g c)
     (lines-begun _ _
     (λ w. told_with w.out.problem.now w.out.proofs w.out.answers (Some (g.O.Sink.taken w.out.sink.now)) (g.O.Sink.faults w.out.sink.now)
     w.out.failed w.out.sink.ghost_name w.out.waiting.now.items)
-    (λ x e y h. h.0) (λ x e y h. h.0) _ _ c.args.wanted.now.problem.now (events_told (Some c.args.out.now.limit) c.args.wanted.now.problem.now)
-    (end_of_run (Some c.args.out.now.limit) c.args.wanted.now.problem.now) (text_of_run (Some c.args.out.now.limit) c.args.out.now.out.proofs c.args.wanted.now.problem.now)
-    c.requires.problem c.requires.answers.1 (told-text (Some c.args.out.now.limit) c.args.out.now.out.proofs c.args.wanted.now.problem.now) c.in-Err-crew_first.ensures.refused))
+    (λ x e y h. h.0) (λ x e y h. h.0) _ _ p (events_told (Some c.args.out.now.limit) p)
+    (end_of_run (Some c.args.out.now.limit) p) (text_of_run (Some c.args.out.now.limit) c.args.out.now.out.proofs p)
+    c.requires.problem c.requires.answers.1 (told-text (Some c.args.out.now.limit) c.args.out.now.out.proofs p) c.in-Err-crew_first.ensures.refused))

@@ -12,10 +12,10 @@ use Rattle.ll_top.proofs.session.reply_to_lines.Goals as goal
 
 pub loop-rest-init : goal.loop-rest-init
 loop-rest-init g c =
-    let proofs = c.args.base.now.session.now.proofs in let name = c.args.base.now.session.now.queries.now in record {
+    let s = c.args.base.now.session.now in let proofs = s.proofs in let name = s.queries.now in record {
       answered = λ program is. (
         0,
-        none-answered (WritesReply proofs name) (CutsReply proofs name) program c.args.text.now c.args.base.now.session.now.bound
+        none-answered (WritesReply proofs name) (CutsReply proofs name) program c.args.text.now s.bound
             (Some (g.O.Sink.taken c.args.sink.now)),
       );
       faults_kept = le_refl _;
@@ -25,11 +25,11 @@ loop-rest-init g c =
 
 pub loop-rest-preserved-in-Continue-1 : goal.loop-rest-preserved-in-Continue-1
 loop-rest-preserved-in-Continue-1 g c =
-    let proofs = c.args.base.now.session.now.proofs in let name = c.args.base.now.session.now.queries.now in
+    let s = c.args.base.now.session.now in let proofs = s.proofs in let name = s.queries.now in
     let i = c.loop-rest.invariant in record {
       answered = λ program is. let a = i.answered program is in (
         _,
-        line-answered (WritesReply proofs name) (CutsReply proofs name) program c.args.text.now c.args.base.now.session.now.bound (Some (g.O.Sink.taken c.args.sink.now))
+        line-answered (WritesReply proofs name) (CutsReply proofs name) program c.args.text.now s.bound (Some (g.O.Sink.taken c.args.sink.now))
             c.loop-rest.number a.0 c.loop-rest.rest.now c.split_line.result.0.now c.split_line.result.1.now (Some (g.O.Sink.taken c.loop-rest.sink))
             c.split_line.ensures.lines a.1 (sym c.if-is_query_line.ensures) (Some (g.O.Sink.taken c.reply_to_line.new.sink))
             (c.in_ok-reply_to_line.ensures.replies program is),
@@ -41,11 +41,11 @@ loop-rest-preserved-in-Continue-1 g c =
 
 pub loop-rest-preserved : goal.loop-rest-preserved
 loop-rest-preserved g c =
-    let proofs = c.args.base.now.session.now.proofs in let name = c.args.base.now.session.now.queries.now in
+    let s = c.args.base.now.session.now in let proofs = s.proofs in let name = s.queries.now in
     let i = c.loop-rest.invariant in record {
       answered = λ program is. let a = i.answered program is in (
         a.0,
-        line-passed (WritesReply proofs name) (CutsReply proofs name) program c.args.text.now c.args.base.now.session.now.bound (Some (g.O.Sink.taken c.args.sink.now))
+        line-passed (WritesReply proofs name) (CutsReply proofs name) program c.args.text.now s.bound (Some (g.O.Sink.taken c.args.sink.now))
             c.loop-rest.number a.0 c.loop-rest.rest.now c.split_line.result.0.now c.split_line.result.1.now (Some (g.O.Sink.taken c.loop-rest.sink))
             c.split_line.ensures.lines a.1 (sym c.if-is_query_line.ensures),
       );
@@ -56,26 +56,26 @@ loop-rest-preserved g c =
 
 pub returns-in_err-reply_to_line-clause-ends : goal.returns-in_err-reply_to_line-clause-ends
 returns-in_err-reply_to_line-clause-ends g c = λ program is.
-    let proofs = c.args.base.now.session.now.proofs in let name = c.args.base.now.session.now.queries.now in
+    let s = c.args.base.now.session.now in let proofs = s.proofs in let name = s.queries.now in
     let i = c.loop-rest.invariant in let a = i.answered program is in
     let p = err_from_is_err_and c.from_residual.result c.from_residual.ensures.1 in
     rw (p.1, p.2)
-    (lines-stopped proofs name program c.args.text.now c.args.base.now.session.now.bound (Some (g.O.Sink.taken c.args.sink.now)) (Some
+    (lines-stopped proofs name program c.args.text.now s.bound (Some (g.O.Sink.taken c.args.sink.now)) (Some
     (g.O.Sink.taken c.reply_to_line.new.sink))
     {A = unit.Denot} (λ x. 0) _ _ _
     (refusal-later _ _ _ _ i.faults_kept c.in_err-reply_to_line.ensures.refused)
-    (line-refused (WritesReply proofs name) (CutsReply proofs name) program c.args.text.now c.args.base.now.session.now.bound (Some (g.O.Sink.taken c.args.sink.now))
+    (line-refused (WritesReply proofs name) (CutsReply proofs name) program c.args.text.now s.bound (Some (g.O.Sink.taken c.args.sink.now))
     c.loop-rest.number a.0 c.loop-rest.rest.now c.split_line.result.0.now c.split_line.result.1.now (Some (g.O.Sink.taken c.loop-rest.sink))
-    c.split_line.ensures.lines a.1 (sym c.if-is_query_line.ensures) (c.one_session.ensures.some program is.faultless c.args.base.now.session.now.bound)
+    c.split_line.ensures.lines a.1 (sym c.if-is_query_line.ensures) (c.one_session.ensures.some program is.faultless s.bound)
     (Some (g.O.Sink.taken c.reply_to_line.new.sink)) (c.in_err-reply_to_line.ensures.cut program is)))
 
 pub returns-clause-ends : goal.returns-clause-ends
 returns-clause-ends g c = λ program is.
-    let proofs = c.args.base.now.session.now.proofs in let name = c.args.base.now.session.now.queries.now in
+    let s = c.args.base.now.session.now in let proofs = s.proofs in let name = s.queries.now in
     let a = c.loop-rest.invariant.answered program is in
-    replies-written proofs name program c.args.text.now c.args.base.now.session.now.bound (Some (g.O.Sink.taken c.args.sink.now)) (Some
+    replies-written proofs name program c.args.text.now s.bound (Some (g.O.Sink.taken c.args.sink.now)) (Some
     (g.O.Sink.taken c.loop-rest.sink)) a.0
-    (all-answered (WritesReply proofs name) (CutsReply proofs name) program c.args.text.now c.args.base.now.session.now.bound (Some (g.O.Sink.taken c.args.sink.now))
+    (all-answered (WritesReply proofs name) (CutsReply proofs name) program c.args.text.now s.bound (Some (g.O.Sink.taken c.args.sink.now))
     c.loop-rest.number a.0 c.loop-rest.rest.now (Some (g.O.Sink.taken c.loop-rest.sink))
     ((Decides-eqb (length c.loop-rest.rest.now) 0).0 (sym c.loop-rest-test.ensures)) a.1)
 
@@ -84,11 +84,11 @@ returns-in_err-reply_to_line-clause-replied g c = IfOk-from_err c.from_residual.
 
 pub returns-clause-replied : goal.returns-clause-replied
 returns-clause-replied g c = λ program is.
-    let proofs = c.args.base.now.session.now.proofs in let name = c.args.base.now.session.now.queries.now in
+    let s = c.args.base.now.session.now in let proofs = s.proofs in let name = s.queries.now in
     let a = c.loop-rest.invariant.answered program is in
-    replies-valid proofs name program c.args.text.now c.args.base.now.session.now.bound (Some (g.O.Sink.taken c.args.sink.now)) (Some
+    replies-valid proofs name program c.args.text.now s.bound (Some (g.O.Sink.taken c.args.sink.now)) (Some
     (g.O.Sink.taken c.loop-rest.sink)) a.0
-    (all-answered (WritesReply proofs name) (CutsReply proofs name) program c.args.text.now c.args.base.now.session.now.bound (Some (g.O.Sink.taken c.args.sink.now))
+    (all-answered (WritesReply proofs name) (CutsReply proofs name) program c.args.text.now s.bound (Some (g.O.Sink.taken c.args.sink.now))
     c.loop-rest.number a.0 c.loop-rest.rest.now (Some (g.O.Sink.taken c.loop-rest.sink))
     ((Decides-eqb (length c.loop-rest.rest.now) 0).0 (sym c.loop-rest-test.ensures)) a.1)
 

@@ -8,9 +8,9 @@ use Rattle.ll_top.proofs.session.reply_to_lines.Given as goal
 
 abbrev pub invariant-loop-rest : goal.invariant-loop-rest
 invariant-loop-rest g l = record {
-  answered : (program : ProgramTree) → IsProgramOf program l.base.loaded.now
-      → (count : ℕ) × IsAnsweredTo (WritesReply l.base.session.now.proofs l.base.session.now.queries.now) (CutsReply l.base.session.now.proofs l.base.session.now.queries.now) program l.text
-      l.base.session.now.bound (Some (g.O.Sink.taken l.initial.sink)) l.number count l.rest (Some (g.O.Sink.taken l.sink));
+  answered : let s = l.base.session.now in (program : ProgramTree) → IsProgramOf program l.base.loaded.now
+      → (count : ℕ) × IsAnsweredTo (WritesReply s.proofs s.queries.now) (CutsReply s.proofs s.queries.now) program l.text s.bound
+      (Some (g.O.Sink.taken l.initial.sink)) l.number count l.rest (Some (g.O.Sink.taken l.sink));
   faults_kept : g.O.Sink.faults l.initial.sink ≤ g.O.Sink.faults l.sink;
   quiet : g.O.Sink.faults l.sink ≡ g.O.Sink.faults l.initial.sink;
   few : l.number + length l.rest ≤ 16777216;

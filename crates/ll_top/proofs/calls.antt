@@ -6,6 +6,7 @@ pub mod FaultLemmas
 pub mod MadeRunLemmas
 pub mod NothingLemmas
 pub mod ProvedLemmas
+pub mod RefusedLemmas
 pub mod RightLemmas
 pub mod RunLemmas
 pub mod SessionLemmas

@@ -10,6 +10,7 @@ pub mod SessionEnds
 pub mod DeepenEnds
 pub mod MadeEnds
 pub mod Running
+pub mod Refused
 pub mod Proved
 pub mod Nothing
 pub mod Reads

@@ -22,12 +22,13 @@ ghost use Rattle.ll_words.specs.Words.{shown_deepen};
 use crate::found_status;
 use crate::indexes::problem_index;
 use crate::made_runs::count_events;
+use crate::refused::{Names, end_refused};
 use crate::run::{Found, Wanted, run_with};
 use crate::team::Team;
 use ll_deepen::{Series, is_decided};
 use ll_edge::{Gate, Shelf, Sink};
 use ll_index::Index;
-use ll_judge::{Refusal, Role, prepare, refuse, write_heading};
+use ll_judge::{Refusal, prepare, write_heading};
 use ll_laws::{Counts, Problem, answers_are_shown};
 use ll_textbook::answers_are_what_follows;
 use ll_words::{DeepenCommand, RunCommand};
@@ -57,23 +58,13 @@ pub fn serve_deepen<R: Threads + Wait + Sync, F: Shelf, O: Sink, G: Gate>(
 {
     match deepen_texts(team, deepen, shelf, sink) {
         Ok(found) => found_status(found),
-        Err(Refusal::Text(role, refusal)) => {
-            refuse(refusal.cause(deepened_name(deepen, role)), sink)
+        Err(refusal) => {
+            let names = Names {
+                program: deepen.program,
+                query: deepen.query,
+            };
+            end_refused(refusal, &names, sink)
         }
-        Err(Refusal::Unwritable) => 6,
-        Err(Refusal::OutOfMemory) => 10,
-    }
-}
-
-// The name of a deepening's text.
-fn deepened_name<'a>(deepen: &DeepenCommand<'a>, role: Role) -> &'a str
-    ensures { result.now ≡ name_of (first_run (shown_deepen deepen.now)) role }
-{
-    match role {
-        Role::Program => deepen.program,
-        Role::Query => deepen.query,
-        // A deepening has no derivation.
-        Role::Proof => "",
     }
 }
 

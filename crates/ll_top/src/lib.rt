@@ -7,6 +7,7 @@ mod deepening;
 mod indexes;
 mod made_runs;
 mod making;
+mod refused;
 mod rewriting;
 mod run;
 mod session;
@@ -53,6 +54,7 @@ use ll_words::{Command, RunCommand, read_command};
 pub use made_runs::made_asks;
 use made_runs::serve_made_run;
 use making::serve_make;
+use refused::{Names, end_refused};
 pub use rewriting::{
     converted_comes_back, converted_is_judged_alike, layout_is_aside, printed_is_aside,
     written_is_read_back,
@@ -352,9 +354,13 @@ fn serve_run<R: Threads + Wait + Sync, F: Shelf, O: Sink, G: Gate>(
     answers_are_what_follows();
     match run_texts(team, run, shelf, sink) {
         Ok(found) => found_status(found),
-        Err(Refusal::Text(role, refusal)) => refuse(refusal.cause(text_name(run, role)), sink),
-        Err(Refusal::Unwritable) => 6,
-        Err(Refusal::OutOfMemory) => 10,
+        Err(refusal) => {
+            let names = Names {
+                program: run.program,
+                query: run.query,
+            };
+            end_refused(refusal, &names, sink)
+        }
     }
 }
 
@@ -383,18 +389,6 @@ fn run_texts<R: Threads + Wait + Sync, F: Shelf, O: Sink, G: Gate>(
     let found = run(team, &problem, command.proofs, command.first, sink);
     drop(problem);
     found
-}
-
-// The name of a run's text.
-fn text_name<'a>(run: &RunCommand<'a>, role: Role) -> &'a str
-    ensures { result.now ≡ name_of (shown_words run.now) role }
-{
-    match role {
-        Role::Program => run.program,
-        Role::Query => run.query,
-        // A run has no derivation.
-        Role::Proof => "",
-    }
 }
 
 // The status of what was found.

@@ -26,6 +26,7 @@ ghost use Rattle.ll_top.specs.Running.{IsRunRefusal};
 
 use crate::found_status;
 use crate::indexes::problem_index;
+use crate::refused::{Names, end_refused};
 use crate::run::{Found, write_summary};
 use crate::team::Team;
 use ll_crew::crew_with;
@@ -59,10 +60,14 @@ pub fn serve_made_run<R: Threads + Wait + Sync, O: Sink, G: Gate>(
 {
     match run_made(team, run, sink) {
         Ok(found) => found_status(found),
-        Err(Refusal::Unwritable) => 6,
-        Err(Refusal::OutOfMemory) => 10,
-        // No text that is made has a fault.
-        Err(Refusal::Text(_, _)) => 10,
+        Err(refusal) => {
+            // What is made has no name, and is not refused.
+            let names = Names {
+                program: "",
+                query: "",
+            };
+            end_refused(refusal, &names, sink)
+        }
     }
 }
 

@@ -22,11 +22,12 @@ ghost use Rattle.ll_top.specs.Shown.{WritesReplies, SessionShown};
 ghost use Rattle.ll_words.specs.Words.{shown_session};
 
 use crate::indexes::program_index;
+use crate::refused::{Names, end_refused};
 use crate::run::{Wanted, run_with};
 use crate::team::Team;
 use ll_edge::{Gate, Shelf, Sink};
 use ll_index::Index;
-use ll_judge::{Cause, Refusal, Role, load_text, read, refusal, refuse, write_heading, write_line};
+use ll_judge::{Cause, Refusal, Role, load_text, read, refusal, write_heading, write_line};
 use ll_laws::{Problem, answers_are_shown};
 use ll_lexer::{Fault, TextFault};
 use ll_polarity::Loaded;
@@ -68,23 +69,13 @@ pub fn serve_session<R: Threads + Wait + Sync, F: Shelf, O: Sink, G: Gate>(
 {
     match reply_to_texts(team, session, shelf, sink) {
         Ok(()) => 0,
-        Err(Refusal::Text(role, refusal)) => {
-            refuse(refusal.cause(session_name(session, role)), sink)
+        Err(refusal) => {
+            let names = Names {
+                program: session.program,
+                query: session.queries,
+            };
+            end_refused(refusal, &names, sink)
         }
-        Err(Refusal::Unwritable) => 6,
-        Err(Refusal::OutOfMemory) => 10,
-    }
-}
-
-// The name of a session's text: the queries stand in place of the query.
-fn session_name<'a>(session: &SessionCommand<'a>, role: Role) -> &'a str
-    ensures { result.now ≡ name_in_session (shown_session session.now) role }
-{
-    match role {
-        Role::Program => session.program,
-        Role::Query => session.queries,
-        // A session has no derivation.
-        Role::Proof => "",
     }
 }
 

@@ -10,23 +10,20 @@ use Rattle.ll_edge.specs.Texts.{Texts}
 use Rattle.ll_laws.specs.Problem.{ProblemTree}
 use Rattle.ll_laws.specs.Output.{run_status}
 use Rattle.ll_laws.specs.Valid.{IsValid}
-use Rattle.ll_judge.specs.declared.judge.Role.{Role}
-use Rattle.ll_judge.specs.declared.refusing.TextRefusal.{TextRefusal}
 use Rattle.ll_judge.specs.declared.refusing.Refusal.{Refusal}
 use Rattle.ll_judge.specs.declared.refusing.Refusal.TheVariants.{Text, Unwritable, OutOfMemory}
 use Rattle.ll_top.specs.declared.run.Found.{Found}
 use Rattle.ll_words.specs.Words.{DeepenWords}
 use Rattle.ll_judge.specs.Judging.{TextsAsk}
-use Rattle.ll_judge.specs.Outcome.{name_of, RunAsks}
+use Rattle.ll_judge.specs.Outcome.{RunAsks}
 use Rattle.ll_top.specs.Outcome.{whole_text}
-use Rattle.ll_judge.specs.CallEnds.{nothing, Ends}
-use Rattle.ll_top.specs.Deepening.{run_within, bound_line, DeepenComesTo, deepened, deepen_failed}
+use Rattle.ll_judge.specs.CallEnds.{nothing}
+use Rattle.ll_top.specs.Deepening.{run_within, bound_line, DeepenComesTo, deepened}
 use Rattle.ll_top.specs.DeepenEnds.{with_bound, first_run, DeepenRefuses, DeepensTo}
-use Rattle.ll_judge.specs.Endings.{cause_of, Prepares, Refuses}
+use Rattle.ll_judge.specs.Endings.{Prepares}
 use Rattle.ll_top.specs.Endings.{status_of_found}
 use Rattle.ll_top.specs.OwnEnds.{EndsOwn, NoneFails}
 use Rattle.ll_top.specs.Running.{IsRunRefusal}
-use Rattle.ll_judge.proofs.CallerLemmas.{refused-ends}
 use Rattle.ll_edge.proofs.CallerLemmas.{first-cut}
 use Rattle.ll_top.proofs.outcomes.OwnLemmas.{second-done, second-stopped, refused-later, stopped, ended, ends-more}
 
@@ -111,12 +108,3 @@ module _ (told : Option Texts) (absence read_failed : List ℕ → Type 0) (deep
       comes s t c =
           deepened c.bound (with_bound p c.bound) (asks-within told deepen deepen.series.from c.bound p a)
           (deciding-within p deepen.series c.bound c.bound c.decides) c.status_is c.text_is
-
-  -- the line of its cause was written
-  pub deepen-refused : (before middle after : Option (List ℕ)) (role : Role) (refusal : TextRefusal) (status : ℕ)
-      → DeepenRefuses told absence read_failed deepen role refusal → middle ≡ before
-      → Refuses (cause_of (name_of (first_run deepen) role) refusal) w middle after status
-      → Ends (DeepenComesTo told absence read_failed deepen) w before after status
-  deepen-refused before middle after role refusal status f m r =
-      refused-ends (DeepenComesTo told absence read_failed deepen) w before middle after (cause_of (name_of (first_run deepen) role) refusal) status
-      (deepen_failed (cause_of (name_of (first_run deepen) role) refusal) f refl refl) m r

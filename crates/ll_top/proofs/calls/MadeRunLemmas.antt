@@ -23,7 +23,7 @@ use Rattle.ll_words.specs.Making.{MadeRunWords}
 use Rattle.ll_top.specs.MadeRuns.{MadeAsks, last_line, MadeRunComesTo}
 use Rattle.ll_top.specs.MadeEnds.{MadeRunEnds}
 use Rattle.ll_judge.specs.Judging.{IsTextFault, TextsAsk}
-use Rattle.ll_judge.specs.CallEnds.{nothing, front, Ends, unwritable, no_memory, whole}
+use Rattle.ll_judge.specs.CallEnds.{nothing, front, Ends, whole}
 use Rattle.ll_judge.specs.Endings.{Judges}
 use Rattle.ll_top.specs.Endings.{status_of_found}
 use Rattle.ll_top.specs.Running.{IsRunRefusal}
@@ -87,12 +87,6 @@ module _ (write_failed : Type 0) (run : MadeRunWords) (before after : Option (Li
   pub made-found-ends : (found : Found) (status : ℕ) → status ≡ status_of_found found → MadeRunEnds write_failed run before after (Ok found)
       → Ends (MadeRunComesTo run) write_failed before after status
   made-found-ends _ status e h = whole (last_line h.0) (record { problem = h.0; asks = h.1; status_is = e ∙ h.2; is = refl }) h.3
-
-  pub made-cut-ends : MadeRunEnds write_failed run before after (Err Unwritable) → Ends (MadeRunComesTo run) write_failed before after 6
-  made-cut-ends h = unwritable (run_status h.0) (last_line h.0) (comes run h.0 h.1) h.2 refl h.3
-
-  pub made-memory-ends : MadeRunEnds write_failed run before after (Err OutOfMemory) → Ends (MadeRunComesTo run) write_failed before after 10
-  made-memory-ends h = no_memory refl h
 
 -- ---- the last line
 

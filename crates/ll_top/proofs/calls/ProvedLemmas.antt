@@ -138,16 +138,3 @@ shown-deepen words told deepen other before after status h k s =
 pub same-reads : (words : List (List ℕ)) (run other : RunWords) (before after : List Entry) (taken later : List ℕ) (status : ℕ) → IsRun words run
     → IsRun words other → RunReads run before after taken later status → RunReads other before after taken later status
 same-reads words run other before after taken later status h k r = subst (λ q. RunReads q before after taken later status) (one-run words run other h k) r
-
--- neither have a write that failed and want of memory
-pub six-past : {P : Type 0} → 6 ≤ 2 → P
-six-past h = absurd (omega arith)
-
-pub ten-past : {P : Type 0} → 10 ≤ 2 → P
-ten-past h = absurd (omega arith)
-
-pub six-apart : {P : Type 0} → ◌≡◌ {A = ℕ} 6 1 → P
-six-apart e = absurd (omega arith)
-
-pub ten-apart : {P : Type 0} → ◌≡◌ {A = ℕ} 10 1 → P
-ten-apart e = absurd (omega arith)

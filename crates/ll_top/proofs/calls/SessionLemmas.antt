@@ -29,14 +29,14 @@ use Rattle.ll_judge.specs.declared.refusing.Refusal.TheVariants.{Text, Unwritabl
 use Rattle.ll_words.specs.Words.{SessionWords}
 use Rattle.ll_judge.specs.Judging.{IsPartOf, IsProgramCause}
 use Rattle.ll_judge.specs.Outcome.{IsRead, Reaches, first, later, ReadFails}
-use Rattle.ll_judge.specs.CallEnds.{nothing, Ends}
-use Rattle.ll_judge.specs.Endings.{refusal_of, cause_of, IsNotRead, Refuses}
+use Rattle.ll_judge.specs.CallEnds.{nothing}
+use Rattle.ll_judge.specs.Endings.{refusal_of, cause_of, IsNotRead}
 use Rattle.ll_top.specs.OwnEnds.{EndsOwn, NoneFails}
 use Rattle.ll_top.specs.Running.{IsRunRefusal}
-use Rattle.ll_top.specs.Sessions.{reply_text, replies_text, session_not_read, faulty_program, SessionComesTo, replied, session_failed}
+use Rattle.ll_top.specs.Sessions.{reply_text, replies_text, session_not_read, faulty_program, SessionComesTo, replied}
 use Rattle.ll_top.specs.SessionEnds.{name_in_session, RefusesText, WritesReply, CutsReply, RepliesTo, TextsComeTo, RefusesProgram}
 use Rattle.ll_outlet.proofs.CallerLemmas.{given-written, front-given, refused-written}
-use Rattle.ll_judge.proofs.CallerLemmas.{refused-ends, not-read}
+use Rattle.ll_judge.proofs.CallerLemmas.{not-read}
 use Rattle.ll_top.proofs.outcomes.OwnLemmas.{ends-more, stopped}
 
 -- ---- replies that were written
@@ -193,13 +193,3 @@ module _ {A : Type 0} (told : Option Texts) (absence read_failed : List ℕ → 
         → EndsOwn Comes status_of (RefusesText told absence read_failed session) w before after r
     texts-ended before after r h = ends-more (TextsComeTo session.proofs session.queries program query session.bound) Comes status_of (RefusesProgram program)
         (RefusesText told absence read_failed session) w before after r comes refuses h
-
--- the line of its cause was written
-pub session-refused : (told : Option Texts) (absence read_failed : List ℕ → Type 0) (w : Type 0) (session : SessionWords) (before middle after : Option
-    (List ℕ)) (role : Role)
-    (refusal : TextRefusal) (status : ℕ) → RefusesText told absence read_failed session role refusal
-    → middle ≡ before → Refuses (cause_of (name_in_session session role) refusal) w middle after status
-    → Ends (SessionComesTo told absence read_failed session) w before after status
-session-refused told absence read_failed w session before middle after role refusal status f m r =
-    refused-ends (SessionComesTo told absence read_failed session) w before middle after (cause_of (name_in_session session role) refusal) status
-    (session_failed (cause_of (name_in_session session role) refusal) f refl refl) m r

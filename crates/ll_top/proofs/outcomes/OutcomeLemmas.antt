@@ -15,15 +15,13 @@ use Rattle.ll_judge.specs.declared.refusing.Refusal.TheVariants.{Text, Unwritabl
 use Rattle.ll_words.specs.Words.{RunWords}
 use Rattle.ll_top.specs.Making.{make_text, MakeComesTo}
 use Rattle.ll_words.specs.Making.{MakeWords}
-use Rattle.ll_judge.specs.Faults.{Cause}
-use Rattle.ll_judge.specs.Outcome.{RunFails, RunAsks, ReadsWhatAsks}
-use Rattle.ll_top.specs.Outcome.{status_of_run, text_of_run, RunComesTo, ran, failed}
-use Rattle.ll_judge.specs.CallEnds.{nothing, front, Ends, unwritable, no_memory, whole}
-use Rattle.ll_judge.specs.Endings.{Refuses, Prepares}
+use Rattle.ll_judge.specs.Outcome.{RunAsks, ReadsWhatAsks}
+use Rattle.ll_top.specs.Outcome.{status_of_run, text_of_run, RunComesTo, ran}
+use Rattle.ll_judge.specs.CallEnds.{nothing, front, Ends, unwritable, whole}
+use Rattle.ll_judge.specs.Endings.{Prepares}
 use Rattle.ll_top.specs.Endings.{RunEnds, status_of_found}
 use Rattle.ll_top.specs.Reads.{RunReads}
 use Rattle.ll_top.specs.Running.{IsRunRefusal}
-use Rattle.ll_judge.proofs.CallerLemmas.{refused-ends}
 
 -- ---- a run
 
@@ -79,21 +77,6 @@ module _ (told : Option Texts) (absence read_failed : List ℕ → Type 0) (writ
   pub found-ends : (found : Found) (status : ℕ) → status ≡ status_of_found found → RunEnds told absence read_failed write_failed run before after (Ok found)
       → Ends (RunComesTo told absence read_failed run) write_failed before after status
   found-ends _ status e h = whole (text_of_run run.first run.proofs h.0) (ran h.0 h.1 (e ∙ h.3) refl) h.4
-
-  pub cut-ends : RunEnds told absence read_failed write_failed run before after (Err Unwritable)
-      → Ends (RunComesTo told absence read_failed run) write_failed before after 6
-  cut-ends h = unwritable (status_of_run run.first h.0) (text_of_run run.first run.proofs h.0) (ran h.0 h.1 refl refl) h.2 refl h.3
-
-  pub memory-ends : RunEnds told absence read_failed write_failed run before after (Err OutOfMemory)
-      → Ends (RunComesTo told absence read_failed run) write_failed before after 10
-  memory-ends h = no_memory refl h
-
-pub refusal-ends : (told : Option Texts) (absence read_failed : List ℕ → Type 0) (write_failed : Type 0) (run : RunWords) (before middle after : Option
-    (List ℕ)) (cause : Cause)
-    (status : ℕ) → RunFails told absence read_failed run cause → middle ≡ before → Refuses cause write_failed middle after status
-    → Ends (RunComesTo told absence read_failed run) write_failed before after status
-refusal-ends told absence read_failed w run before middle after cause status f m r =
-    refused-ends (RunComesTo told absence read_failed run) w before middle after cause status (failed cause f refl refl) m r
 
 -- ---- a make
 

@@ -1,5 +1,5 @@
 -- From the way a call ends to its status and its text, and texts of two pieces.
-use Rattle.std.proofs.Common.{◌≡◌, ◌≤◌, ℕ, refl, sym, subst, List, ◌++◌}
+use Rattle.std.proofs.Common.{◌≡◌, ◌≤◌, ℕ, sym, subst, List, ◌++◌}
 use Rattle.std.specs.Prelude.{Option, Result, Ok, Err, IfOk, IfErr, OnOk, OnErr}
 use Rattle.std.specs.Io.KnownBytes.{append_known}
 use Rattle.ll_edge.proofs.CallerLemmas.{Rose-later, both-written, second-cut}
@@ -9,7 +9,7 @@ use Rattle.ll_judge.specs.declared.judge.Role.{Role}
 use Rattle.ll_judge.specs.declared.refusing.TextRefusal.{TextRefusal}
 use Rattle.ll_judge.specs.declared.refusing.Refusal.{Refusal}
 use Rattle.ll_judge.specs.declared.refusing.Refusal.TheVariants.{Text, Unwritable, OutOfMemory}
-use Rattle.ll_judge.specs.CallEnds.{front, Ends, unwritable, no_memory, whole}
+use Rattle.ll_judge.specs.CallEnds.{front, Ends, whole}
 use Rattle.ll_top.specs.OwnEnds.{EndsOwn}
 use Rattle.ll_top.specs.Running.{IsRunRefusal}
 use Rattle.ll_top.proofs.outcomes.CallLemmas.{own-more}
@@ -70,9 +70,3 @@ module _ {A : Type 0} (Comes : ℕ → List ℕ → Type 0) (status_of : A → �
     pub done-ends : (done : A) (status : ℕ) → status ≡ status_of done → EndsOwn Comes status_of Fails w before after (Ok done)
         → Ends Comes w before after status
     done-ends done status e h = whole h.0 (subst (λ n. Comes n h.0) (sym e) h.1) h.2
-
-    pub cut-ends : EndsOwn Comes status_of Fails w before after (Err Unwritable) → Ends Comes w before after 6
-    cut-ends h = unwritable h.0 h.1 h.2 h.3 refl h.4
-
-    pub memory-ends : EndsOwn Comes status_of Fails w before after (Err OutOfMemory) → Ends Comes w before after 10
-    memory-ends h = no_memory refl h

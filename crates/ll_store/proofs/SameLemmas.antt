@@ -1,6 +1,5 @@
 -- What the tests of cells and changes as they are kept tell.
 use Rattle.std.proofs.Common.{◌≡◌, true, eqb}
-use Rattle.std.specs.Prelude.{◌&&◌}
 use Rattle.std.proofs.lemmas.Bool.{and_parts, eqb-true}
 use Rattle.ll_store.specs.declared.packed.Slot.{Slot}
 use Rattle.ll_store.specs.declared.packed.Entry.{Entry}

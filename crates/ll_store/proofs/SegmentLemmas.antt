@@ -1,12 +1,12 @@
 -- What leads from one state of a store to a later one.
 use Rattle.std.proofs.Common.{◌≡◌, ℕ, zero, suc, ◌≤◌, ◌<◌, ◌+◌, List, [], ◌∷◌, ◌++◌, length, take, drop, map, refl, ap, sym, subst, ◌∙◌, arith, Bool, true}
 use Rattle.std.proofs.Common.{false, append_assoc, length-append}
-use Rattle.std.specs.Prelude.{nat_lt, None, slice_index_or, slice_get, Some}
+use Rattle.std.specs.Prelude.{nat_lt, None, slice_index_or}
 use Rattle.std.proofs.lemmas.Bool.{ltb-true, ltb-false, lt-ltb, le-ltb}
 use Rattle.std.proofs.lemmas.List.{length-map, map-append, take-map, drop-map, take_more, drop-append-le, take-append-le, take-append-drop, take-take}
 use Rattle.std.proofs.lemmas.List.{length-take, length-take-le, take_all, drop_all}
 use Rattle.ll_bank.specs.declared.BankSize.{BankSize}
-use Rattle.ll_bank.specs.Nodes.{Nodes, front, HasSize, IsNotPast, Extends, size_of}
+use Rattle.ll_bank.specs.Nodes.{Nodes, front, HasSize, IsNotPast, Extends}
 use Rattle.ll_bank.specs.Tail.{Tail, IsTailOf, with_nodes}
 use Rattle.ll_store.specs.declared.cells.Cell.{Cell}
 use Rattle.ll_store.specs.declared.cells.Change.{Change}
@@ -19,9 +19,9 @@ use Rattle.ll_store.specs.Packed.{cell_of, change_of}
 use Rattle.ll_store.specs.Cells.{update, with_to, with_level, taken_back, before}
 use Rattle.ll_store.specs.Tables.{before-append}
 use Rattle.ll_store.specs.Trails.{Trailed}
-use Rattle.ll_store.specs.Stored.{State, Stored, state_of, state_at, IsGood, StandsFor, IsBefore, KeepsMarks}
+use Rattle.ll_store.specs.Stored.{Stored, state_of, state_at, IsGood, IsBefore, KeepsMarks}
 use Rattle.ll_store.specs.Segments.{Renewed, renewed_of, changed_in, renewal, kept_if, renewals, renew, CellSight, cells_after, changes_in, BeginsCells}
-use Rattle.ll_store.specs.Segments.{LeadsCells, Continues, SegmentSight, state_after, Begins, Leads}
+use Rattle.ll_store.specs.Segments.{LeadsCells, Continues, SegmentSight, Begins, Leads}
 use Rattle.ll_store.proofs.CellLemmas.{update-past, update-length, before-length, before-take}
 use Rattle.ll_store.proofs.MarkLemmas.{stands, same_state, marks-extend}
 

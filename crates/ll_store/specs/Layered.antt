@@ -1,5 +1,5 @@
 -- States of stores that are kept in layers.
-use Rattle.std.specs.Prelude.{◌≡◌, ℕ, ◌++◌, List, length, map}
+use Rattle.std.specs.Prelude.{ℕ, List, length, map}
 use Rattle.std.specs.Arc.{arc_value}
 use Rattle.std.specs.declared.sync.Arc.{Arc}
 use Rattle.std.specs.declared.alloc.Global.{Global}

@@ -1,5 +1,5 @@
 //! Cells and changes as they are kept, in eight bytes each.
-ghost use Rattle.std.specs.Prelude.{◌≡◌, Some, None, IfOk, IsTrue};
+ghost use Rattle.std.specs.Prelude.{◌≡◌, ◌≤◌, ◌<◌, ◌⊎◌, Some, None, IfOk, OnErr, IsTrue};
 ghost use Rattle.ll_store.specs.Packed.{cell_of, place_of, change_of};
 ghost use Rattle.ll_store.specs.Segments.{changed_in};
 ghost use Rattle.ll_store.specs.declared.cells.Change.TheVariants.{Bound, Lowered};
@@ -52,7 +52,8 @@ fn place(kept: u32) -> Option<At>
 
 /// A place as it is kept. There is no memory for places from `NOTHING` on.
 pub fn packed(to: At) -> Result<u32, OutOfMemory>
-    ensures { IfOk result (λ kept. place_of kept ≡ Some to) }
+    ensures kept { IfOk result (λ kept. place_of kept ≡ Some to) }
+    ensures refused { OnErr result (4294967295 ≤ to.0) }
 {
     if to.0 < NOTHING as usize {
         Ok(to.0 as u32)
@@ -73,7 +74,8 @@ pub struct Entry {
 impl Entry {
     /// The variable was unbound. There is no memory for variables past 32 bits.
     pub fn bound(var: u64) -> Result<Entry, OutOfMemory>
-        ensures { IfOk result (λ entry. change_of entry ≡ Bound var) }
+        ensures made { IfOk result (λ entry. change_of entry ≡ Bound var) }
+        ensures refused { OnErr result (4294967295 < var) }
     {
         if var <= NOTHING as u64 {
             Ok(Entry {
@@ -87,7 +89,8 @@ impl Entry {
 
     /// The variable had this level. There is no memory for variables past 32 bits, nor for the greatest level.
     pub fn lowered(var: u64, level: u32) -> Result<Entry, OutOfMemory>
-        ensures { IfOk result (λ entry. change_of entry ≡ Lowered var level) }
+        ensures made { IfOk result (λ entry. change_of entry ≡ Lowered var level) }
+        ensures refused { OnErr result ((4294967295 < var) ⊎ (4294967295 ≤ level)) }
     {
         if var <= NOTHING as u64 && level < NOTHING {
             Ok(Entry {

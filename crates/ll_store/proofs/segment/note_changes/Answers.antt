@@ -1,5 +1,4 @@
-use Rattle.std.proofs.lemmas.Result.{IfOk-from_err}
-use Rattle.std.proofs.Common.{arith, map, ◌++◌, refl, sym, ap, ◌∙◌}
+use Rattle.std.proofs.Common.{arith, map, ◌++◌, sym, ap, ◌∙◌}
 use Rattle.std.proofs.lemmas.List.{append-nil, take_all}
 use Rattle.ll_lists.proofs.CallerLemmas.{OnErr-always}
 use Rattle.ll_store.specs.Packed.{change_of}

@@ -10,12 +10,12 @@ use Rattle.ll_store.proofs.cells.Cells.bind.Goals as goal
 pub returns-clause-grows : goal.returns-clause-grows
 returns-clause-grows c =
     let cells : map cell_of c.set_to.new.cells.items ≡ update c.args.var (with_to (Some c.args.to)) c.args.self.now.cells =
-    c.set_to.ensures ∙ (λ i. update c.args.var (with_to (c.in_ok-kept.ensures i)) (c.self.view_is i).cells) in
+    c.set_to.ensures ∙ (λ i. update c.args.var (with_to (c.in_ok-kept.ensures.kept i)) (c.self.view_is i).cells) in
     record {
       more = Bound c.args.var ∷ [];
       changes = ap (map change_of) c.in_ok-push.ensures.items
           ∙ (map-append change_of c.self.inside.trail.items (c.in_ok-entry.entry ∷ [])
-          ∙ (λ i. (c.self.view_is i).changes ++ c.in_ok-entry.ensures i ∷ []));
+          ∙ (λ i. (c.self.view_is i).changes ++ c.in_ok-entry.ensures.made i ∷ []));
       back = ap (taken_back (Bound c.args.var)) cells ∙ bind-back c.args.var c.args.to c.args.self.now.cells c.requires;
     }
 

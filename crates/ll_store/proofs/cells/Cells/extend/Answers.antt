@@ -1,7 +1,5 @@
-use Rattle.std.proofs.Common.{map, ap, sym, ◌∙◌, ◌++◌, List, take, drop, arith, length}
+use Rattle.std.proofs.Common.{map, ap, sym, ◌∙◌, ◌++◌, take, drop, length}
 use Rattle.std.proofs.lemmas.List.{length-map}
-use Rattle.ll_store.specs.declared.segment.Renewal.{Renewal}
-use Rattle.ll_store.specs.declared.packed.Slot.{Slot}
 use Rattle.ll_store.specs.Cells.{before}
 use Rattle.ll_store.specs.Packed.{cell_of, change_of}
 use Rattle.ll_store.specs.Trails.{Trailed}

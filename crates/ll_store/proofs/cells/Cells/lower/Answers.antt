@@ -19,7 +19,7 @@ returns-clause-grows c =
       more = Lowered c.args.var slot.level ∷ [];
       changes = ap (map change_of) c.in_ok-push.ensures.items
           ∙ (map-append change_of c.self.inside.trail.items (c.in_ok-entry.entry ∷ [])
-          ∙ (λ i. (c.self.view_is i).changes ++ c.in_ok-entry.ensures i ∷ []));
+          ∙ (λ i. (c.self.view_is i).changes ++ c.in_ok-entry.ensures.made i ∷ []));
       back = ap (taken_back (Lowered c.args.var slot.level)) cells
           ∙ lower-back c.args.var c.args.level (cell_of slot) c.args.self.now.cells
           (ap cell_of c.index.ensures ∙ (sym (get_or-map cell_of c.self.inside.slots.items c.args.var slot)

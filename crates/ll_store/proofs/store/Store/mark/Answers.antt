@@ -1,4 +1,3 @@
-use Rattle.std.proofs.Common.{refl}
 use Rattle.ll_store.specs.Stored.{stored}
 use Rattle.ll_store.proofs.MarkLemmas.{before-last}
 use Rattle.ll_store.proofs.store.Store.mark.Goals as goal

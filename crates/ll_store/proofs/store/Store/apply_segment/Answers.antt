@@ -1,1 +1,0 @@
-use Rattle.ll_store.proofs.store.Store.apply_segment.Goals as goal

@@ -43,5 +43,5 @@ pub record Giving {O : Type 0} (takes : O → Event → O → Type 0) (welcome :
 pub record StillWelcome {N O : Type 0} (alternatives : N → List (Owed Event)) (welcome : O → Event → Type 0) (faults : O
     → ℕ) (before : O) (now : PoolData N Event) (after : O) : Type 0 where
   pub wanted : Every (welcome after) (events_left alternatives now)
-  pub faults_kept : faults before ≤ faults after
+  pub quiet : faults after ≡ faults before
   pub welcome_kept : (e : Event) → welcome before e ↔ welcome after e

@@ -16,7 +16,7 @@ use ll_laws::{Batch, Counts, Notice};
 /// untried or open in the pool, and all these events are welcome.
 ///
 /// After `Ok` every piece is taken. After a refusal, which is the outlet's, a prefix of the events was given, and the next one was
-/// refused. `Write` only where the outlet's count of faults rose.
+/// refused. `Write` exactly where the outlet's count of faults rose.
 pub fn drain<N: Batch<Found = O::Found>, O: Outlet>(
     pool: &mut Pool<N>,
     out: &mut O,
@@ -28,6 +28,7 @@ pub fn drain<N: Batch<Found = O::Found>, O: Outlet>(
     ensures all { OnOk result (Each pool.new.pieces (λ x. x.status ≡ Taken)) }
     ensures refused { OnErr result (Refuses O.takes O.breaks out.old (events_left N.alternatives pool.old) out.new) }
     ensures write { result ≡ Err Write → Rose (O.faults out.old) (O.faults out.new) }
+    ensures quiet { ¬ (result ≡ Err Write) → O.faults out.new ≡ O.faults out.old }
     ensures faults_kept { O.faults out.old ≤ O.faults out.new }
     ensures welcome_kept { (e : Event) → O.welcome out.old e ↔ O.welcome out.new e }
     ensures later { Later pool.old pool.new }
@@ -53,8 +54,8 @@ pub fn drain<N: Batch<Found = O::Found>, O: Outlet>(
 
 /// Gives an outlet the events of one report, which are welcome, in order, and adds them to the counts, whose inferences stay.
 ///
-/// After a refusal, which is the outlet's, a prefix of the events was given, and the next one was refused. `Write` only where the outlet's
-/// count of faults rose.
+/// After a refusal, which is the outlet's, a prefix of the events was given, and the next one was refused. `Write` exactly where the
+/// outlet's count of faults rose.
 pub fn give<O: Outlet>(
     mut events: Vec<O::Found>,
     out: &mut O,
@@ -67,6 +68,7 @@ pub fn give<O: Outlet>(
     ensures reached { IfOk result (λ new. new.reached ≡ cut_count (counts.reached + count_by is_reached (map O.Found.stands_for events.items))) }
     ensures refused { OnErr result (Refuses O.takes O.breaks out.old (map O.Found.stands_for events.items) out.new) }
     ensures write { result ≡ Err Write → Rose (O.faults out.old) (O.faults out.new) }
+    ensures quiet { ¬ (result ≡ Err Write) → O.faults out.new ≡ O.faults out.old }
     ensures faults_kept { O.faults out.old ≤ O.faults out.new }
     ensures welcome_kept { (e : Event) → O.welcome out.old e ↔ O.welcome out.new e }
 {

@@ -39,17 +39,18 @@ pub trait Outlet {
     // A count that never falls.
     ghost faults: { Self → ℕ };
 
-    /// Takes an event that is welcome. `Write` only where the count of faults rose.
+    /// Takes an event that is welcome. `Write` exactly where the count of faults rose.
     fn event(&mut self, event: Self::Found) -> Result<(), OutFault>
         requires { welcome self.old (Self.Found.stands_for event) }
         ensures taken { OnOk result (takes self.old (Self.Found.stands_for event) self.new) }
         ensures refused { OnErr result (breaks self.old (Self.Found.stands_for event) self.new) }
         ensures write { result ≡ Err Write → Rose (faults self.old) (faults self.new) }
+        ensures quiet { ¬ (result ≡ Err Write) → faults self.new ≡ faults self.old }
         ensures faults_kept { faults self.old ≤ faults self.new }
         ensures welcome_kept { (e : Event) → welcome self.old e ↔ welcome self.new e };
 
     /// Takes events that are welcome, one after the other, out of a list, of which nothing is said then. After a refusal those in front of the
-    /// event that was refused were taken. `Write` only where the count of faults rose.
+    /// event that was refused were taken. `Write` exactly where the count of faults rose.
     ///
     /// The body that is given takes each of them by [`event`](Outlet::event). An outlet for which many at a time are less work has its own.
     fn events(&mut self, events: &mut Vec<Self::Found>) -> Result<(), OutFault>
@@ -57,6 +58,7 @@ pub trait Outlet {
         ensures taken { OnOk result (Gives takes self.old (map Self.Found.stands_for events.old.items) self.new) }
         ensures refused { OnErr result (Refuses takes breaks self.old (map Self.Found.stands_for events.old.items) self.new) }
         ensures write { result ≡ Err Write → Rose (faults self.old) (faults self.new) }
+        ensures quiet { ¬ (result ≡ Err Write) → faults self.new ≡ faults self.old }
         ensures faults_kept { faults self.old ≤ faults self.new }
         ensures welcome_kept { (e : Event) → welcome self.old e ↔ welcome self.new e }
     {

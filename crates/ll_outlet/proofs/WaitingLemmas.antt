@@ -1,7 +1,7 @@
 -- Events whose lines wait for those behind them.
 use Rattle.std.proofs.Common.{◌≡◌, ◌≤◌, ◌<◌, ◌⊎◌, ℕ, suc, ◌+◌, ◌-◌, refl, subst, ap, sym, ◌∙◌}
 use Rattle.std.proofs.Common.{List, [], ◌∷◌, ◌++◌, length, take, drop, get_or, arith, inl, inr, append_assoc, length-append}
-use Rattle.std.specs.Prelude.{Option, Result, Ok, Err, OnErr, Bool, false, map}
+use Rattle.std.specs.Prelude.{Option, Result, Ok, Err, IfErr, OnOk, OnErr, Bool, false, map}
 use Rattle.std.specs.Bool.{◌==◌}
 use Rattle.std.specs.Io.KnownBytes.{append_known}
 use Rattle.std.proofs.lemmas.Bool.{cases_lt}
@@ -11,12 +11,14 @@ use Rattle.ll_edge.specs.Pieces.{AppendsFront}
 use Rattle.ll_edge.proofs.CallerLemmas.{append_known-nil, append_known-append, front_in}
 use Rattle.ll_laws.specs.declared.Event.{Event}
 use Rattle.ll_order.specs.Outlets.{Gives, Refuses}
+use Rattle.ll_order.specs.declared.outlet.OutFault.{OutFault}
+use Rattle.ll_order.specs.declared.outlet.OutFault.TheVariants.{OutOfMemory, Write}
 use Rattle.ll_laws.specs.Problem.{ProblemTree}
 use Rattle.ll_laws.specs.Sound.{Every}
 use Rattle.ll_order.proofs.CallerLemmas.{gives_more}
 use Rattle.ll_outlet.specs.Running.{all_lines, event_lines, AnswersAll, IsWelcome, IsReady, OutletState, SameOutlet, Writes, BreaksOff, Holding, told, Waits}
 use Rattle.ll_outlet.specs.Running.{CutsOff, Taking}
-use Rattle.ll_outlet.proofs.RunLemmas.{event_then, no-lines, lines-then, same-on, events-same}
+use Rattle.ll_outlet.proofs.RunLemmas.{event_then, no-lines, lines-then, same-on, events-same, events-quiet}
 
 -- first bytes of two pieces are first bytes of the first, or all of it and first bytes of the second
 front_splits : (before mid after : Option (List ℕ)) (one two : List ℕ) → mid ≡ append_known before one → AppendsFront before (one ++ two) after
@@ -132,6 +134,9 @@ module _ {W : Type 0} (takes breaks : W → Event → W → Type 0) (state : W �
 pub err_on : {T E A : Type 0} (r : Result T E) (e : E) → r ≡ Err e → OnErr r A → A
 err_on {A = A} r e h k = subst (λ q. OnErr q A) h k
 
+pub err_cause : {T E : Type 0} (P : E → Type 0) (r : Result T E) (e : E) → r ≡ Err e → IfErr r P → P e
+err_cause P r e h k = subst (λ q. IfErr q P) h k
+
 -- why a refusal is one
 abbrev pub fault_of : {T E : Type 0} → E → Result T E → E
 fault_of e (Ok a) = e
@@ -139,6 +144,19 @@ fault_of e (Err d) = d
 
 pub fault_is : {T E : Type 0} (r : Result T E) (e : E) → r ≡ Err e → fault_of e r ≡ e
 fault_is r e h = ap (fault_of e) h
+
+pub out_of_memory_apart : {A : Type 0} → OutOfMemory ≡ Write → A
+out_of_memory_apart e = cc
+
+-- a fault that is no failed write is want of memory
+pub memory_else : {T : Type 0} (fault : OutFault) → ¬ (◌≡◌ {A = Result T OutFault} (Err fault) (Err Write)) → fault ≡ OutOfMemory
+memory_else Write other = absurd (other refl)
+memory_else OutOfMemory other = refl
+
+-- what holds where all was written holds where no write failed
+pub quiet_unless : {T A : Type 0} (r : Result T OutFault) → OnOk r A → IfErr r (λ fault. fault ≡ Write) → ¬ (r ≡ Err Write) → A
+quiet_unless (Ok x) a cause other = a
+quiet_unless (Err fault) a cause other = absurd (other (ap Err cause))
 
 -- there are events
 pub some_events : (es : List Event) {b : Bool} → b ≡ (length es == 0) → b ≡ false → 0 < length es
@@ -230,6 +248,10 @@ module _ {W : Type 0} (hold : W → Holding) where
     pub taking_same : SameOutlet (outlet x) (outlet y)
     taking_same = let s = events-same takes breaks state (λ a e b k. k) (λ a e b k. k) x y done t.given in
         record { problem = s.problem; proofs = s.proofs; lent = s.lent; faults = s.faults; tells = s.tells }
+
+    -- no write failed up to here
+    pub taking_quiet : (outlet y).faults ≡ (outlet x).faults
+    taking_quiet = events-quiet takes breaks state (λ a e b k. k) (λ a e b k. k) x y done t.given
 
     taking_same_on : (z : W) → SameOutlet (outlet y) (outlet z) → SameOutlet (outlet x) (outlet z)
     taking_same_on z s = same-on takes breaks state (λ a e b k. k) (λ a e b k. k) (outlet x) (outlet y) (outlet z) taking_same s

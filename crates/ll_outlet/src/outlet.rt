@@ -174,6 +174,7 @@ fn put<O: Sink>(
     ensures put { OnOk result (Puts (Some (O.taken sink.old)) waiting.old.items lines.now (Some (O.taken sink.new)) waiting.new.items) }
     ensures none { OnErr result (waiting.new.items ≡ []) }
     ensures cut { OnErr result (AppendsFront (Some (O.taken sink.old)) (waiting.old.items ++ lines.now) (Some (O.taken sink.new))) }
+    ensures memory { result ≡ Err OutOfMemory → O.faults sink.new ≡ O.faults sink.old }
     ensures write { result ≡ Err Write → Rose (O.faults sink.old) (O.faults sink.new) }
 {
     let Ok(()) = waiting.extend_from_slice(lines) else {

@@ -1,4 +1,4 @@
-use Rattle.std.proofs.Common.{◌≡◌, ℕ, ◌+◌, ◌∙◌, sym, ap, subst, refl, arith, le_refl, le_trans, slice_get, Some}
+use Rattle.std.proofs.Common.{◌≡◌, ℕ, ◌+◌, ◌∙◌, sym, ap, subst, refl, arith, le_of_eq, slice_get, Some}
 use Rattle.std.specs.Prelude.{count_by, map}
 use Rattle.ll_laws.specs.declared.Event.{Event}
 use Rattle.ll_laws.specs.Pool.{Owed, Taken, Piece, PoolData}
@@ -16,7 +16,7 @@ pub loop-report-init : goal.loop-report-init
 loop-report-init g c = (
   drained_first g.N.Batch.alternatives g.O.Outlet.takes g.O.Outlet.breaks c.args.pool.now c.args.out.now _ refl refl refl c.requires.done.0 c.requires.done.1
       (later_itself c.args.pool.now),
-  record { wanted = c.requires.welcome; faults_kept = le_refl _; welcome_kept = λ e. (λ h. h, λ h. h) },
+  record { wanted = c.requires.welcome; quiet = refl; welcome_kept = λ e. (λ h. h, λ h. h) },
 )
 
 pub give-requires-clause-welcome : goal.give-requires-clause-welcome
@@ -72,7 +72,7 @@ loop-report-preserved g c =
             (λ e h. (kept e).0 h)
             (every_back (g.O.Outlet.welcome c.loop-report.out) c.in-Events.report.events (events_left g.N.Batch.alternatives c.ready.new.self)
             (subst (Every (g.O.Outlet.welcome c.loop-report.out)) now w.wanted));
-        faults_kept = le_trans w.faults_kept ok.faults_kept;
+        quiet = ok.quiet (ok_not_err _ _) ∙ w.quiet;
         welcome_kept = λ e. (λ h. (kept e).0 ((w.welcome_kept e).0 h), λ h. (w.welcome_kept e).1 ((kept e).1 h));
       },
     )
@@ -90,7 +90,8 @@ returns g c =
       all = subst (λ (u : PoolData _ Event). (i : ℕ) (x : Piece Event) → slice_get u.pieces i ≡ Some x → x.status ≡ Taken) (sym end.1) end.0;
       refused = tt;
       write = λ e. absurd (ok_not_err _ _ e);
-      faults_kept = w.faults_kept;
+      quiet = λ _. w.quiet;
+      faults_kept = le_of_eq (sym w.quiet);
       welcome_kept = w.welcome_kept;
       later = subst (Later c.args.pool.now) (sym end.1) d.later;
     }

@@ -1,4 +1,4 @@
-use Rattle.ll_outlet.proofs.WaitingLemmas.{err_on, fault_is}
+use Rattle.ll_outlet.proofs.WaitingLemmas.{err_on, err_cause, fault_is, out_of_memory_apart}
 use Rattle.ll_outlet.proofs.RunLemmas.{on_ok_map, on_err_map}
 use Rattle.std.proofs.lemmas.List.{append-nil}
 use Rattle.std.proofs.Common.{sym, [], le_refl, ◌++◌, ap, ◌∙◌}
@@ -58,3 +58,12 @@ returns-clause-write g c = λ e. err_on _ _ e c.write_waiting.ensures.write
 
 pub returns-then-len-lt-FULL-clause-write : goal.returns-then-len-lt-FULL-clause-write
 returns-then-len-lt-FULL-clause-write g c = λ e. err_on _ _ e tt
+
+pub returns-in_default-clause-memory : goal.returns-in_default-clause-memory
+returns-in_default-clause-memory g c = λ e. (c.refuse.ensures.memory (fault_is _ _ e)).0
+
+pub returns-clause-memory : goal.returns-clause-memory
+returns-clause-memory g c = λ e. out_of_memory_apart (err_cause _ _ _ e c.write_waiting.ensures.cause)
+
+pub returns-then-len-lt-FULL-clause-memory : goal.returns-then-len-lt-FULL-clause-memory
+returns-then-len-lt-FULL-clause-memory g c = λ e. err_on _ _ e tt

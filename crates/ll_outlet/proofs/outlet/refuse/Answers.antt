@@ -1,9 +1,5 @@
-use Rattle.std.proofs.Common.{◌≡◌}
-use Rattle.ll_order.specs.declared.outlet.OutFault.TheVariants.{OutOfMemory, Write}
+use Rattle.ll_outlet.proofs.WaitingLemmas.{out_of_memory_apart}
 use Rattle.ll_outlet.proofs.outlet.refuse.Goals as goal
-
-out_of_memory_apart : {A : Type 0} → OutOfMemory ≡ Write → A
-out_of_memory_apart e = cc
 
 pub returns-in-Ok-clause-faults_kept : goal.returns-in-Ok-clause-faults_kept
 returns-in-Ok-clause-faults_kept g c = c.write_waiting.ensures.faults_kept

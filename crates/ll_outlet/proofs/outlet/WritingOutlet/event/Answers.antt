@@ -48,3 +48,12 @@ returns-in_default-write_all-clause-write g c = λ _. c.in_default-write_all.ens
 
 pub returns-clause-write : goal.returns-clause-write
 returns-clause-write g c = λ e. err_on _ _ e tt
+
+pub returns-in_default-clause-quiet : goal.returns-in_default-clause-quiet
+returns-in_default-clause-quiet g c = λ _. refl
+
+pub returns-in_default-write_all-clause-quiet : goal.returns-in_default-write_all-clause-quiet
+returns-in_default-write_all-clause-quiet g c = λ other. absurd (other refl)
+
+pub returns-clause-quiet : goal.returns-clause-quiet
+returns-clause-quiet g c = λ _. c.in-Ok-write_all.ensures.no_fault

@@ -1,5 +1,5 @@
 use Rattle.std.proofs.Common.{◌≡◌, ◌++◌, length, vec_len, ◌∙◌, ap, sym, refl, subst, arith, le_trans, le_refl}
-use Rattle.std.specs.Prelude.{Some, map}
+use Rattle.std.specs.Prelude.{Some, Err, map}
 use Rattle.std.specs.Bool.{◌==◌}
 use Rattle.std.proofs.lemmas.List.{length-map}
 use Rattle.ll_edge.specs.Pieces.{AppendsFront}
@@ -7,7 +7,7 @@ use Rattle.ll_edge.proofs.CallerLemmas.{Rose-later, first-cut}
 use Rattle.ll_outlet.specs.Running.{IsWelcome}
 use Rattle.ll_outlet.proofs.RunLemmas.{on_ok_both, on_err_map}
 use Rattle.ll_outlet.proofs.WaitingLemmas.{err_on, fault_is, some_events, none_left, each_ready, each_wanted, next_event, next_taken}
-use Rattle.ll_outlet.proofs.WaitingLemmas.{taking_starts, taking_same, taking_wants, taking_makes, taking_goes_on, taking_breaks, taking_ends, taking_cut}
+use Rattle.ll_outlet.proofs.WaitingLemmas.{taking_starts, taking_same, taking_wants, taking_makes, taking_goes_on, taking_breaks, taking_ends, taking_cut, taking_quiet, memory_else, quiet_unless}
 use Rattle.ll_outlet.proofs.WaitingLemmas.{welcome_still}
 use Rattle.ll_outlet.proofs.outlet.WritingOutlet.events.Goals as goal
 
@@ -154,3 +154,15 @@ returns-then-is_empty-clause-welcome_kept g c = λ e. (λ h. h, λ h. h)
 
 pub returns-then-is_empty-clause-write : goal.returns-then-is_empty-clause-write
 returns-then-is_empty-clause-write g c = λ e. err_on _ _ e tt
+
+pub returns-then-is_empty-clause-quiet : goal.returns-then-is_empty-clause-quiet
+returns-then-is_empty-clause-quiet g c = λ _. refl
+
+pub returns-in_default-clause-quiet : goal.returns-in_default-clause-quiet
+returns-in_default-clause-quiet g c = λ other. (c.refuse.ensures.memory (memory_else _ other)).0 ∙ taking_quiet _ c.loop-event.invariant
+
+pub returns-in-Err-clause-quiet : goal.returns-in-Err-clause-quiet
+returns-in-Err-clause-quiet g c = λ other. c.put.ensures.memory (c.in-Err.is ∙ ap Err (memory_else _ other)) ∙ taking_quiet _ c.loop-event.invariant
+
+pub returns-clause-quiet : goal.returns-clause-quiet
+returns-clause-quiet g c = λ other. quiet_unless c.write_waiting.result c.write_waiting.ensures.quiet c.write_waiting.ensures.cause other ∙ taking_quiet _ c.loop-event.invariant

@@ -204,8 +204,11 @@ def written(work, words):
         raise Ended(UNWRITABLE, "there is no standard output")
     try:
         sys.stdout.reconfigure(encoding="utf-8", errors="surrogateescape", newline="\n")
-        status = work(words)
-        sys.stdout.flush()
+        try:
+            status = work(words)
+        finally:
+            # The process ends with no flush of its own, also behind a page of help and where the work ends with a sentence.
+            sys.stdout.flush()
         return status or DONE
     except (BrokenPipeError, OSError) as error:
         # What is left to be written has nowhere to go.

@@ -7,6 +7,7 @@ use std::sync::Wait;
 use std::test::*;
 use std::thread;
 use std::thread::Threads;
+use std::time::{Clock, Duration};
 
 #[derive(Drop)]
 struct Counter {
@@ -66,12 +67,13 @@ fn new_turn(alloc: Global) -> Result<(Turn<Counter>, Pass<Counter>), AllocError>
     }
 }
 
-// Takes the turn so many times, and counts one more each time.
-fn count_up<R: Wait>(
+// Takes the turn so many times, counts one more each time, and holds it so long.
+fn count_up<R: Wait + Clock>(
     rt: &R,
     turn: &Turn<Counter>,
     mut pass: Pass<Counter>,
     times: u64,
+    hold: Duration,
 ) -> Pass<Counter>
     requires { (pass.table ≡ turn.now) × (pass.before ≡ None) }
     ensures rests { (result.table ≡ pass.table) × (result.before ≡ None) }
@@ -81,16 +83,18 @@ fn count_up<R: Wait>(
         let mut held = turn.take(rt, &mut pass);
         let counter = held.value();
         counter.count = counter.count.saturating_add(1);
+        thread::sleep(rt, hold);
         turn.give(held, &mut pass);
     }
     pass
 }
 
-fn counted_by_two<R: Threads + Wait + Sync>(
+fn counted_by_two<R: Threads + Wait + Clock + Sync>(
     rt: &R,
     turn: Turn<Counter>,
     mut first: Pass<Counter>,
     times: u64,
+    hold: Duration,
 ) -> u64
     requires rests { (first.table ≡ turn) × (first.before ≡ None) × (first.given ≡ []) }
     requires numbers { (first.mine.own ≡ 0) × (first.mine.from ≡ 1) × (first.mine.end ≡ 3) }
@@ -103,12 +107,12 @@ fn counted_by_two<R: Threads + Wait + Sync>(
             requires { (first.table ≡ shared.now) × (first.before ≡ None) }
             ensures rests { (result.table ≡ first.table) × (result.before ≡ None) }
             ensures numbers { (result.given ≡ first.given) × (result.mine.own ≡ first.mine.own) }
-        { count_up(rt, shared, first, times) },
+        { count_up(rt, shared, first, times, hold) },
         move || -> Pass<Counter>
             requires { (second.table ≡ shared.now) × (second.before ≡ None) }
             ensures rests { (result.table ≡ second.table) × (result.before ≡ None) }
             ensures numbers { (result.given ≡ second.given) × (result.mine.own ≡ second.mine.own) }
-        { count_up(rt, shared, second, times) },
+        { count_up(rt, shared, second, times, hold) },
     );
     first.join(&turn, second);
     turn.close(first).count
@@ -117,7 +121,21 @@ fn counted_by_two<R: Threads + Wait + Sync>(
 #[test]
 fn two_threads_count(rt: HostRuntime) -> Result<(), Fail> {
     let (turn, first) = new_turn(rt.alloc())?;
-    assert_eq!(rt; counted_by_two(&rt, turn, first, 1000), 2000);
+    assert_eq!(rt;
+        counted_by_two(&rt, turn, first, 1000, Duration::ZERO),
+        2000
+    );
+    Ok(())
+}
+
+// Each holds the turn for a while, so that the other one has to wait.
+#[test]
+fn two_threads_wait(rt: HostRuntime) -> Result<(), Fail> {
+    let (turn, first) = new_turn(rt.alloc())?;
+    assert_eq!(rt;
+        counted_by_two(&rt, turn, first, 20, Duration::from_millis(1)),
+        40
+    );
     Ok(())
 }
 
@@ -127,10 +145,10 @@ fn three_passes_take_turns(rt: HostRuntime) -> Result<(), Fail> {
     let (turn, mut first) = new_turn(rt.alloc())?;
     let second = first.split(&turn);
     let third = first.split(&turn);
-    let third = count_up(&rt, &turn, third, 3);
-    let second = count_up(&rt, &turn, second, 20);
+    let third = count_up(&rt, &turn, third, 3, Duration::ZERO);
+    let second = count_up(&rt, &turn, second, 20, Duration::ZERO);
     first.join(&turn, third);
-    let mut first = count_up(&rt, &turn, first, 400);
+    let mut first = count_up(&rt, &turn, first, 400, Duration::ZERO);
     first.join(&turn, second);
     assert_eq!(rt; turn.close(first).count, 423);
     Ok(())

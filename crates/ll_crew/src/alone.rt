@@ -35,7 +35,7 @@ pub(crate) fn search_alone<'p, O: Outlet>(
     ensures counts { IfOk result (λ counts. CountsOf counts (problem_events problem.entry.now) (problem_cost problem.entry.now)) }
     ensures refused { OnErr result (GivesPrefix O.takes O.breaks out.old (problem_events problem.entry.now) out.new) }
     ensures write { result ≡ Err CrewFault.Write → Rose (O.faults out.old) (O.faults out.new) }
-    ensures kept { Kept O.takes O.breaks O.welcome O.faults out.old out.new }
+    ensures kept { Kept O.Outlet out.old out.new }
 {
     let Ok(mut engine) = Engine::start_with(alloc, problem, index) else {
         return Err(CrewFault::OutOfMemory);
@@ -58,7 +58,7 @@ fn give_each<'p, O: Outlet>(
     ensures counts { IfOk result (λ counts. CountsOf counts (problem_events engine.old.problem) (problem_cost engine.old.problem)) }
     ensures refused { OnErr result (GivesPrefix O.takes O.breaks out.old (problem_events engine.old.problem) out.new) }
     ensures write { result ≡ Err CrewFault.Write → Rose (O.faults out.old) (O.faults out.new) }
-    ensures kept { Kept O.takes O.breaks O.welcome O.faults out.old out.new }
+    ensures kept { Kept O.Outlet out.old out.new }
 {
     let mut counts = Counts {
         answers: 0,

@@ -123,17 +123,15 @@ pub(crate) fn work_together<'a, 'p, R: Threads + Wait + Sync, G: Gate, O: Outlet
     seats: Vec<Seat<Offer<'p, O::Found>>>,
 ) -> (Vec<Seat<Offer<'p, O::Found>>>, Result<bool, OutOfMemory>)
     requires first { CanWork job.now.pool.now job.now.problem.now first.old }
-    requires stands { Stands O.takes O.breaks O.welcome O.faults job.now.start.now.value job.now.problem.now first.old out.old told.old }
+    requires stands { Stands O.Outlet job.now first.old out.old told.old }
     requires seats { Every (CanWork job.now.pool.now job.now.problem.now) seats.items }
     requires suits { O.Found.suits job.now.problem.now }
     ensures leads { told.new.leads ≡ told.old.leads }
     ensures done { IfOk result.1 (λ done. done ≡ true → Ended
-        (Stands O.takes O.breaks O.welcome O.faults job.now.start.now.value job.now.problem.now first.new out.new told.new) job.now.problem.now first.old
-        first.new) }
-    ensures left { IfOk result.1 (λ done. done ≡ false → Leaves
-        (Stopped O.takes O.breaks O.welcome O.faults job.now.start.now.value job.now.problem.now out.new told.new) (WasRefused told.new) first.old first.new) }
-    ensures failed { OnErr result.1 (Fails (Stopped O.takes O.breaks O.welcome O.faults job.now.start.now.value job.now.problem.now out.new told.new) first.old
-        first.new) }
+        (Stands O.Outlet job.now first.new out.new told.new) job.now.problem.now first.old first.new) }
+    ensures left { IfOk result.1 (λ done. done ≡ false → Leaves (Stopped O.Outlet job.now out.new told.new)
+        (WasRefused told.new) first.old first.new) }
+    ensures failed { OnErr result.1 (Fails (Stopped O.Outlet job.now out.new told.new) first.old first.new) }
     ensures seats { EachWorked seats.entry.items result.0.items }
 {
     if seats.is_empty() {
@@ -162,17 +160,15 @@ pub(crate) fn work_together<'a, 'p, R: Threads + Wait + Sync, G: Gate, O: Outlet
             ensures { EachWorked crowd.entry.seats.items result.items }
         { work_all(crowd) },
         &mut ||
-            requires { IsSync G.row × CanWork job.now.pool.now job.now.problem.now first.now × O.Found.suits job.now.problem.now
-                × Stands O.takes O.breaks O.welcome O.faults job.now.start.now.value job.now.problem.now first.now out.now told.now }
+            requires { IsSync G.row × CanWork job.now.pool.now job.now.problem.now first.now
+                × O.Found.suits job.now.problem.now × Stands O.Outlet job.now first.now out.now told.now }
             ensures leads { told.exit.now.leads ≡ told.entry.now.leads }
-            ensures done { IfOk result (λ done. done ≡ true → Ended
-                (Stands O.takes O.breaks O.welcome O.faults job.entry.now.start.now.value job.entry.now.problem.now first.exit.now out.exit.now told.exit.now)
-                job.entry.now.problem.now first.entry.now first.exit.now) }
-            ensures left { IfOk result (λ done. done ≡ false
-                → Leaves (Stopped O.takes O.breaks O.welcome O.faults job.entry.now.start.now.value job.entry.now.problem.now out.exit.now told.exit.now)
-                (WasRefused told.exit.now) first.entry.now first.exit.now) }
-            ensures failed { OnErr result (Fails (Stopped O.takes O.breaks O.welcome O.faults job.entry.now.start.now.value job.entry.now.problem.now
-                out.exit.now told.exit.now) first.entry.now first.exit.now) }
+            ensures done { IfOk result (λ done. done ≡ true → Ended (Stands O.Outlet job.entry.now first.exit.now
+                out.exit.now told.exit.now) job.entry.now.problem.now first.entry.now first.exit.now) }
+            ensures left { IfOk result (λ done. done ≡ false → Leaves (Stopped O.Outlet job.entry.now out.exit.now
+                told.exit.now) (WasRefused told.exit.now) first.entry.now first.exit.now) }
+            ensures failed { OnErr result
+                (Fails (Stopped O.Outlet job.entry.now out.exit.now told.exit.now) first.entry.now first.exit.now) }
         {
             let (done, _woken) = work_as(job, gate, first, told, out);
             done

@@ -160,15 +160,13 @@ fn run<'p, R: Wait, O: Outlet>(
 ) -> Result<Ran<'p>, OutOfMemory>
     requires suits { O.Found.suits job.now.problem.now }
     requires seat { IsSeat job.now.pool.now job.now.problem.now seat.old × (engine.old.problem ≡ job.now.problem.now) }
-    requires stands { Stands O.takes O.breaks O.welcome O.faults job.now.start.now.value job.now.problem.now seat.old out.old told.old }
+    requires stands { Stands O.Outlet job.now seat.old out.old told.old }
     requires owes { OwesAll seat.old.mine.piece (map O.Found.stands_for events.old.items) engine.old [] }
     ensures leads { told.new.leads ≡ told.old.leads }
     ensures problem { OnOk result (engine.new.problem ≡ job.now.problem.now) }
-    ensures ran { IfOk result (λ ran. RunsTo (Stands O.takes O.breaks O.welcome O.faults job.now.start.now.value job.now.problem.now seat.new out.new told.new)
-        (Stopped O.takes O.breaks O.welcome O.faults job.now.start.now.value job.now.problem.now out.new told.new) (WasRefused told.new) job.now.problem.now ran
-        seat.old seat.new (map O.Found.stands_for events.new.items) engine.new) }
-    ensures failed { OnErr result (Stays (Stands O.takes O.breaks O.welcome O.faults job.now.start.now.value job.now.problem.now seat.new out.new told.new)
-        seat.old seat.new) }
+    ensures ran { IfOk result (λ ran. RunsTo (Stands O.Outlet job.now seat.new out.new told.new) (Stopped O.Outlet job.now out.new told.new)
+        (WasRefused told.new) job.now.problem.now ran seat.old seat.new (map O.Found.stands_for events.new.items) engine.new) }
+    ensures failed { OnErr result (Stays (Stands O.Outlet job.now seat.new out.new told.new) seat.old seat.new) }
 {
     'stretches: loop {
         if stretch(engine, events, job.reports_at_once())? {
@@ -197,17 +195,14 @@ fn run_alone<'p, R: Wait, O: Outlet>(
 ) -> Result<bool, OutOfMemory>
     requires suits { O.Found.suits engine.old.problem }
     requires seat { IsSeat job.now.pool.now job.now.problem.now seat.old }
-    requires stands { Stands O.takes O.breaks O.welcome O.faults job.now.start.now.value job.now.problem.now seat.old out.old told.old }
+    requires stands { Stands O.Outlet job.now seat.old out.old told.old }
     ensures leads { told.new.leads ≡ told.old.leads }
     ensures problem { OnOk result (engine.new.problem ≡ engine.old.problem) }
-    ensures done { IfOk result (λ done. done ≡ true → RunsAlone
-        (Stands O.takes O.breaks O.welcome O.faults job.now.start.now.value job.now.problem.now seat.new out.new told.new) seat.old seat.new
-        (map O.Found.stands_for events.old.items)
-        engine.old (map O.Found.stands_for events.new.items) engine.new) }
-    ensures left { IfOk result (λ done. done ≡ false → Leaves
-        (Stopped O.takes O.breaks O.welcome O.faults job.now.start.now.value job.now.problem.now out.new told.new) (WasRefused told.new) seat.old seat.new) }
-    ensures failed { OnErr result (Stays (Stands O.takes O.breaks O.welcome O.faults job.now.start.now.value job.now.problem.now seat.new out.new told.new)
-        seat.old seat.new) }
+    ensures done { IfOk result (λ done. done ≡ true → RunsAlone (Stands O.Outlet job.now seat.new out.new told.new) seat.old seat.new
+        (map O.Found.stands_for events.old.items) engine.old (map O.Found.stands_for events.new.items) engine.new) }
+    ensures left { IfOk result (λ done. done ≡ false → Leaves (Stopped O.Outlet job.now out.new told.new)
+        (WasRefused told.new) seat.old seat.new) }
+    ensures failed { OnErr result (Stays (Stands O.Outlet job.now seat.new out.new told.new) seat.old seat.new) }
 {
     'stretches: loop {
         if stretch(engine, events, false)? {
@@ -262,19 +257,18 @@ fn run_one<'p, R: Wait, O: Outlet>(
 ) -> Result<Option<u64>, OutOfMemory>
     requires suits { O.Found.suits job.now.problem.now }
     requires seat { IsSeat job.now.pool.now job.now.problem.now seat.old }
-    requires stands { Stands O.takes O.breaks O.welcome O.faults job.now.start.now.value job.now.problem.now seat.old out.old told.old }
+    requires stands { Stands O.Outlet job.now seat.old out.old told.old }
     requires kept { IsKeptOf job.now.problem.now kept.old }
     requires inside { k < length (alternatives_in (arc_value batch)) }
     requires of { (arc_value batch).problem ≡ job.now.problem.now }
     ensures leads { told.new.leads ≡ told.old.leads }
     ensures kept { OnOk result (IsKeptOf job.now.problem.now kept.new) }
-    ensures some { IfOk result (λ o. IfSome o (λ n. (owes : Owed TheEvent) → slice_get (alternatives_in (arc_value batch.entry)) k ≡ Some owes
-        → RunsOne (Stands O.takes O.breaks O.welcome O.faults job.now.start.now.value job.now.problem.now seat.new out.new told.new) seat.old seat.new
+    ensures some { IfOk result (λ o. IfSome o (λ n. (owes : Owed TheEvent) → slice_get (alternatives_in (arc_value
+        batch.entry)) k ≡ Some owes → RunsOne (Stands O.Outlet job.now seat.new out.new told.new) seat.old seat.new
         (map O.Found.stands_for events.old.items) owes (map O.Found.stands_for events.new.items) n)) }
-    ensures none { IfOk result (λ o. IfNone o (Leaves (Stopped O.takes O.breaks O.welcome O.faults job.now.start.now.value job.now.problem.now out.new told.new)
-        (WasRefused told.new) seat.old seat.new)) }
-    ensures failed { OnErr result (Stays (Stands O.takes O.breaks O.welcome O.faults job.now.start.now.value job.now.problem.now seat.new out.new told.new)
-        seat.old seat.new) }
+    ensures none { IfOk result
+        (λ o. IfNone o (Leaves (Stopped O.Outlet job.now out.new told.new) (WasRefused told.new) seat.old seat.new)) }
+    ensures failed { OnErr result (Stays (Stands O.Outlet job.now seat.new out.new told.new) seat.old seat.new) }
 {
     let mut engine = engine_for(job, kept, batch, k)?;
     let done = run_alone(job, seat, &mut engine, events, told, out);
@@ -297,20 +291,17 @@ fn run_batch<'p, R: Wait, O: Outlet>(
 ) -> Result<Option<u64>, OutOfMemory>
     requires suits { O.Found.suits job.now.problem.now }
     requires seat { IsSeat job.now.pool.now job.now.problem.now seat.old }
-    requires stands { Stands O.takes O.breaks O.welcome O.faults job.now.start.now.value job.now.problem.now seat.old out.old told.old }
+    requires stands { Stands O.Outlet job.now seat.old out.old told.old }
     requires kept { IsKeptOf job.now.problem.now kept.old }
     requires of { (arc_value batch.now).problem ≡ job.now.problem.now }
     ensures leads { told.new.leads ≡ told.old.leads }
     ensures kept { OnOk result (IsKeptOf job.now.problem.now kept.new) }
-    ensures some { IfOk result
-        (λ o. IfSome o (λ n. RunsAll (Stands O.takes O.breaks O.welcome O.faults job.now.start.now.value job.now.problem.now seat.new out.new told.new) seat.old
-        seat.new (map O.Found.stands_for events.old.items) (events_in (alternatives_in (arc_value batch.now)))
-        (inferences + cost_in (alternatives_in (arc_value batch.now)))
-        (map O.Found.stands_for events.new.items) n)) }
-    ensures none { IfOk result (λ o. IfNone o (Leaves (Stopped O.takes O.breaks O.welcome O.faults job.now.start.now.value job.now.problem.now out.new told.new)
-        (WasRefused told.new) seat.old seat.new)) }
-    ensures failed { OnErr result (Stays (Stands O.takes O.breaks O.welcome O.faults job.now.start.now.value job.now.problem.now seat.new out.new told.new)
-        seat.old seat.new) }
+    ensures some { IfOk result (λ o. IfSome o (λ n. RunsAll (Stands O.Outlet job.now seat.new out.new told.new)
+        seat.old seat.new (map O.Found.stands_for events.old.items) (events_in (alternatives_in (arc_value batch.now)))
+        (inferences + cost_in (alternatives_in (arc_value batch.now))) (map O.Found.stands_for events.new.items) n)) }
+    ensures none { IfOk result
+        (λ o. IfNone o (Leaves (Stopped O.Outlet job.now out.new told.new) (WasRefused told.new) seat.old seat.new)) }
+    ensures failed { OnErr result (Stays (Stands O.Outlet job.now seat.new out.new told.new) seat.old seat.new) }
 {
     for k in 0..batch.len() {
         let shared = Arc::try_clone(batch)?;
@@ -344,15 +335,13 @@ fn run_to_end<'p, R: Wait, O: Outlet>(
 ) -> Result<Ending<'p>, OutOfMemory>
     requires suits { O.Found.suits job.now.problem.now }
     requires seat { IsSeat job.now.pool.now job.now.problem.now seat.old × (engine.old.problem ≡ job.now.problem.now) }
-    requires stands { Stands O.takes O.breaks O.welcome O.faults job.now.start.now.value job.now.problem.now seat.old out.old told.old }
+    requires stands { Stands O.Outlet job.now seat.old out.old told.old }
     requires owes { OwesAll seat.old.mine.piece (map O.Found.stands_for events.old.items) engine.old [] }
     ensures leads { told.new.leads ≡ told.old.leads }
     ensures problem { OnOk result (engine.new.problem ≡ job.now.problem.now) }
-    ensures ends { IfOk result (λ ending. EndsTo (Stands O.takes O.breaks O.welcome O.faults job.now.start.now.value job.now.problem.now seat.new out.new
-        told.new) (Stopped O.takes O.breaks O.welcome O.faults job.now.start.now.value job.now.problem.now out.new told.new)
-        (WasRefused told.new) job.now.problem.now ending seat.old seat.new (map O.Found.stands_for events.new.items)) }
-    ensures failed { OnErr result (Stays (Stands O.takes O.breaks O.welcome O.faults job.now.start.now.value job.now.problem.now seat.new out.new told.new)
-        seat.old seat.new) }
+    ensures ends { IfOk result (λ ending. EndsTo (Stands O.Outlet job.now seat.new out.new told.new) (Stopped O.Outlet job.now out.new
+        told.new) (WasRefused told.new) job.now.problem.now ending seat.old seat.new (map O.Found.stands_for events.new.items)) }
+    ensures failed { OnErr result (Stays (Stands O.Outlet job.now seat.new out.new told.new) seat.old seat.new) }
 {
     match run(job, seat, engine, events, told, out)? {
         Ran::Done => Ok(Ending::Whole(engine.cost())),
@@ -377,18 +366,16 @@ fn run_claimed<'p, R: Wait, O: Outlet>(
 ) -> Result<Ending<'p>, OutOfMemory>
     requires suits { O.Found.suits job.now.problem.now }
     requires seat { IsSeat job.now.pool.now job.now.problem.now seat.old }
-    requires stands { Stands O.takes O.breaks O.welcome O.faults job.now.start.now.value job.now.problem.now seat.old out.old told.old }
+    requires stands { Stands O.Outlet job.now seat.old out.old told.old }
     requires kept { IsKeptOf job.now.problem.now kept.old }
     requires owes { IsSomeAnd seat.old.mine.piece (λ piece. slice_get (alternatives_in (arc_value batch)) k ≡ Some piece.owes) }
     requires of { (arc_value batch).problem ≡ job.now.problem.now }
     requires none { events.old.items ≡ [] }
     ensures leads { told.new.leads ≡ told.old.leads }
     ensures kept { OnOk result (IsKeptOf job.now.problem.now kept.new) }
-    ensures ends { IfOk result (λ ending. EndsTo (Stands O.takes O.breaks O.welcome O.faults job.now.start.now.value job.now.problem.now seat.new out.new
-        told.new) (Stopped O.takes O.breaks O.welcome O.faults job.now.start.now.value job.now.problem.now out.new told.new)
-        (WasRefused told.new) job.now.problem.now ending seat.old seat.new (map O.Found.stands_for events.new.items)) }
-    ensures failed { OnErr result (Stays (Stands O.takes O.breaks O.welcome O.faults job.now.start.now.value job.now.problem.now seat.new out.new told.new)
-        seat.old seat.new) }
+    ensures ends { IfOk result (λ ending. EndsTo (Stands O.Outlet job.now seat.new out.new told.new) (Stopped O.Outlet job.now out.new
+        told.new) (WasRefused told.new) job.now.problem.now ending seat.old seat.new (map O.Found.stands_for events.new.items)) }
+    ensures failed { OnErr result (Stays (Stands O.Outlet job.now seat.new out.new told.new) seat.old seat.new) }
 {
     let mut engine = engine_for(job, kept, batch, k)?;
     let ending = run_to_end(job, seat, &mut engine, events, told, out);
@@ -410,20 +397,18 @@ fn run_piece<'p, R: Wait, O: Outlet>(
 ) -> Result<Option<u64>, OutOfMemory>
     requires suits { O.Found.suits job.now.problem.now }
     requires seat { IsSeat job.now.pool.now job.now.problem.now seat.old }
-    requires stands { Stands O.takes O.breaks O.welcome O.faults job.now.start.now.value job.now.problem.now seat.old out.old told.old }
+    requires stands { Stands O.Outlet job.now seat.old out.old told.old }
     requires kept { IsKeptOf job.now.problem.now kept.old }
     requires owes { IsSomeAnd seat.old.mine.piece (λ piece. slice_get (alternatives_in (arc_value batch)) k ≡ Some piece.owes) }
     requires of { (arc_value batch).problem ≡ job.now.problem.now }
     requires none { events.old.items ≡ [] }
     ensures leads { told.new.leads ≡ told.old.leads }
     ensures kept { OnOk result (IsKeptOf job.now.problem.now kept.new) }
-    ensures some { IfOk result
-        (λ o. IfSome o (λ n. Reports (Stands O.takes O.breaks O.welcome O.faults job.now.start.now.value job.now.problem.now seat.new out.new told.new) seat.old
+    ensures some { IfOk result (λ o. IfSome o (λ n. Reports (Stands O.Outlet job.now seat.new out.new told.new) seat.old
         seat.new (map O.Found.stands_for events.new.items) n)) }
-    ensures none { IfOk result (λ o. IfNone o (Leaves (Stopped O.takes O.breaks O.welcome O.faults job.now.start.now.value job.now.problem.now out.new told.new)
-        (WasRefused told.new) seat.old seat.new)) }
-    ensures failed { OnErr result (Stays (Stands O.takes O.breaks O.welcome O.faults job.now.start.now.value job.now.problem.now seat.new out.new told.new)
-        seat.old seat.new) }
+    ensures none { IfOk result
+        (λ o. IfNone o (Leaves (Stopped O.Outlet job.now out.new told.new) (WasRefused told.new) seat.old seat.new)) }
+    ensures failed { OnErr result (Stays (Stands O.Outlet job.now seat.new out.new told.new) seat.old seat.new) }
 {
     match run_claimed(job, kept, seat, batch, k, events, told, out)? {
         Ending::Whole(inferences) => Ok(Some(inferences)),
@@ -448,19 +433,17 @@ pub(crate) fn work_piece<'p, R: Wait, O: Outlet>(
 ) -> Result<bool, OutOfMemory>
     requires suits { O.Found.suits job.now.problem.now }
     requires seat { IsSeat job.now.pool.now job.now.problem.now seat.old }
-    requires stands { Stands O.takes O.breaks O.welcome O.faults job.now.start.now.value job.now.problem.now seat.old out.old told.old }
+    requires stands { Stands O.Outlet job.now seat.old out.old told.old }
     requires kept { IsKeptOf job.now.problem.now kept.old }
     requires owes { IsSomeAnd seat.old.mine.piece (λ piece. slice_get (alternatives_in (arc_value offer)) k ≡ Some piece.owes) }
     requires of { (arc_value offer).problem ≡ job.now.problem.now }
     ensures leads { told.new.leads ≡ told.old.leads }
     ensures kept { OnOk result (IsKeptOf job.now.problem.now kept.new) }
-    ensures done { IfOk result (λ done. done ≡ true
-        → Stays (Stands O.takes O.breaks O.welcome O.faults job.now.start.now.value job.now.problem.now seat.new out.new told.new) seat.old seat.new
-        × (seat.new.mine.piece ≡ None)) }
-    ensures left { IfOk result (λ done. done ≡ false → Leaves
-        (Stopped O.takes O.breaks O.welcome O.faults job.now.start.now.value job.now.problem.now out.new told.new) (WasRefused told.new) seat.old seat.new) }
-    ensures failed { OnErr result (Stays (Stands O.takes O.breaks O.welcome O.faults job.now.start.now.value job.now.problem.now seat.new out.new told.new)
-        seat.old seat.new) }
+    ensures done { IfOk result (λ done. done ≡ true → Stays
+        (Stands O.Outlet job.now seat.new out.new told.new) seat.old seat.new × (seat.new.mine.piece ≡ None)) }
+    ensures left { IfOk result (λ done. done ≡ false → Leaves (Stopped O.Outlet job.now out.new told.new)
+        (WasRefused told.new) seat.old seat.new) }
+    ensures failed { OnErr result (Stays (Stands O.Outlet job.now seat.new out.new told.new) seat.old seat.new) }
 {
     let choice = offer.choice();
     drop(offer);

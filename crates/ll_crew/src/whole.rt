@@ -42,13 +42,13 @@ fn search<'p, R: Threads + Wait + Sync, G: Gate, O: Outlet>(
     requires first { CanWork pool problem.now first × (first.mine.worker ≡ 0) × (without_all (map worker_of others.items) first.given ≡ []) }
     requires others { Every (CanWork pool problem.now) others.items }
     requires suits { O.Found.suits problem.now }
-    requires leads { Leads O.takes O.breaks O.welcome O.faults out.old problem.now first.mine.seen out.old
+    requires leads { Leads O.Outlet out.old problem.now first.mine.seen out.old
         (record { answers = 0; reached = 0; inferences = 0 }) }
     ensures given { OnOk result (Gives O.takes out.old (problem_events problem.entry.now) out.new) }
     ensures counts { IfOk result (λ counts. CountsOf counts (problem_events problem.entry.now) (problem_cost problem.entry.now)) }
     ensures refused { OnErr result (GivesPrefix O.takes O.breaks out.old (problem_events problem.entry.now) out.new) }
     ensures write { result ≡ Err CrewFault.Write → Rose (O.faults out.old) (O.faults out.new) }
-    ensures kept { Kept O.takes O.breaks O.welcome O.faults out.old out.new }
+    ensures kept { Kept O.Outlet out.old out.new }
 {
     let start = Snapshot::of(&*out);
     let mut told = Told::new(true);

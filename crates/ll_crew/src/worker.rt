@@ -47,16 +47,14 @@ fn claim_one<'p, R: Wait, O: Outlet>(
 ) -> Result<Went, OutOfMemory>
     requires suits { O.Found.suits job.now.problem.now }
     requires seat { CanWork job.now.pool.now job.now.problem.now seat.old }
-    requires stands { Stands O.takes O.breaks O.welcome O.faults job.now.start.now.value job.now.problem.now seat.old out.old told.old }
+    requires stands { Stands O.Outlet job.now seat.old out.old told.old }
     requires kept { IsKeptOf job.now.problem.now kept.old }
     ensures leads { told.new.leads ≡ told.old.leads }
     ensures kept { OnOk result (IsKeptOf job.now.problem.now kept.new) }
-    ensures went { IfOk result (λ went. WentTo (Stands O.takes O.breaks O.welcome O.faults job.now.start.now.value job.now.problem.now seat.new out.new
-        told.new) (Stopped O.takes O.breaks O.welcome O.faults job.now.start.now.value job.now.problem.now out.new told.new)
-        (WasRefused told.new) job.now.problem.now went seat.old seat.new) }
+    ensures went { IfOk result (λ went. WentTo (Stands O.Outlet job.now seat.new out.new told.new)
+        (Stopped O.Outlet job.now out.new told.new) (WasRefused told.new) job.now.problem.now went seat.old seat.new) }
     ensures turns { IfOk result (λ went. TakesTurn went seat.old seat.new) }
-    ensures failed { OnErr result (Stays (Stands O.takes O.breaks O.welcome O.faults job.now.start.now.value job.now.problem.now seat.new out.new told.new)
-        seat.old seat.new) }
+    ensures failed { OnErr result (Stays (Stands O.Outlet job.now seat.new out.new told.new) seat.old seat.new) }
 {
     match job.pool.claim(job.rt, seat) {
         Claimed::Work { piece: _, batch, k } => {
@@ -89,16 +87,14 @@ fn work_with<'p, R: Wait, G: Gate, O: Outlet>(
 ) -> Result<bool, OutOfMemory>
     requires suits { O.Found.suits job.now.problem.now }
     requires seat { CanWork job.now.pool.now job.now.problem.now seat.old }
-    requires stands { Stands O.takes O.breaks O.welcome O.faults job.now.start.now.value job.now.problem.now seat.old out.old told.old }
+    requires stands { Stands O.Outlet job.now seat.old out.old told.old }
     requires kept { IsKeptOf job.now.problem.now kept.old }
     ensures leads { told.new.leads ≡ told.old.leads }
-    ensures done { IfOk result (λ done. done ≡ true
-        → Ended (Stands O.takes O.breaks O.welcome O.faults job.now.start.now.value job.now.problem.now seat.new out.new told.new) job.now.problem.now seat.old
-        seat.new) }
-    ensures left { IfOk result (λ done. done ≡ false → Leaves
-        (Stopped O.takes O.breaks O.welcome O.faults job.now.start.now.value job.now.problem.now out.new told.new) (WasRefused told.new) seat.old seat.new) }
-    ensures failed { OnErr result (Stays (Stands O.takes O.breaks O.welcome O.faults job.now.start.now.value job.now.problem.now seat.new out.new told.new)
-        seat.old seat.new) }
+    ensures done { IfOk result (λ done. done ≡ true → Ended
+        (Stands O.Outlet job.now seat.new out.new told.new) job.now.problem.now seat.old seat.new) }
+    ensures left { IfOk result (λ done. done ≡ false → Leaves (Stopped O.Outlet job.now out.new told.new)
+        (WasRefused told.new) seat.old seat.new) }
+    ensures failed { OnErr result (Stays (Stands O.Outlet job.now seat.new out.new told.new) seat.old seat.new) }
 {
     let mut claims = 0u64;
     let mut misses = 0u32;
@@ -135,15 +131,13 @@ fn work_on<'p, R: Wait, G: Gate, O: Outlet>(
 ) -> Result<bool, OutOfMemory>
     requires suits { O.Found.suits job.now.problem.now }
     requires seat { CanWork job.now.pool.now job.now.problem.now seat.old }
-    requires stands { Stands O.takes O.breaks O.welcome O.faults job.now.start.now.value job.now.problem.now seat.old out.old told.old }
+    requires stands { Stands O.Outlet job.now seat.old out.old told.old }
     ensures leads { told.new.leads ≡ told.old.leads }
-    ensures done { IfOk result (λ done. done ≡ true
-        → Ended (Stands O.takes O.breaks O.welcome O.faults job.now.start.now.value job.now.problem.now seat.new out.new told.new) job.now.problem.now seat.old
-        seat.new) }
-    ensures left { IfOk result (λ done. done ≡ false → Leaves
-        (Stopped O.takes O.breaks O.welcome O.faults job.now.start.now.value job.now.problem.now out.new told.new) (WasRefused told.new) seat.old seat.new) }
-    ensures failed { OnErr result (Stays (Stands O.takes O.breaks O.welcome O.faults job.now.start.now.value job.now.problem.now seat.new out.new told.new)
-        seat.old seat.new) }
+    ensures done { IfOk result (λ done. done ≡ true → Ended
+        (Stands O.Outlet job.now seat.new out.new told.new) job.now.problem.now seat.old seat.new) }
+    ensures left { IfOk result (λ done. done ≡ false → Leaves (Stopped O.Outlet job.now out.new told.new)
+        (WasRefused told.new) seat.old seat.new) }
+    ensures failed { OnErr result (Stays (Stands O.Outlet job.now seat.new out.new told.new) seat.old seat.new) }
 {
     let mut kept = None;
     let done = work_with(job, gate, &mut kept, seat, told, out);
@@ -162,15 +156,13 @@ pub(crate) fn work_as<'p, R: Wait, G: Gate, O: Outlet>(
 ) -> (Result<bool, OutOfMemory>, AllWoken<Offer<'p, O::Found>>)
     requires suits { O.Found.suits job.now.problem.now }
     requires seat { CanWork job.now.pool.now job.now.problem.now seat.old }
-    requires stands { Stands O.takes O.breaks O.welcome O.faults job.now.start.now.value job.now.problem.now seat.old out.old told.old }
+    requires stands { Stands O.Outlet job.now seat.old out.old told.old }
     ensures leads { told.new.leads ≡ told.old.leads }
-    ensures done { IfOk result.0 (λ done. done ≡ true
-        → Ended (Stands O.takes O.breaks O.welcome O.faults job.now.start.now.value job.now.problem.now seat.new out.new told.new) job.now.problem.now seat.old
-        seat.new) }
-    ensures left { IfOk result.0 (λ done. done ≡ false → Leaves
-        (Stopped O.takes O.breaks O.welcome O.faults job.now.start.now.value job.now.problem.now out.new told.new) (WasRefused told.new) seat.old seat.new) }
-    ensures failed { OnErr result.0 (Fails (Stopped O.takes O.breaks O.welcome O.faults job.now.start.now.value job.now.problem.now out.new told.new) seat.old
-        seat.new) }
+    ensures done { IfOk result.0 (λ done. done ≡ true → Ended
+        (Stands O.Outlet job.now seat.new out.new told.new) job.now.problem.now seat.old seat.new) }
+    ensures left { IfOk result.0 (λ done. done ≡ false → Leaves (Stopped O.Outlet job.now out.new told.new)
+        (WasRefused told.new) seat.old seat.new) }
+    ensures failed { OnErr result.0 (Fails (Stopped O.Outlet job.now out.new told.new) seat.old seat.new) }
     ensures woken { result.1 ≡ seat.new.mine.turns }
 {
     match work_on(job, gate, seat, told, out) {

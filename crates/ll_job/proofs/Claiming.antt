@@ -1,34 +1,34 @@
 -- How a claim goes, and how a worker goes on from it.
-use Rattle.std.proofs.Common.{◌≡◌, ℕ, Bool, refl, ap, ◌∙◌, inl, inr, Some, None}
+use Rattle.std.proofs.Common.{◌≡◌, refl, ap, ◌∙◌, inl, inr, Some, None}
 use Rattle.ll_laws.specs.declared.Event.{Event}
 use Rattle.ll_laws.specs.Pool.{PoolData}
 use Rattle.ll_laws.specs.CoreEvents.{Starve, Does}
 use Rattle.ll_core.specs.Calls.{ClaimsAs}
 use Rattle.ll_core.specs.declared.answers.Claimed.{Claimed}
 use Rattle.ll_core.specs.declared.answers.Claimed.TheVariants.{Finished, Starved, Stopped}
+use Rattle.ll_order.specs.declared.outlet.Outlet.{Ghosts}
 use Rattle.ll_pool.specs.Turns.{OneTurn}
 use Rattle.ll_laws.specs.Problem.{ProblemTree}
 use Rattle.ll_freeze.specs.Frozen.{FrozenSight, alternatives_in}
 use Rattle.ll_job.specs.Seats.{Sat, asked, of_batch, HasLeft}
-use Rattle.ll_job.specs.Leading.{Stands, WasRefused}
-use Rattle.ll_job.specs.Leading as leading
+use Rattle.ll_job.specs.Leading.{StandsOf, StoppedOf, WasRefused}
 use Rattle.ll_job.specs.Turns.{Stays, Goes, Leaves, Ended, Fails}
 use Rattle.ll_job.specs.declared.lead.Told.{Told}
 use Rattle.ll_job.proofs.Calms.{same_itself, same_on, turn_same, turn_seen, seen_sound, calm_claim}
 use Rattle.ll_job.proofs.Goings.{stands_calm, prefix_stands}
 
-module _ {O : Type 0} (takes breaks : O → Event → O → Type 0) (welcome : O → Event → Type 0) (faults : O → ℕ) (start : O) (problem : ProblemTree) where
+module _ {O F : Type 0} (ways : Ghosts O F) (start : O) (problem : ProblemTree) where
   abbrev Standing : Sat → O → Told → Type 0
-  Standing = Stands takes breaks welcome faults start problem
+  Standing = StandsOf ways start problem
 
   abbrev Stopping : O → Told → Type 0
-  Stopping = leading.Stopped takes breaks welcome faults start problem
+  Stopping = StoppedOf ways start problem
 
   module _ (answer : Claimed FrozenSight) (s a : Sat) (out : O) (told : Told)
       (t : OneTurn of_batch alternatives_in (λ found left. ClaimsAs alternatives_in found s.mine.worker answer left) s a)
       (is : s.problem ≡ Some (asked problem)) (st : Standing s out told) where
     pub claim_stands : Standing a out told
-    claim_stands = stands_calm takes breaks welcome faults start problem s a out told is (calm_claim answer s a t) st
+    claim_stands = stands_calm ways start problem s a out told is (calm_claim answer s a t) st
 
     pub claim_stays : Stays (Standing a out told) s a
     claim_stays = let c = calm_claim answer s a t in record { same = c.same; quit = c.quit; stands = claim_stands }
@@ -39,7 +39,7 @@ module _ {O : Type 0} (takes breaks : O → Event → O → Type 0) (welcome : O
       left = left;
       quit = λ f. c.quit;
       stopped =
-          prefix_stands takes breaks welcome faults start problem a out told claim_stands;
+          prefix_stands ways start problem a out told claim_stands;
     }
 
   pub claim_starved : (s a : Sat) (out : O) (told : Told) → OneTurn of_batch alternatives_in
@@ -93,12 +93,12 @@ ended_on x y problem s a b f g = record {
 }
 
 -- want of memory: the pool is starved
-pub starve_fails : {O : Type 0} (takes breaks : O → Event → O → Type 0) (welcome : O → Event → Type 0) (faults : O
-    → ℕ) (start : O) (problem : ProblemTree) (s a b : Sat) (out : O) (told : Told) → Stays (Stands takes breaks welcome faults start problem a out told) s a
+pub starve_fails : {O F : Type 0} (ways : Ghosts O F) (start : O) (problem : ProblemTree) (s a b : Sat) (out : O) (told : Told)
+    → Stays (StandsOf ways start problem a out told) s a
     → OneTurn of_batch alternatives_in (λ found left. Does alternatives_in found (Starve a.mine.worker) left) a b
-    → Fails (leading.Stopped takes breaks welcome faults start problem out told) s b
-starve_fails takes breaks welcome faults start problem s a b out told f t = record {
+    → Fails (StoppedOf ways start problem out told) s b
+starve_fails ways start problem s a b out told f t = record {
   same = same_on s a b f.same (turn_same _ a b t);
   starved = ap (λ (p : PoolData FrozenSight Event). p.starved) (turn_seen _ a b t ∙ t.changed);
-  stopped = prefix_stands takes breaks welcome faults start problem a out told f.stands;
+  stopped = prefix_stands ways start problem a out told f.stands;
 }

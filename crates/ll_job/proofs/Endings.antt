@@ -12,6 +12,7 @@ use Rattle.ll_laws.specs.Search.{cut_count, is_answer, is_reached}
 use Rattle.ll_laws.specs.Sound.{Every, Sound}
 use Rattle.ll_laws.specs.CoreEvents.{opening, reports_left}
 use Rattle.ll_core.proofs.CallerLemmas.{opening_sound, cut_sum, cut_twice, every_back, opening_given, all_events, all_costs, nothing_comes, given_later}
+use Rattle.ll_order.specs.declared.outlet.Outlet.{Ghosts}
 use Rattle.ll_order.specs.Outlets.{Rose, Gives, GivesPrefix, Refuses, CountsOf, events_left, cost_left}
 use Rattle.ll_order.specs.declared.outlet.OutFault.{OutFault}
 use Rattle.ll_order.specs.declared.outlet.OutFault.TheVariants.{Write}
@@ -22,16 +23,16 @@ use Rattle.ll_laws.specs.Problem.{ProblemTree}
 use Rattle.ll_freeze.specs.Frozen.{FrozenSight, problem_owes, alternatives_in}
 use Rattle.ll_job.specs.Alternatives.{events_in, cost_in}
 use Rattle.ll_job.specs.Seats.{Sat, asked, of_batch, IsSound}
-use Rattle.ll_job.specs.Leading.{Kept, Leads, Broke, Stands, Stopped, PrefixGiven}
+use Rattle.ll_job.specs.Leading.{Kept, Leads, Broke, StandsOf, StoppedOf, PrefixGiven}
 use Rattle.ll_job.specs.Turns.{Ended}
 use Rattle.ll_job.specs.declared.lead.Told.{Told}
 use Rattle.ll_job.proofs.Leadings.{kept_itself}
 
-module _ {O : Type 0} (takes breaks : O → Event → O → Type 0) (welcome : O → Event → Type 0) (faults : O → ℕ) (start : O) (problem : ProblemTree) where
+module _ {O F : Type 0} (ways : Ghosts O F) (start : O) (problem : ProblemTree) where
   -- a new pool, from which nothing was taken
   pub leads_first : (root : FrozenSight) (workers : ℕ) (counts : Counts) → alternatives_in root ≡ problem_owes problem ∷ [] → of_batch root ≡ problem
-      → counts.answers ≡ 0 → counts.reached ≡ 0 → counts.inferences ≡ 0 → Every (welcome start) (problem_owes problem).events
-      → Leads takes breaks welcome faults start problem (opening root workers) start counts
+      → counts.answers ≡ 0 → counts.reached ≡ 0 → counts.inferences ≡ 0 → Every (ways.welcome start) (problem_owes problem).events
+      → Leads ways start problem (opening root workers) start counts
   leads_first root workers counts owes of a r i wanted = record {
     sound = subst (λ (o : ProblemTree). Sound of_batch alternatives_in (opening root workers) o (problem_owes problem)) of
         (opening_sound alternatives_in of_batch root workers (problem_owes problem) owes);
@@ -40,15 +41,15 @@ module _ {O : Type 0} (takes breaks : O → Event → O → Type 0) (welcome : O
     given = refl;
     counted = (a, r, i);
     wanted = wanted;
-    kept = kept_itself takes breaks welcome faults start;
+    kept = kept_itself ways start;
   }
 
   module _ (out : O) (counts : Counts) where
     -- the pool that is closed is as far as the seat had seen
     pub leads_closed : (seat : Sat) (closed : PoolData FrozenSight Event) → Fits of_batch alternatives_in closed seat.problem seat.mine
         → seat.problem ≡ Some (asked problem) → seat.mine.worker ≡ 0
-        → seat.mine.seen.untried ≡ 0 → seat.mine.seen.busy ≡ 0 → (l : Leads takes breaks welcome faults start problem seat.mine.seen out counts)
-        → (closed.untried ≡ 0) × (closed.busy ≡ 0) × Leads takes breaks welcome faults start problem closed out counts
+        → seat.mine.seen.untried ≡ 0 → seat.mine.seen.busy ≡ 0 → (l : Leads ways start problem seat.mine.seen out counts)
+        → (closed.untried ≡ 0) × (closed.busy ≡ 0) × Leads ways start problem closed out counts
     leads_closed seat closed f is zero untried busy l =
         let same : f.asked ≡ asked problem = some_same f.asked (asked problem) (sym f.is_asked ∙ is) in
         let sound : IsSound closed problem = subst (λ (a : PoolProblem ProblemTree). Sound of_batch alternatives_in closed a.of a.owes) same f.sound in
@@ -67,7 +68,7 @@ module _ {O : Type 0} (takes breaks : O → Event → O → Type 0) (welcome : O
           },
         )
 
-    module _ (p : PoolData FrozenSight Event) (untried : p.untried ≡ 0) (busy : p.busy ≡ 0) (l : Leads takes breaks welcome faults start problem p out counts)
+    module _ (p : PoolData FrozenSight Event) (untried : p.untried ≡ 0) (busy : p.busy ≡ 0) (l : Leads ways start problem p out counts)
       where
         -- what was given and what is left is all that the problem owes
         whole : events_in l.reports ++ events_left alternatives_in p ≡ (problem_owes problem).events
@@ -78,18 +79,19 @@ module _ {O : Type 0} (takes breaks : O → Event → O → Type 0) (welcome : O
         whole_cost = ap cut_count (sym (sum_by-append (λ (o : Owed Event). o.cost) l.reports (reports_left alternatives_in p)))
             ∙ all_costs of_batch alternatives_in p problem (problem_owes problem) l.sound untried busy l.reports l.taken
 
-        pub welcome_left : Every (welcome out) (events_left alternatives_in p)
-        welcome_left = every_back (welcome out) (events_in l.reports) (events_left alternatives_in p) (subst (Every (welcome out)) (sym whole) l.wanted)
+        pub welcome_left : Every (ways.welcome out) (events_left alternatives_in p)
+        welcome_left = every_back (ways.welcome out) (events_in l.reports) (events_left alternatives_in p)
+            (subst (Every (ways.welcome out)) (sym whole) l.wanted)
 
-        pub given_whole : (out' : O) → Gives takes out (events_left alternatives_in p) out' → Gives takes start (problem_owes problem).events out'
-        given_whole out' g = subst (λ es. Gives takes start es out') whole
-            (gives_more takes breaks start out out' (events_in l.reports) (events_left alternatives_in p) l.given g)
+        pub given_whole : (out' : O) → Gives ways.takes out (events_left alternatives_in p) out' → Gives ways.takes start (problem_owes problem).events out'
+        given_whole out' g = subst (λ es. Gives ways.takes start es out') whole
+            (gives_more ways.takes ways.breaks start out out' (events_in l.reports) (events_left alternatives_in p) l.given g)
 
-        pub refused_whole : (out' : O) → Refuses takes breaks out (events_left alternatives_in p) out'
-            → Refuses takes breaks start (problem_owes problem).events out'
-        refused_whole out' r = subst (λ es. Refuses takes breaks start es out')
+        pub refused_whole : (out' : O) → Refuses ways.takes ways.breaks out (events_left alternatives_in p) out'
+            → Refuses ways.takes ways.breaks start (problem_owes problem).events out'
+        refused_whole out' r = subst (λ es. Refuses ways.takes ways.breaks start es out')
             (ap (λ es. events_in l.reports ++ es) (append-nil (events_left alternatives_in p)) ∙ whole)
-            (refuses_more takes breaks start out out' (events_in l.reports) (events_left alternatives_in p) [] l.given r)
+            (refuses_more ways.takes ways.breaks start out out' (events_in l.reports) (events_left alternatives_in p) [] l.given r)
 
         one_count : (a b sum : ℕ) (xs ys : List Event) (test : Event → Bool) → a ≡ cut_count (count_by test xs) → b ≡ cut_count (count_by test ys)
             → sum ≡ cut_count (a + b) → sum ≡ cut_count (count_by test (xs ++ ys))
@@ -123,38 +125,37 @@ same_of (Err e) ended left failed same f g h a b c = h c
 pub ended_of : {E : Type 0} (result : Result Bool E) (x : Bool) (ended : Type 0) → result ≡ Ok x → x ≡ true → IfOk result (λ d. d ≡ true → ended) → ended
 ended_of result x ended e t a = subst (λ (r : Result Bool _). IfOk r (λ d. d ≡ true → ended)) e a t
 
-module _ {O : Type 0} (takes breaks : O → Event → O → Type 0) (welcome : O → Event → Type 0) (faults : O
-    → ℕ) (start : O) (problem : ProblemTree) (out : O) (told : Told) where
+module _ {O F : Type 0} (ways : Ghosts O F) (start : O) (problem : ProblemTree) (out : O) (told : Told) where
   pub closed_leads : (a b c : Sat) (closed : PoolData FrozenSight Event) → a.problem ≡ Some (asked problem) → a.mine.worker ≡ 0 → told.leads ≡ true
-      → Ended (Stands takes breaks welcome faults start problem b out told) problem a b
+      → Ended (StandsOf ways start problem b out told) problem a b
       → c.problem ≡ b.problem → c.mine ≡ b.mine → Fits of_batch alternatives_in closed c.problem c.mine
-      → (closed.untried ≡ 0) × (closed.busy ≡ 0) × Leads takes breaks welcome faults start problem closed out told.counts
+      → (closed.untried ≡ 0) × (closed.busy ≡ 0) × Leads ways start problem closed out told.counts
   closed_leads a b c closed is zero leads e problem_is mine_is f =
       let s = e.stays in let same = s.same in let st = s.stands leads in
-      let l' : Leads takes breaks welcome faults start problem c.mine.seen out told.counts =
-      subst (λ m. Leads takes breaks welcome faults start problem m.seen out told.counts) (sym mine_is) st.2 in
-      leads_closed takes breaks welcome faults start problem out told.counts c closed f (problem_is ∙ (same.problem ∙ is))
+      let l' : Leads ways start problem c.mine.seen out told.counts =
+      subst (λ m. Leads ways start problem m.seen out told.counts) (sym mine_is) st.2 in
+      leads_closed ways start problem out told.counts c closed f (problem_is ∙ (same.problem ∙ is))
       (ap (λ m. m.worker) mine_is ∙ (same.worker ∙ zero)) (ap (λ m. m.seen.untried) mine_is ∙ e.untried) (ap (λ m. m.seen.busy) mine_is ∙ e.busy) l'
 
   -- ---- what a worker that stopped has given
 
-  pub stopped_kept : told.leads ≡ true → Stopped takes breaks welcome faults start problem out told → Kept takes breaks welcome faults start out
+  pub stopped_kept : told.leads ≡ true → StoppedOf ways start problem out told → Kept ways start out
   stopped_kept leads s = (s leads).0
 
-  prefix_by : (f : Option OutFault) → MatchOption f (PrefixGiven takes breaks welcome faults start problem out)
-      (λ fault. Broke takes breaks welcome faults start problem out fault) → GivesPrefix takes breaks start (problem_owes problem).events out
+  prefix_by : (f : Option OutFault) → MatchOption f (PrefixGiven ways start problem out)
+      (λ fault. Broke ways start problem out fault) → GivesPrefix ways.takes ways.breaks start (problem_owes problem).events out
   prefix_by None h = inl h
   prefix_by (Some fault) h = inr h.refused
 
-  pub stopped_prefix : told.leads ≡ true → Stopped takes breaks welcome faults start problem out told
-      → GivesPrefix takes breaks start (problem_owes problem).events out
+  pub stopped_prefix : told.leads ≡ true → StoppedOf ways start problem out told
+      → GivesPrefix ways.takes ways.breaks start (problem_owes problem).events out
   stopped_prefix leads s = prefix_by told.fault (s leads).1
 
-  pub stopped_write : (fault : OutFault) → told.leads ≡ true → told.fault ≡ Some fault → Stopped takes breaks welcome faults start problem out told
-      → fault ≡ Write → Rose (faults start) (faults out)
+  pub stopped_write : (fault : OutFault) → told.leads ≡ true → told.fault ≡ Some fault → StoppedOf ways start problem out told
+      → fault ≡ Write → Rose (ways.faults start) (ways.faults out)
   stopped_write fault leads is s =
-      let b = subst (λ f. MatchOption f (PrefixGiven takes breaks welcome faults start problem out)
-      (λ fault. Broke takes breaks welcome faults start problem out fault)) is (s leads).1 in b.write
+      let b = subst (λ f. MatchOption f (PrefixGiven ways start problem out)
+      (λ fault. Broke ways start problem out fault)) is (s leads).1 in b.write
 
 -- what holds where the work was left or failed, holds where it did not come to the end
 pub left_or_failed : {E : Type 0} (done : Result Bool E) (X : Type 0) → (done ≡ Ok true → ⊥) → IfOk done (λ d. d ≡ false → X) → OnErr done X → X

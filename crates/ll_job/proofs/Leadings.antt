@@ -15,6 +15,7 @@ use Rattle.ll_core.specs.declared.answers.Ready.{Ready as ReadyCall}
 use Rattle.ll_core.specs.declared.answers.Ready.TheVariants as ready
 use Rattle.ll_core.proofs.CallerLemmas.{every_more, cut_sum, cut_twice, every_back, every_front, step_given, given_in_front, given_later}
 use Rattle.ll_core.specs.Given.{Given}
+use Rattle.ll_order.specs.declared.outlet.Outlet.{Ghosts}
 use Rattle.ll_order.specs.Outlets.{Rose, Gives, Refuses, CountsOf}
 use Rattle.ll_order.specs.declared.outlet.OutFault.{OutFault}
 use Rattle.ll_order.specs.declared.outlet.OutFault.TheVariants.{Write}
@@ -50,22 +51,21 @@ counts_on counts new events more cost plus c a r i = (
     zero_plus : (n : ℕ) → n ≡ 0 + n
     zero_plus n = omega arith
 
-module _ {O : Type 0} (takes breaks : O → Event → O → Type 0) (welcome : O → Event → Type 0) (faults : O → ℕ) where
-  pub kept_itself : (out : O) → Kept takes breaks welcome faults out out
+module _ {O F : Type 0} (ways : Ghosts O F) where
+  pub kept_itself : (out : O) → Kept ways out out
   kept_itself out = record { no_fewer = omega arith; same_welcome = λ e. ((λ h. h), (λ h. h)) }
 
-  pub kept_on : (start out out' : O) → Kept takes breaks welcome faults start out → faults out ≤ faults out' → ((e : Event) → welcome out e ↔ welcome out' e)
-      → Kept takes breaks welcome faults start out'
+  pub kept_on : (start out out' : O) → Kept ways start out → ways.faults out ≤ ways.faults out' → ((e : Event) → ways.welcome out e ↔ ways.welcome out' e)
+      → Kept ways start out'
   kept_on start out out' k low same = record {
     no_fewer = le_trans k.no_fewer low;
     same_welcome = λ e. let a = k.same_welcome e in let b = same e in
         ((λ h. b.0 (a.0 h)), (λ h. a.1 (b.1 h)));
   }
 
-module _ {O : Type 0} (takes breaks : O → Event → O → Type 0) (welcome : O → Event → Type 0) (faults : O
-    → ℕ) (start : O) (problem : ProblemTree) (out : O) (counts : Counts) where
+module _ {O F : Type 0} (ways : Ghosts O F) (start : O) (problem : ProblemTree) (out : O) (counts : Counts) where
   pub leads_calm : (a b : Sat) → a.problem ≡ Some (asked problem) → a.mine.worker ≡ 0 → Calm a b
-      → Leads takes breaks welcome faults start problem a.mine.seen out counts → Leads takes breaks welcome faults start problem b.mine.seen out counts
+      → Leads ways start problem a.mine.seen out counts → Leads ways start problem b.mine.seen out counts
   leads_calm a b is zero c l = record {
     sound = c.sound problem is l.sound;
     reports = l.reports;
@@ -79,7 +79,7 @@ module _ {O : Type 0} (takes breaks : O → Event → O → Type 0) (welcome : O
 
   module _ (a b : Sat) (report : Owed Event) (t : OneTurn of_batch alternatives_in (λ found left. Does alternatives_in found (Ready (Events report)) left) a b)
       (is : a.problem ≡ Some (asked problem)) (zero : a.mine.worker ≡ 0)
-      (l : Leads takes breaks welcome faults start problem a.mine.seen out counts) where
+      (l : Leads ways start problem a.mine.seen out counts) where
     taken_found : Given of_batch alternatives_in t.found l.reports
     taken_found =
         let f = t.fits in
@@ -107,16 +107,17 @@ module _ {O : Type 0} (takes breaks : O → Event → O → Type 0) (welcome : O
         (p.0, p.1 ∙ (ap (λ x. x ++ p.0) (events_more l.reports report) ∙ append_assoc (events_in l.reports) report.events p.0))
 
     -- its events are welcome
-    pub welcome_now : Every (welcome out) report.events
-    welcome_now = every_front (welcome out) report.events parts.0
-        (every_back (welcome out) (events_in l.reports) (report.events ++ parts.0) (subst (Every (welcome out)) parts.1 l.wanted))
+    pub welcome_now : Every (ways.welcome out) report.events
+    welcome_now = every_front (ways.welcome out) report.events parts.0
+        (every_back (ways.welcome out) (events_in l.reports) (report.events ++ parts.0) (subst (Every (ways.welcome out)) parts.1 l.wanted))
 
     -- once they were given, all that is taken was given
-    pub leads_more : (out' : O) (counts' : Counts) → Gives takes out report.events out'
+    pub leads_more : (out' : O) (counts' : Counts) → Gives ways.takes out report.events out'
         → counts'.answers ≡ cut_count (counts.answers + count_by is_answer report.events)
         → counts'.reached ≡ cut_count (counts.reached + count_by is_reached report.events)
-        → counts'.inferences ≡ cut_count (counts.inferences + report.cost) → faults out ≤ faults out' → ((e : Event) → welcome out e ↔ welcome out' e)
-        → Leads takes breaks welcome faults start problem b.mine.seen out' counts'
+        → counts'.inferences ≡ cut_count (counts.inferences + report.cost) → ways.faults out ≤ ways.faults out'
+        → ((e : Event) → ways.welcome out e ↔ ways.welcome out' e)
+        → Leads ways start problem b.mine.seen out' counts'
     leads_more out' counts' gives answers reached inferences kept same =
         let one : sum_by (λ (o : Owed Event). o.cost) (report ∷ []) ≡ report.cost = omega arith in
         let cost : cost_in l.reports + report.cost ≡ cost_in (l.reports ++ report ∷ []) =
@@ -125,22 +126,23 @@ module _ {O : Type 0} (takes breaks : O → Event → O → Type 0) (welcome : O
           sound = after_sound;
           reports = l.reports ++ report ∷ [];
           taken = taken_now;
-          given = subst (λ es. Gives takes start es out') (sym (events_more l.reports report))
-              (gives_more takes breaks start out out' (events_in l.reports) report.events l.given gives);
+          given = subst (λ es. Gives ways.takes start es out') (sym (events_more l.reports report))
+              (gives_more ways.takes ways.breaks start out out' (events_in l.reports) report.events l.given gives);
           counted = subst (λ es. CountsOf counts' es (cost_in (l.reports ++ report ∷ []))) (sym (events_more l.reports report))
               (subst (CountsOf counts' (events_in l.reports ++ report.events)) cost
               (counts_on counts counts' (events_in l.reports) report.events (cost_in l.reports) report.cost l.counted answers reached inferences));
-          wanted = every_more (welcome out) (welcome out') (problem_owes problem).events (λ e h. (same e).0 h) l.wanted;
-          kept = kept_on takes breaks welcome faults start out out' l.kept kept same;
+          wanted = every_more (ways.welcome out) (ways.welcome out') (problem_owes problem).events (λ e h. (same e).0 h) l.wanted;
+          kept = kept_on ways start out out' l.kept kept same;
         }
 
     -- what the outlet refused is the next of the problem's events
-    pub broke_now : (out' : O) (fault : OutFault) → Refuses takes breaks out report.events out' → (fault ≡ Write → Rose (faults out) (faults out'))
-        → Broke takes breaks welcome faults start problem out' fault
+    pub broke_now : (out' : O) (fault : OutFault) → Refuses ways.takes ways.breaks out report.events out'
+        → (fault ≡ Write → Rose (ways.faults out) (ways.faults out'))
+        → Broke ways start problem out' fault
     broke_now out' fault refuses rose = record {
-      refused = subst (λ es. Refuses takes breaks start es out') (sym parts.1)
-          (refuses_more takes breaks start out out' (events_in l.reports) report.events parts.0 l.given refuses);
-      write = λ e. (let k = l.kept in Rose-later (faults start) (faults out) (faults out') k.no_fewer (rose e));
+      refused = subst (λ es. Refuses ways.takes ways.breaks start es out') (sym parts.1)
+          (refuses_more ways.takes ways.breaks start out out' (events_in l.reports) report.events parts.0 l.given refuses);
+      write = λ e. (let k = l.kept in Rose-later (ways.faults start) (ways.faults out) (ways.faults out') k.no_fewer (rose e));
     }
 
 -- ---- turns that take no report, and those that end the work

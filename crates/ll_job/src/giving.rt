@@ -5,7 +5,7 @@ ghost use Rattle.ll_laws.specs.Search.{cut_count, is_answer, is_reached};
 ghost use Rattle.ll_laws.specs.Sound.{Every};
 ghost use Rattle.ll_order.specs.Outlets.{Rose, Gives, GivesPrefix, Refuses, CountsOf};
 ghost use Rattle.ll_job.specs.declared.fault.CrewFault.{CrewFault};
-ghost use Rattle.ll_job.specs.Leading.{Kept, Leads, Stopped};
+ghost use Rattle.ll_job.specs.Leading.{Kept, Leads, StoppedOf};
 
 use crate::fault::{CrewFault, fault_of};
 use crate::lead::Told;
@@ -29,7 +29,7 @@ pub fn give_some<O: Outlet>(
     ensures reached { IfOk result (λ new. new.reached ≡ cut_count (counts.reached + count_by is_reached (map O.Found.stands_for events.items))) }
     ensures refused { OnErr result (GivesPrefix O.takes O.breaks out.old (map O.Found.stands_for events.items) out.new) }
     ensures write { result ≡ Err CrewFault.Write → Rose (O.faults out.old) (O.faults out.new) }
-    ensures kept { Kept O.takes O.breaks O.welcome O.faults out.old out.new }
+    ensures kept { Kept O.Outlet out.old out.new }
 {
     match give(events, out, counts) {
         Ok(counts) => Ok(counts),
@@ -59,12 +59,12 @@ fn give_rest<'p, O: Outlet>(
     out: &mut O,
 ) -> Result<Counts, CrewFault>
     requires done { (pool.untried ≡ 0) × (pool.busy ≡ 0) }
-    requires leads { Leads O.takes O.breaks O.welcome O.faults start.now.value problem.now pool out.old counts }
+    requires leads { Leads O.Outlet start.now.value problem.now pool out.old counts }
     ensures given { OnOk result (Gives O.takes start.now.value (problem_events problem.entry.now) out.new) }
     ensures counts { IfOk result (λ counts. CountsOf counts (problem_events problem.entry.now) (problem_cost problem.entry.now)) }
     ensures refused { OnErr result (Refuses O.takes O.breaks start.now.value (problem_events problem.entry.now) out.new) }
     ensures write { result ≡ Err CrewFault.Write → Rose (O.faults start.now.value) (O.faults out.new) }
-    ensures kept { Kept O.takes O.breaks O.welcome O.faults start.now.value out.new }
+    ensures kept { Kept O.Outlet start.now.value out.new }
 {
     let _problem = problem;
     match drain(&mut pool, out) {
@@ -84,14 +84,14 @@ pub fn finish<'p, O: Outlet>(
 ) -> Result<Counts, CrewFault>
     requires leads { told.now.leads ≡ true }
     requires done { done ≡ Ok true → (pool.untried ≡ 0) × (pool.busy ≡ 0)
-        × Leads O.takes O.breaks O.welcome O.faults start.now.value problem.now pool out.old told.now.counts }
-    requires left { IfOk done (λ done. done ≡ false → Stopped O.takes O.breaks O.welcome O.faults start.now.value problem.now out.old told.now) }
-    requires failed { OnErr done (Stopped O.takes O.breaks O.welcome O.faults start.now.value problem.now out.old told.now) }
+        × Leads O.Outlet start.now.value problem.now pool out.old told.now.counts }
+    requires left { IfOk done (λ done. done ≡ false → StoppedOf O.Outlet start.now.value problem.now out.old told.now) }
+    requires failed { OnErr done (StoppedOf O.Outlet start.now.value problem.now out.old told.now) }
     ensures given { OnOk result (Gives O.takes start.now.value (problem_events problem.entry.now) out.new) }
     ensures counts { IfOk result (λ counts. CountsOf counts (problem_events problem.entry.now) (problem_cost problem.entry.now)) }
     ensures refused { OnErr result (GivesPrefix O.takes O.breaks start.now.value (problem_events problem.entry.now) out.new) }
     ensures write { result ≡ Err CrewFault.Write → Rose (O.faults start.now.value) (O.faults out.new) }
-    ensures kept { Kept O.takes O.breaks O.welcome O.faults start.now.value out.new }
+    ensures kept { Kept O.Outlet start.now.value out.new }
 {
     if let Ok(true) = done {
         return give_rest(problem, pool, start, told.counts, out);

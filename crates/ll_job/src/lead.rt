@@ -90,11 +90,10 @@ fn tell_all<'p, R: Wait, O: Outlet>(
 ) -> bool
     requires seat { IsSeat job.now.pool.now job.now.problem.now seat.old }
     requires leads { told.old.leads ≡ true }
-    requires stands { Stands O.takes O.breaks O.welcome O.faults job.now.start.now.value job.now.problem.now seat.old out.old told.old }
+    requires stands { Stands O.Outlet job.now seat.old out.old told.old }
     ensures leads { told.new.leads ≡ true }
-    ensures on { result ≡ true → Goes (Stands O.takes O.breaks O.welcome O.faults job.now.start.now.value job.now.problem.now seat.new out.new told.new)
-        seat.old seat.new }
-    ensures left { result ≡ false → Leaves (Stopped O.takes O.breaks O.welcome O.faults job.now.start.now.value job.now.problem.now out.new told.new)
+    ensures on { result ≡ true → Goes (Stands O.Outlet job.now seat.new out.new told.new) seat.old seat.new }
+    ensures left { result ≡ false → Leaves (Stopped O.Outlet job.now out.new told.new)
         (WasRefused told.new) seat.old seat.new }
     ensures turns { seat.old.mine.turns ≤ seat.new.mine.turns }
 {
@@ -129,11 +128,10 @@ pub fn tell<'p, R: Wait, O: Outlet>(
     out: &mut O,
 ) -> bool
     requires seat { IsSeat job.now.pool.now job.now.problem.now seat.old }
-    requires stands { Stands O.takes O.breaks O.welcome O.faults job.now.start.now.value job.now.problem.now seat.old out.old told.old }
+    requires stands { Stands O.Outlet job.now seat.old out.old told.old }
     ensures leads { told.new.leads ≡ told.old.leads }
-    ensures on { result ≡ true → Goes (Stands O.takes O.breaks O.welcome O.faults job.now.start.now.value job.now.problem.now seat.new out.new told.new)
-        seat.old seat.new }
-    ensures left { result ≡ false → Leaves (Stopped O.takes O.breaks O.welcome O.faults job.now.start.now.value job.now.problem.now out.new told.new)
+    ensures on { result ≡ true → Goes (Stands O.Outlet job.now seat.new out.new told.new) seat.old seat.new }
+    ensures left { result ≡ false → Leaves (Stopped O.Outlet job.now out.new told.new)
         (WasRefused told.new) seat.old seat.new }
     ensures turns { seat.old.mine.turns ≤ seat.new.mine.turns }
 {
@@ -152,12 +150,11 @@ pub fn look<'p, R: Wait, O: Outlet>(
     out: &mut O,
 ) -> Option<Look>
     requires seat { IsSeat job.now.pool.now job.now.problem.now seat.old }
-    requires stands { Stands O.takes O.breaks O.welcome O.faults job.now.start.now.value job.now.problem.now seat.old out.old told.old }
+    requires stands { Stands O.Outlet job.now seat.old out.old told.old }
     ensures leads { told.new.leads ≡ told.old.leads }
-    ensures on { IsSome result → Goes (Stands O.takes O.breaks O.welcome O.faults job.now.start.now.value job.now.problem.now seat.new out.new told.new)
-        seat.old seat.new }
+    ensures on { IsSome result → Goes (Stands O.Outlet job.now seat.new out.new told.new) seat.old seat.new }
     ensures running { IfSome result (λ look. (look.starved ≡ false) × (look.stopped ≡ false)) }
-    ensures left { IsNone result → Leaves (Stopped O.takes O.breaks O.welcome O.faults job.now.start.now.value job.now.problem.now out.new told.new)
+    ensures left { IsNone result → Leaves (Stopped O.Outlet job.now out.new told.new)
         (WasRefused told.new) seat.old seat.new }
 {
     let look = job.pool.look(job.rt, seat);
@@ -180,13 +177,13 @@ pub fn report<'p, R: Wait, O: Outlet>(
     out: &mut O,
 ) -> bool
     requires seat { IsSeat job.now.pool.now job.now.problem.now seat.old }
-    requires stands { Stands O.takes O.breaks O.welcome O.faults job.now.start.now.value job.now.problem.now seat.old out.old told.old }
+    requires stands { Stands O.Outlet job.now seat.old out.old told.old }
     requires owes { IsSomeAnd seat.old.mine.piece (λ piece. record { events = map O.Found.stands_for events.items; cost = inferences }
         ≡ report_of piece.owes) }
     ensures leads { told.new.leads ≡ told.old.leads }
-    ensures done { result ≡ true → Stays (Stands O.takes O.breaks O.welcome O.faults job.now.start.now.value job.now.problem.now seat.new out.new told.new)
-        seat.old seat.new × (seat.new.mine.piece ≡ None) }
-    ensures left { result ≡ false → Leaves (Stopped O.takes O.breaks O.welcome O.faults job.now.start.now.value job.now.problem.now out.new told.new)
+    ensures done { result ≡ true → Stays (Stands O.Outlet job.now seat.new out.new told.new) seat.old seat.new ×
+        (seat.new.mine.piece ≡ None) }
+    ensures left { result ≡ false → Leaves (Stopped O.Outlet job.now out.new told.new)
         (WasRefused told.new) seat.old seat.new }
 {
     job.pool.report(job.rt, seat, Report { events, inferences });

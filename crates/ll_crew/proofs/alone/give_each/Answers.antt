@@ -6,12 +6,12 @@ use Rattle.ll_crew.proofs.alone.give_each.Goals as goal
 
 pub stretches-init : goal.stretches-init
 stretches-init g c =
-    alone_starts g.O.Outlet.takes g.O.Outlet.breaks g.O.Outlet.welcome g.O.Outlet.faults c.args.out.now c.args.engine.now.problem c.args.engine.now
+    alone_starts g.O.Outlet c.args.out.now c.args.engine.now.problem c.args.engine.now
     c.requires.starts c.requires.welcome
 
 pub give_some-requires-clause-welcome : goal.give_some-requires-clause-welcome
 give_some-requires-clause-welcome g c κs within =
-    alone_wants g.O.Outlet.takes g.O.Outlet.breaks g.O.Outlet.welcome g.O.Outlet.faults c.args.out.now c.args.engine.now.problem c.stretches.engine
+    alone_wants g.O.Outlet c.args.out.now c.args.engine.now.problem c.stretches.engine
     c.stretch.new.engine c.stretches.out c.stretches.counts c.stretches.invariant c.in-Ok.done (map g.O.Found.Notice.stands_for c.new-events.result.items)
     (map g.O.Found.Notice.stands_for c.stretch.new.events.items)
     (ap (map g.O.Found.Notice.stands_for) c.new-events.ensures.items) c.in-Ok.ensures
@@ -19,7 +19,7 @@ give_some-requires-clause-welcome g c κs within =
 pub stretches-preserved : goal.stretches-preserved
 stretches-preserved g c =
     let v = c.in-Ok-give_some.ensures in
-    alone_goes_on g.O.Outlet.takes g.O.Outlet.breaks g.O.Outlet.welcome g.O.Outlet.faults c.args.out.now c.args.engine.now.problem c.stretches.engine
+    alone_goes_on g.O.Outlet c.args.out.now c.args.engine.now.problem c.stretches.engine
     c.stretch.new.engine c.stretches.out c.stretches.counts c.stretches.invariant c.in-Ok.done (map g.O.Found.Notice.stands_for c.new-events.result.items)
     (map g.O.Found.Notice.stands_for c.stretch.new.events.items)
     (ap (map g.O.Found.Notice.stands_for) c.new-events.ensures.items) c.in-Ok.ensures c.give_some.new.out c.in-Ok-give_some.more v.given v.answers v.reached
@@ -27,7 +27,7 @@ stretches-preserved g c =
 
 pub returns-then-done-clause-given : goal.returns-then-done-clause-given
 returns-then-done-clause-given g c =
-    alone_ends g.O.Outlet.takes g.O.Outlet.breaks g.O.Outlet.welcome g.O.Outlet.faults c.args.out.now c.args.engine.now.problem c.stretches.engine
+    alone_ends g.O.Outlet c.args.out.now c.args.engine.now.problem c.stretches.engine
     c.stretch.new.engine c.stretches.out c.stretches.counts c.stretches.invariant c.in-Ok.done (map g.O.Found.Notice.stands_for c.new-events.result.items)
     (map g.O.Found.Notice.stands_for c.stretch.new.events.items)
     (ap (map g.O.Found.Notice.stands_for) c.new-events.ensures.items) c.in-Ok.ensures c.give_some.new.out c.in-Ok-give_some.ensures.given
@@ -35,14 +35,14 @@ returns-then-done-clause-given g c =
 
 pub returns-in-Err-clause-refused : goal.returns-in-Err-clause-refused
 returns-in-Err-clause-refused g c =
-    alone_breaks g.O.Outlet.takes g.O.Outlet.breaks g.O.Outlet.welcome g.O.Outlet.faults c.args.out.now c.args.engine.now.problem c.stretches.engine
+    alone_breaks g.O.Outlet c.args.out.now c.args.engine.now.problem c.stretches.engine
     c.stretch.new.engine c.stretches.out c.stretches.counts c.stretches.invariant c.in-Ok.done (map g.O.Found.Notice.stands_for c.new-events.result.items)
     (map g.O.Found.Notice.stands_for c.stretch.new.events.items)
     (ap (map g.O.Found.Notice.stands_for) c.new-events.ensures.items) c.in-Ok.ensures c.give_some.new.out c.in-Err.ensures.refused
 
 pub returns-in_default-clause-refused : goal.returns-in_default-clause-refused
 returns-in_default-clause-refused g c =
-    alone_prefix g.O.Outlet.takes g.O.Outlet.breaks g.O.Outlet.welcome g.O.Outlet.faults c.args.out.now c.args.engine.now.problem c.stretches.engine
+    alone_prefix g.O.Outlet c.args.out.now c.args.engine.now.problem c.stretches.engine
     c.stretches.out c.stretches.counts c.stretches.invariant
 
 pub returns-in_default-clause-write : goal.returns-in_default-clause-write
@@ -50,17 +50,17 @@ returns-in_default-clause-write g c = λ e. absurd (cc)
 
 pub returns-in_default-clause-kept : goal.returns-in_default-clause-kept
 returns-in_default-clause-kept g c =
-    alone_keeps g.O.Outlet.takes g.O.Outlet.breaks g.O.Outlet.welcome g.O.Outlet.faults c.args.out.now c.args.engine.now.problem c.stretches.engine
+    alone_keeps g.O.Outlet c.args.out.now c.args.engine.now.problem c.stretches.engine
     c.stretches.out c.stretches.counts c.stretches.invariant
 
 pub returns-in-Err-clause-kept : goal.returns-in-Err-clause-kept
 returns-in-Err-clause-kept g c =
-    alone_keeps_on g.O.Outlet.takes g.O.Outlet.breaks g.O.Outlet.welcome g.O.Outlet.faults c.args.out.now c.args.engine.now.problem c.stretches.engine
+    alone_keeps_on g.O.Outlet c.args.out.now c.args.engine.now.problem c.stretches.engine
     c.stretches.out c.stretches.counts c.stretches.invariant c.give_some.new.out c.give_some.ensures.kept
 
 pub returns-then-done-clause-kept : goal.returns-then-done-clause-kept
 returns-then-done-clause-kept g c =
-    alone_keeps_on g.O.Outlet.takes g.O.Outlet.breaks g.O.Outlet.welcome g.O.Outlet.faults c.args.out.now c.args.engine.now.problem c.stretches.engine
+    alone_keeps_on g.O.Outlet c.args.out.now c.args.engine.now.problem c.stretches.engine
     c.stretches.out c.stretches.counts c.stretches.invariant c.give_some.new.out c.give_some.ensures.kept
 
 pub returns-in_default-clause-given : goal.returns-in_default-clause-given

@@ -81,7 +81,7 @@ stretches-preserved g c =
     let last = c.in_ok-stretch.ensures in
     let less = last.less c.if-branch.false in (
       c.look.ensures.leads ∙ i.0,
-      goes_on g.O.Outlet.takes g.O.Outlet.breaks g.O.Outlet.welcome g.O.Outlet.faults c.args.job.now.start.now.value c.args.job.now.problem.now
+      goes_on g.O.Outlet c.args.job.now.start.now.value c.args.job.now.problem.now
           c.args.seat.now c.stretches.seat c.look.new.seat _ _ i.1 (c.look.ensures.on some),
       stretch_on c.in_ok-stretch.field-0 (map g.O.Found.Notice.stands_for c.args.events.now.items)
           (map g.O.Found.Notice.stands_for c.stretches.events.items) (map g.O.Found.Notice.stands_for c.stretch.new.events.items)

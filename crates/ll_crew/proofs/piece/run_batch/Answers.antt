@@ -19,9 +19,8 @@ loop-k-preserved g c =
     let one = (rw c.in-Some.is at c.in_ok-more.ensures.some) at.0 (ap (λ (b : FrozenSight). slice_get (alternatives_in b) c.loop-k.k) same ∙ at.1) in (
       c.run_one.ensures.leads ∙ i.0,
       c.in_ok-more.ensures.kept,
-      runs_more (Stands g.O.Outlet.takes g.O.Outlet.breaks g.O.Outlet.welcome g.O.Outlet.faults c.args.job.now.start.now.value c.args.job.now.problem.now
-          c.loop-k.seat c.loop-k.out c.loop-k.told) (Stands g.O.Outlet.takes g.O.Outlet.breaks g.O.Outlet.welcome g.O.Outlet.faults
-          c.args.job.now.start.now.value c.args.job.now.problem.now c.run_one.new.seat c.run_one.new.out c.run_one.new.told)
+      runs_more (Stands g.O.Outlet c.args.job.now
+          c.loop-k.seat c.loop-k.out c.loop-k.told) (Stands g.O.Outlet c.args.job.now c.run_one.new.seat c.run_one.new.out c.run_one.new.told)
           c.args.seat.now c.loop-k.seat c.run_one.new.seat (map g.O.Found.Notice.stands_for c.args.events.now.items) c.args.inferences
           (alternatives_in (arc_value c.args.batch.now)) c.loop-k.k
           at.0

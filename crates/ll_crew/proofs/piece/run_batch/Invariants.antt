@@ -11,7 +11,7 @@ abbrev pub invariant-loop-k : goal.invariant-loop-k
 invariant-loop-k g l =
     (l.told.leads ≡ l.initial.told.leads)
     × IsKeptOf l.job.problem.now l.kept
-    × RunsFirst (Stands g.O.Outlet.takes g.O.Outlet.breaks g.O.Outlet.welcome g.O.Outlet.faults l.job.start.now.value l.job.problem.now l.seat l.out l.told)
+    × RunsFirst (Stands g.O.Outlet l.job l.seat l.out l.told)
     l.initial.seat l.seat
     (map g.O.Found.Notice.stands_for l.initial.events.items) l.initial.inferences (alternatives_in (arc_value l.batch)) l.k
     (map g.O.Found.Notice.stands_for l.events.items) l.inferences

@@ -44,8 +44,7 @@ returns-clause-some g c =
     let alone = c.run_alone-done.ensures in let chosen = c.choose.ensures in
     chosen_holds
     (λ (x : Option ℕ). IfSome x (λ n. (owes : Owed Event) → slice_get (alternatives_in (arc_value c.args.batch)) c.args.k ≡ Some owes → RunsOne
-    (Stands g.O.Outlet.takes g.O.Outlet.breaks g.O.Outlet.welcome g.O.Outlet.faults c.args.job.now.start.now.value
-    c.args.job.now.problem.now c.run_alone-done.new.seat c.run_alone-done.new.out c.run_alone-done.new.told)
+    (Stands g.O.Outlet c.args.job.now c.run_alone-done.new.seat c.run_alone-done.new.out c.run_alone-done.new.told)
     c.args.seat.now c.run_alone-done.new.seat (map g.O.Found.Notice.stands_for c.args.events.now.items) owes
     (map g.O.Found.Notice.stands_for c.run_alone-done.new.events.items) n))
     c.run_alone-done.result c.choose.result (Some c.cost-inferences.result) None chosen.yes chosen.no chosen.failed
@@ -58,8 +57,7 @@ returns-clause-none g c =
     let alone = c.run_alone-done.ensures in let chosen = c.choose.ensures in
     chosen_holds
     (λ (x : Option ℕ). IfNone x (Leaves
-    (Stopped g.O.Outlet.takes g.O.Outlet.breaks g.O.Outlet.welcome g.O.Outlet.faults c.args.job.now.start.now.value
-    c.args.job.now.problem.now c.run_alone-done.new.out c.run_alone-done.new.told) (WasRefused c.run_alone-done.new.told) c.args.seat.now
+    (Stopped g.O.Outlet c.args.job.now c.run_alone-done.new.out c.run_alone-done.new.told) (WasRefused c.run_alone-done.new.told) c.args.seat.now
     c.run_alone-done.new.seat))
     c.run_alone-done.result c.choose.result (Some c.cost-inferences.result) None chosen.yes chosen.no chosen.failed
     (λ is. tt) (λ is. done_of _ c.run_alone-done.result false is alone.left refl)

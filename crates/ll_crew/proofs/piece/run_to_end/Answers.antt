@@ -17,9 +17,8 @@ use Rattle.ll_crew.proofs.piece.run_to_end.Goals as goal
 use Rattle.ll_crew.proofs.piece.run_to_end.Goals.{In-Back}
 
 came_back : (g : _) (c : In-Back g)
-    → RunsTo (Stands g.O.Outlet.takes g.O.Outlet.breaks g.O.Outlet.welcome g.O.Outlet.faults c.args.job.now.start.now.value
-    c.args.job.now.problem.now c.run.new.seat c.run.new.out c.run.new.told)
-    (Stopped g.O.Outlet.takes g.O.Outlet.breaks g.O.Outlet.welcome g.O.Outlet.faults c.args.job.now.start.now.value c.args.job.now.problem.now c.run.new.out
+    → RunsTo (Stands g.O.Outlet c.args.job.now c.run.new.seat c.run.new.out c.run.new.told)
+    (Stopped g.O.Outlet c.args.job.now c.run.new.out
     c.run.new.told)
     (WasRefused c.run.new.told) c.args.job.now.problem.now (Back c.in-Back.batch) c.args.seat.now c.run.new.seat
     (map g.O.Found.Notice.stands_for c.run.new.events.items) c.run.new.engine
@@ -29,20 +28,19 @@ pub returns-in-Back-clause-ends : goal.returns-in-Back-clause-ends
 returns-in-Back-clause-ends g c =
     let first = came_back g (goal.at.returns-in-Back-clause-ends g c).In-Back in
     let e = c.run_alone-done.ensures in let o = c.choose.ensures in
-    chosen_holds (λ (x : Ending). EndsTo (Stands g.O.Outlet.takes g.O.Outlet.breaks g.O.Outlet.welcome g.O.Outlet.faults c.args.job.now.start.now.value
-    c.args.job.now.problem.now c.run_alone-done.new.seat c.run_alone-done.new.out c.run_alone-done.new.told)
-    (Stopped g.O.Outlet.takes g.O.Outlet.breaks g.O.Outlet.welcome g.O.Outlet.faults c.args.job.now.start.now.value c.args.job.now.problem.now
+    chosen_holds (λ (x : Ending). EndsTo (Stands g.O.Outlet c.args.job.now c.run_alone-done.new.seat c.run_alone-done.new.out c.run_alone-done.new.told)
+    (Stopped g.O.Outlet c.args.job.now
     c.run_alone-done.new.out c.run_alone-done.new.told)
     (WasRefused c.run_alone-done.new.told) c.args.job.now.problem.now x c.args.seat.now c.run_alone-done.new.seat
     (map g.O.Found.Notice.stands_for c.run_alone-done.new.events.items))
     c.run_alone-done.result c.choose.result (ending.Partly c.cost-in-Back.result c.in-Back.batch) ending.Left o.yes o.no o.failed
     (λ is.
     let alone = done_of _ c.run_alone-done.result true is e.done refl in let go = alone.goes in (
-      stays_goes g.O.Outlet.takes g.O.Outlet.breaks g.O.Outlet.welcome g.O.Outlet.faults c.args.job.now.start.now.value c.args.job.now.problem.now
+      stays_goes g.O.Outlet c.args.job.now.start.now.value c.args.job.now.problem.now
           c.args.seat.now c.run.new.seat c.run_alone-done.new.seat
-          (Stands g.O.Outlet.takes g.O.Outlet.breaks g.O.Outlet.welcome g.O.Outlet.faults c.args.job.now.start.now.value c.args.job.now.problem.now
+          (Stands g.O.Outlet c.args.job.now
           c.run.new.seat c.run.new.out c.run.new.told)
-          (Stands g.O.Outlet.takes g.O.Outlet.breaks g.O.Outlet.welcome g.O.Outlet.faults c.args.job.now.start.now.value c.args.job.now.problem.now
+          (Stands g.O.Outlet c.args.job.now
           c.run_alone-done.new.seat c.run_alone-done.new.out c.run_alone-done.new.told) first.0 go,
       all_lacks c.run.new.seat.mine.piece c.run_alone-done.new.seat.mine.piece (map g.O.Found.Notice.stands_for c.run.new.events.items)
           (map g.O.Found.Notice.stands_for c.run_alone-done.new.events.items) c.run.new.engine

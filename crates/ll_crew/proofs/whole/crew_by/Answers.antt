@@ -7,9 +7,9 @@ use Rattle.ll_crew.proofs.whole.crew_by.Goals as goal
 pub search-requires-clause-leads : goal.search-requires-clause-leads
 search-requires-clause-leads g c κs within =
     let s = c.in-Ok.ensures.seen in
-    subst (λ p. Leads g.O.Outlet.takes g.O.Outlet.breaks g.O.Outlet.welcome g.O.Outlet.faults c.args.out.now c.args.problem.now p c.args.out.now
+    subst (λ p. Leads g.O.Outlet c.args.out.now c.args.problem.now p c.args.out.now
     (record { answers = 0; reached = 0; inferences = 0 })) (sym s.1)
-    (leads_first g.O.Outlet.takes g.O.Outlet.breaks g.O.Outlet.welcome g.O.Outlet.faults c.args.out.now c.args.problem.now
+    (leads_first g.O.Outlet c.args.out.now c.args.problem.now
     (opening c.args.problem.now s.0) c.args.workers
     (record { answers = 0; reached = 0; inferences = 0 }) refl refl refl refl refl c.requires.welcome)
 

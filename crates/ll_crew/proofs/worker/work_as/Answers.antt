@@ -3,7 +3,7 @@ use Rattle.ll_crew.proofs.worker.work_as.Goals as goal
 
 pub returns-in-Err-clause-failed : goal.returns-in-Err-clause-failed
 returns-in-Err-clause-failed g c =
-    starve_fails g.O.Outlet.takes g.O.Outlet.breaks g.O.Outlet.welcome g.O.Outlet.faults c.args.job.now.start.now.value c.args.job.now.problem.now
+    starve_fails g.O.Outlet c.args.job.now.start.now.value c.args.job.now.problem.now
     c.args.seat.now c.work_on.new.seat c.starve.new.seat c.work_on.new.out c.work_on.new.told c.in-Err.ensures.failed c.starve.ensures.turn
 
 pub returns-in-Ok-clause-failed : goal.returns-in-Ok-clause-failed

@@ -12,23 +12,23 @@ pub returns-in_err-claim_one-clause-failed : goal.returns-in_err-claim_one-claus
 returns-in_err-claim_one-clause-failed g c =
     let i = c.claims.invariant in
     OnErr-always c.from_residual.result
-    (stays_on (Stands g.O.Outlet.takes g.O.Outlet.breaks g.O.Outlet.welcome g.O.Outlet.faults c.args.job.now.start.now.value c.args.job.now.problem.now
+    (stays_on (Stands g.O.Outlet c.args.job.now
     c.claims.seat c.claims.out c.claims.told)
-    (Stands g.O.Outlet.takes g.O.Outlet.breaks g.O.Outlet.welcome g.O.Outlet.faults c.args.job.now.start.now.value c.args.job.now.problem.now
+    (Stands g.O.Outlet c.args.job.now
     c.claim_one.new.seat c.claim_one.new.out c.claim_one.new.told) c.args.seat.now c.claims.seat c.claim_one.new.seat i.1 c.in_err-claim_one.ensures.failed)
 
 pub claims-preserved-in-Worked-1 : goal.claims-preserved-in-Worked-1
 claims-preserved-in-Worked-1 g c =
     let i = c.claims.invariant in
-    let w = went_as (Stands g.O.Outlet.takes g.O.Outlet.breaks g.O.Outlet.welcome g.O.Outlet.faults c.args.job.now.start.now.value c.args.job.now.problem.now
+    let w = went_as (Stands g.O.Outlet c.args.job.now
     c.claim_one.new.seat c.claim_one.new.out c.claim_one.new.told)
-    (Stopped g.O.Outlet.takes g.O.Outlet.breaks g.O.Outlet.welcome g.O.Outlet.faults c.args.job.now.start.now.value c.args.job.now.problem.now
+    (Stopped g.O.Outlet c.args.job.now
     c.claim_one.new.out c.claim_one.new.told) (WasRefused c.claim_one.new.told) c.args.job.now.problem.now
     c.in_ok-claim_one.field-0 went.Worked c.claims.seat c.claim_one.new.seat c.in-Worked.is c.in_ok-claim_one.ensures.went in (
       c.claim_one.ensures.leads ∙ i.0,
-      stays_on (Stands g.O.Outlet.takes g.O.Outlet.breaks g.O.Outlet.welcome g.O.Outlet.faults c.args.job.now.start.now.value c.args.job.now.problem.now
+      stays_on (Stands g.O.Outlet c.args.job.now
           c.claims.seat c.claims.out c.claims.told)
-          (Stands g.O.Outlet.takes g.O.Outlet.breaks g.O.Outlet.welcome g.O.Outlet.faults c.args.job.now.start.now.value c.args.job.now.problem.now
+          (Stands g.O.Outlet c.args.job.now
           c.claim_one.new.seat c.claim_one.new.out c.claim_one.new.told) c.args.seat.now c.claims.seat c.claim_one.new.seat i.1 w.0,
       w.1,
       c.in_ok-claim_one.ensures.kept,
@@ -37,15 +37,15 @@ claims-preserved-in-Worked-1 g c =
 pub claims-preserved : goal.claims-preserved
 claims-preserved g c =
     let i = c.claims.invariant in
-    let w = went_as (Stands g.O.Outlet.takes g.O.Outlet.breaks g.O.Outlet.welcome g.O.Outlet.faults c.args.job.now.start.now.value c.args.job.now.problem.now
+    let w = went_as (Stands g.O.Outlet c.args.job.now
     c.claim_one.new.seat c.claim_one.new.out c.claim_one.new.told)
-    (Stopped g.O.Outlet.takes g.O.Outlet.breaks g.O.Outlet.welcome g.O.Outlet.faults c.args.job.now.start.now.value c.args.job.now.problem.now
+    (Stopped g.O.Outlet c.args.job.now
     c.claim_one.new.out c.claim_one.new.told) (WasRefused c.claim_one.new.told) c.args.job.now.problem.now
     c.in_ok-claim_one.field-0 went.Idle c.claims.seat c.claim_one.new.seat c.in-Idle.is c.in_ok-claim_one.ensures.went in (
       c.claim_one.ensures.leads ∙ i.0,
-      stays_on (Stands g.O.Outlet.takes g.O.Outlet.breaks g.O.Outlet.welcome g.O.Outlet.faults c.args.job.now.start.now.value c.args.job.now.problem.now
+      stays_on (Stands g.O.Outlet c.args.job.now
           c.claims.seat c.claims.out c.claims.told)
-          (Stands g.O.Outlet.takes g.O.Outlet.breaks g.O.Outlet.welcome g.O.Outlet.faults c.args.job.now.start.now.value c.args.job.now.problem.now
+          (Stands g.O.Outlet c.args.job.now
           c.claim_one.new.seat c.claim_one.new.out c.claim_one.new.told) c.args.seat.now c.claims.seat c.claim_one.new.seat i.1 w.0,
       w.1,
       c.in_ok-claim_one.ensures.kept,
@@ -54,13 +54,13 @@ claims-preserved g c =
 pub returns-in-Left-clause-left : goal.returns-in-Left-clause-left
 returns-in-Left-clause-left g c = λ f.
     let i = c.claims.invariant in
-    stays_out (Stands g.O.Outlet.takes g.O.Outlet.breaks g.O.Outlet.welcome g.O.Outlet.faults c.args.job.now.start.now.value c.args.job.now.problem.now
+    stays_out (Stands g.O.Outlet c.args.job.now
     c.claims.seat c.claims.out c.claims.told)
-    (Stopped g.O.Outlet.takes g.O.Outlet.breaks g.O.Outlet.welcome g.O.Outlet.faults c.args.job.now.start.now.value c.args.job.now.problem.now
+    (Stopped g.O.Outlet c.args.job.now
     c.claim_one.new.out c.claim_one.new.told) (WasRefused c.claim_one.new.told) c.args.seat.now c.claims.seat c.claim_one.new.seat i.1
-    (went_as (Stands g.O.Outlet.takes g.O.Outlet.breaks g.O.Outlet.welcome g.O.Outlet.faults c.args.job.now.start.now.value c.args.job.now.problem.now
+    (went_as (Stands g.O.Outlet c.args.job.now
     c.claim_one.new.seat c.claim_one.new.out c.claim_one.new.told)
-    (Stopped g.O.Outlet.takes g.O.Outlet.breaks g.O.Outlet.welcome g.O.Outlet.faults c.args.job.now.start.now.value c.args.job.now.problem.now
+    (Stopped g.O.Outlet c.args.job.now
     c.claim_one.new.out c.claim_one.new.told) (WasRefused c.claim_one.new.told) c.args.job.now.problem.now
     c.in_ok-claim_one.field-0 went.Left c.claims.seat c.claim_one.new.seat c.in-Left.is c.in_ok-claim_one.ensures.went)
 
@@ -102,11 +102,11 @@ returns-in-Left-clause-done g c = λ e. absurd (true≢false (sym e))
 pub returns-in-Ended-clause-done : goal.returns-in-Ended-clause-done
 returns-in-Ended-clause-done g c = λ e.
     let i = c.claims.invariant in
-    ended_on _ (Stands g.O.Outlet.takes g.O.Outlet.breaks g.O.Outlet.welcome g.O.Outlet.faults c.args.job.now.start.now.value c.args.job.now.problem.now
+    ended_on _ (Stands g.O.Outlet c.args.job.now
     c.claim_one.new.seat c.claim_one.new.out c.claim_one.new.told) c.args.job.now.problem.now c.args.seat.now c.claims.seat c.claim_one.new.seat i.1
-    (went_as (Stands g.O.Outlet.takes g.O.Outlet.breaks g.O.Outlet.welcome g.O.Outlet.faults c.args.job.now.start.now.value c.args.job.now.problem.now
+    (went_as (Stands g.O.Outlet c.args.job.now
     c.claim_one.new.seat c.claim_one.new.out c.claim_one.new.told)
-    (Stopped g.O.Outlet.takes g.O.Outlet.breaks g.O.Outlet.welcome g.O.Outlet.faults c.args.job.now.start.now.value c.args.job.now.problem.now
+    (Stopped g.O.Outlet c.args.job.now
     c.claim_one.new.out c.claim_one.new.told) (WasRefused c.claim_one.new.told) c.args.job.now.problem.now
     c.in_ok-claim_one.field-0 went.Ended c.claims.seat c.claim_one.new.seat c.in-Ended.is c.in_ok-claim_one.ensures.went)
 

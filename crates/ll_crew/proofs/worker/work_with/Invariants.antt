@@ -7,7 +7,7 @@ use Rattle.ll_crew.proofs.worker.work_with.Given as goal
 abbrev pub invariant-claims : goal.invariant-claims
 invariant-claims g l =
     (l.told.leads ≡ l.initial.told.leads)
-    × Stays (Stands g.O.Outlet.takes g.O.Outlet.breaks g.O.Outlet.welcome g.O.Outlet.faults l.job.start.now.value l.job.problem.now l.seat l.out l.told)
+    × Stays (Stands g.O.Outlet l.job l.seat l.out l.told)
     l.initial.seat l.seat
     × (l.seat.mine.piece ≡ None)
     × IsKeptOf l.job.problem.now l.kept

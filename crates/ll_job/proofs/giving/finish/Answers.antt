@@ -1,5 +1,5 @@
 use Rattle.std.proofs.Common.{◌≡◌, true, Ok, rules}
-use Rattle.ll_job.specs.Leading.{Stopped}
+use Rattle.ll_job.specs.Leading.{StoppedOf}
 use Rattle.ll_job.specs.declared.fault.CrewFault.TheVariants.{Write}
 use Rattle.ll_job.proofs.Endings.{stopped_kept, stopped_prefix, stopped_write, left_or_failed}
 use Rattle.ll_job.proofs.giving.finish.Goals as goal
@@ -7,34 +7,34 @@ use Rattle.ll_job.proofs.giving.finish.Goals as goal
 pub returns-in-Some-clause-refused : goal.returns-in-Some-clause-refused
 returns-in-Some-clause-refused g c =
     let not : c.args.done ≡ Ok true → ⊥ = search rules in
-    let s = left_or_failed c.args.done (Stopped g.O.Outlet.takes g.O.Outlet.breaks g.O.Outlet.welcome g.O.Outlet.faults c.args.start.now.value
-    c.args.problem.now c.args.out.now c.args.told.now) not c.requires.left c.requires.failed in
-    stopped_prefix g.O.Outlet.takes g.O.Outlet.breaks g.O.Outlet.welcome g.O.Outlet.faults c.args.start.now.value
+    let s = left_or_failed c.args.done (StoppedOf g.O.Outlet c.args.start.now.value c.args.problem.now c.args.out.now c.args.told.now)
+    not c.requires.left c.requires.failed in
+    stopped_prefix g.O.Outlet c.args.start.now.value
     c.args.problem.now c.args.out.now c.args.told.now c.requires.leads s
 
 pub returns-in-Some-clause-write : goal.returns-in-Some-clause-write
 returns-in-Some-clause-write g c = λ e.
     let not : c.args.done ≡ Ok true → ⊥ = search rules in
-    let s = left_or_failed c.args.done (Stopped g.O.Outlet.takes g.O.Outlet.breaks g.O.Outlet.welcome g.O.Outlet.faults c.args.start.now.value
-    c.args.problem.now c.args.out.now c.args.told.now) not c.requires.left c.requires.failed in
+    let s = left_or_failed c.args.done (StoppedOf g.O.Outlet c.args.start.now.value c.args.problem.now c.args.out.now c.args.told.now)
+    not c.requires.left c.requires.failed in
     let is : c.fault_of.result ≡ Write = cc in
-    stopped_write g.O.Outlet.takes g.O.Outlet.breaks g.O.Outlet.welcome g.O.Outlet.faults c.args.start.now.value
+    stopped_write g.O.Outlet c.args.start.now.value
     c.args.problem.now c.args.out.now c.args.told.now c.in-Some.fault c.requires.leads c.in-Some.is s (c.fault_of.ensures.0 is)
 
 pub returns-in-Some-clause-kept : goal.returns-in-Some-clause-kept
 returns-in-Some-clause-kept g c =
     let not : c.args.done ≡ Ok true → ⊥ = search rules in
-    let s = left_or_failed c.args.done (Stopped g.O.Outlet.takes g.O.Outlet.breaks g.O.Outlet.welcome g.O.Outlet.faults c.args.start.now.value
-    c.args.problem.now c.args.out.now c.args.told.now) not c.requires.left c.requires.failed in
-    stopped_kept g.O.Outlet.takes g.O.Outlet.breaks g.O.Outlet.welcome g.O.Outlet.faults c.args.start.now.value
+    let s = left_or_failed c.args.done (StoppedOf g.O.Outlet c.args.start.now.value c.args.problem.now c.args.out.now c.args.told.now)
+    not c.requires.left c.requires.failed in
+    stopped_kept g.O.Outlet c.args.start.now.value
     c.args.problem.now c.args.out.now c.args.told.now c.requires.leads s
 
 pub returns-in-None-clause-refused : goal.returns-in-None-clause-refused
 returns-in-None-clause-refused g c =
     let not : c.args.done ≡ Ok true → ⊥ = search rules in
-    let s = left_or_failed c.args.done (Stopped g.O.Outlet.takes g.O.Outlet.breaks g.O.Outlet.welcome g.O.Outlet.faults c.args.start.now.value
-    c.args.problem.now c.args.out.now c.args.told.now) not c.requires.left c.requires.failed in
-    stopped_prefix g.O.Outlet.takes g.O.Outlet.breaks g.O.Outlet.welcome g.O.Outlet.faults c.args.start.now.value
+    let s = left_or_failed c.args.done (StoppedOf g.O.Outlet c.args.start.now.value c.args.problem.now c.args.out.now c.args.told.now)
+    not c.requires.left c.requires.failed in
+    stopped_prefix g.O.Outlet c.args.start.now.value
     c.args.problem.now c.args.out.now c.args.told.now c.requires.leads s
 
 pub returns-in-None-clause-write : goal.returns-in-None-clause-write
@@ -43,9 +43,9 @@ returns-in-None-clause-write g c = λ e. absurd (cc)
 pub returns-in-None-clause-kept : goal.returns-in-None-clause-kept
 returns-in-None-clause-kept g c =
     let not : c.args.done ≡ Ok true → ⊥ = search rules in
-    let s = left_or_failed c.args.done (Stopped g.O.Outlet.takes g.O.Outlet.breaks g.O.Outlet.welcome g.O.Outlet.faults c.args.start.now.value
-    c.args.problem.now c.args.out.now c.args.told.now) not c.requires.left c.requires.failed in
-    stopped_kept g.O.Outlet.takes g.O.Outlet.breaks g.O.Outlet.welcome g.O.Outlet.faults c.args.start.now.value
+    let s = left_or_failed c.args.done (StoppedOf g.O.Outlet c.args.start.now.value c.args.problem.now c.args.out.now c.args.told.now)
+    not c.requires.left c.requires.failed in
+    stopped_kept g.O.Outlet c.args.start.now.value
     c.args.problem.now c.args.out.now c.args.told.now c.requires.leads s
 
 pub returns-in-Some-clause-given : goal.returns-in-Some-clause-given

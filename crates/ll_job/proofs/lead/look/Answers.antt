@@ -11,32 +11,32 @@ marked g c = elim c.then-look.branch [ then-look-via-then-look w ↦ inl w.if-lo
 
 pub returns-then-look-clause-left : goal.returns-then-look-clause-left
 returns-then-look-clause-left g c = λ f.
-    look_leaves g.O.Outlet.takes g.O.Outlet.breaks g.O.Outlet.welcome g.O.Outlet.faults c.args.job.now.start.now.value c.args.job.now.problem.now
+    look_leaves g.O.Outlet c.args.job.now.start.now.value c.args.job.now.problem.now
     c.args.seat.now c.look-look.new.seat c.args.out.now c.args.told.now (overview c.look-look.result) c.look-look.ensures.turn c.requires.seat.problem
     c.requires.stands
     (marked g c)
 
 pub tell-requires-clause-stands : goal.tell-requires-clause-stands
 tell-requires-clause-stands g c κs within =
-    looked g.O.Outlet.takes g.O.Outlet.breaks g.O.Outlet.welcome g.O.Outlet.faults c.args.job.now.start.now.value c.args.job.now.problem.now c.args.seat.now
+    looked g.O.Outlet c.args.job.now.start.now.value c.args.job.now.problem.now c.args.seat.now
     c.look-look.new.seat c.args.out.now c.args.told.now (overview c.look-look.result) c.look-look.ensures.turn c.requires.seat.problem c.requires.stands
 
 pub returns-then-not-tell-clause-left : goal.returns-then-not-tell-clause-left
 returns-then-not-tell-clause-left g c = λ e.
-    let go = look_goes g.O.Outlet.takes g.O.Outlet.breaks g.O.Outlet.welcome g.O.Outlet.faults c.args.job.now.start.now.value c.args.job.now.problem.now
+    let go = look_goes g.O.Outlet c.args.job.now.start.now.value c.args.job.now.problem.now
     c.args.seat.now c.look-look.new.seat c.args.out.now c.args.told.now (overview c.look-look.result) c.look-look.ensures.turn c.requires.seat.problem
     c.requires.stands c.look-look.ensures.owes in
     let no : c.tell.result ≡ false = cc in
-    goes_out g.O.Outlet.takes g.O.Outlet.breaks g.O.Outlet.welcome g.O.Outlet.faults c.args.job.now.start.now.value c.args.job.now.problem.now
+    goes_out g.O.Outlet c.args.job.now.start.now.value c.args.job.now.problem.now
     (WasRefused c.tell.new.told) c.args.seat.now c.look-look.new.seat c.tell.new.seat _ _ go (c.tell.ensures.left no)
 
 pub returns-clause-on : goal.returns-clause-on
 returns-clause-on g c = λ e.
-    let go = look_goes g.O.Outlet.takes g.O.Outlet.breaks g.O.Outlet.welcome g.O.Outlet.faults c.args.job.now.start.now.value c.args.job.now.problem.now
+    let go = look_goes g.O.Outlet c.args.job.now.start.now.value c.args.job.now.problem.now
     c.args.seat.now c.look-look.new.seat c.args.out.now c.args.told.now (overview c.look-look.result) c.look-look.ensures.turn c.requires.seat.problem
     c.requires.stands c.look-look.ensures.owes in
     let yes : c.tell.result ≡ true = cc in
-    goes_on g.O.Outlet.takes g.O.Outlet.breaks g.O.Outlet.welcome g.O.Outlet.faults c.args.job.now.start.now.value c.args.job.now.problem.now
+    goes_on g.O.Outlet c.args.job.now.start.now.value c.args.job.now.problem.now
     c.args.seat.now c.look-look.new.seat c.tell.new.seat _ _ go (c.tell.ensures.on yes)
 
 pub returns-then-look-clause-leads : goal.returns-then-look-clause-leads

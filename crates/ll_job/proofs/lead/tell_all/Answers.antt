@@ -26,7 +26,7 @@ returns-in_default g c =
     let i = c.loop.invariant in
     record {
       leads = i.0;
-      on = λ e. goes_calm g.O.Outlet.takes g.O.Outlet.breaks g.O.Outlet.welcome g.O.Outlet.faults c.args.job.now.start.now.value c.args.job.now.problem.now
+      on = λ e. goes_calm g.O.Outlet c.args.job.now.start.now.value c.args.job.now.problem.now
           c.args.seat.now c.loop.seat c.ready.new.seat c.loop.out c.loop.told c.requires.seat.problem i.1
           (calm_ready c.ready.result c.in_default.not-Events c.loop.seat c.ready.new.seat c.ready.ensures.turn) c.ready.ensures.owes;
       left = λ f. absurd (cc);
@@ -36,7 +36,7 @@ returns-in_default g c =
 pub give-requires-clause-welcome : goal.give-requires-clause-welcome
 give-requires-clause-welcome g c κs within =
     let i = c.loop.invariant in
-    told_welcome g.O.Outlet.takes g.O.Outlet.breaks g.O.Outlet.welcome g.O.Outlet.faults c.args.job.now.start.now.value c.args.job.now.problem.now
+    told_welcome g.O.Outlet c.args.job.now.start.now.value c.args.job.now.problem.now
     c.args.seat.now c.loop.seat c.ready.new.seat c.loop.out c.loop.out c.loop.told c.in-Events.report
     (map g.O.Found.Notice.stands_for c.report.inside.events.items)
     c.report.inside.inferences
@@ -47,7 +47,7 @@ pub loop-preserved : goal.loop-preserved
 loop-preserved g c =
     let i = c.loop.invariant in let ok = c.in-Ok.ensures in (
       i.0,
-      told_more g.O.Outlet.takes g.O.Outlet.breaks g.O.Outlet.welcome g.O.Outlet.faults c.args.job.now.start.now.value c.args.job.now.problem.now
+      told_more g.O.Outlet c.args.job.now.start.now.value c.args.job.now.problem.now
           c.args.seat.now c.loop.seat c.ready.new.seat c.loop.out c.give.new.out c.loop.told c.in-Events.report
           (map g.O.Found.Notice.stands_for c.report.inside.events.items)
           c.report.inside.inferences
@@ -64,7 +64,7 @@ returns-in-Err-clause-leads g c = c.loop.invariant.0
 pub returns-in-Err-clause-left : goal.returns-in-Err-clause-left
 returns-in-Err-clause-left g c = λ f.
     let i = c.loop.invariant in let err = c.in-Err.ensures in let same = c.quit.ensures.same in
-    told_refused g.O.Outlet.takes g.O.Outlet.breaks g.O.Outlet.welcome g.O.Outlet.faults c.args.job.now.start.now.value c.args.job.now.problem.now
+    told_refused g.O.Outlet c.args.job.now.start.now.value c.args.job.now.problem.now
     c.args.seat.now c.loop.seat c.ready.new.seat c.loop.out c.give.new.out c.loop.told c.in-Events.report
     (map g.O.Found.Notice.stands_for c.report.inside.events.items)
     c.report.inside.inferences

@@ -6,6 +6,6 @@ use Rattle.ll_job.proofs.lead.tell_all.Given as goal
 abbrev pub invariant-loop : goal.invariant-loop
 invariant-loop g l =
     (l.told.leads ≡ true)
-    × Goes (Stands g.O.Outlet.takes g.O.Outlet.breaks g.O.Outlet.welcome g.O.Outlet.faults l.job.start.now.value l.job.problem.now l.seat l.out l.told)
+    × Goes (Stands g.O.Outlet l.job l.seat l.out l.told)
     l.initial.seat l.seat
     × (l.initial.seat.mine.turns ≤ l.seat.mine.turns)

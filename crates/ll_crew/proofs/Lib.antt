@@ -3,3 +3,4 @@ pub mod Running
 pub mod Arms
 pub mod Finishing
 mod AloneLemmas
+mod Holding

@@ -1,24 +1,23 @@
 //! The work of one piece.
 ghost use Rattle.std.specs.Prelude.{◌≡◌, ◌<◌, length, IfOk, IfSome, IfNone, IsErr, IsSomeAnd, OnOk, OnErr, Ok, Some, None, slice_get};
-ghost use Rattle.std.specs.Prelude.{◌+◌, [], map, true, false};
+ghost use Rattle.std.specs.Prelude.{[], map, true, false};
 ghost use Rattle.std.specs.Arc.{arc_value};
 ghost use Rattle.ll_laws.specs.Pool.{Owed};
 ghost use Rattle.ll_laws.specs.declared.Event.{Event as TheEvent};
 ghost use Rattle.ll_freeze.specs.Frozen.{alternatives_in};
 ghost use Rattle.ll_engine.specs.Resumes.{Resumes};
-ghost use Rattle.ll_job.specs.Leading.{Stands, Stopped, WasRefused};
-ghost use Rattle.ll_job.specs.Turns.{Stays, Leaves};
-ghost use Rattle.ll_crew.specs.Runs.{SharesTo, RunsTo, RunsAlone, RunsOne, RunsAll, EndsTo, Reports};
-ghost use Rattle.ll_job.specs.Alternatives.{events_in, cost_in};
+ghost use Rattle.ll_crew.specs.Runs.{SharesTo};
+ghost use Rattle.ll_crew.specs.Workers.{Holds, Standing, Stays, Leaves, RunsTo, RunsAlone, RunsOne, RunsAll, EndsTo, Reports};
 ghost use Rattle.ll_crew.specs.Pieces.{IsKeptOf, Stretched, OwesAll, OwesAfter};
 ghost use Rattle.ll_job.specs.Seats.{IsSeat, Calm};
 
+use crate::worker::Worker;
 use ll_bank::OutOfMemory;
 use ll_core::Look;
 use ll_engine::{Engine, Progress};
 use ll_freeze::Frozen;
-use ll_job::{Job, Offer, Offered, Told, look, publish, report};
-use ll_laws::{Batch, Notice};
+use ll_job::{Job, Offer, Offered, look, publish, report};
+use ll_laws::{Batch, Notice, Report};
 use ll_order::Outlet;
 use ll_pool::Seat;
 use std::sync::{Arc, Wait};
@@ -152,32 +151,32 @@ enum Ran<'p> {
 // reported at once.
 fn run<'p, R: Wait, O: Outlet>(
     job: &Job<'_, 'p, R, O>,
-    seat: &mut Seat<Offer<'p, O::Found>>,
+    worker: &mut Worker<'_, 'p, O::Found>,
     engine: &mut Engine<'p>,
     events: &mut Vec<O::Found>,
-    told: &mut Told,
     out: &mut O,
 ) -> Result<Ran<'p>, OutOfMemory>
     requires suits { O.Found.suits job.now.problem.now }
-    requires seat { IsSeat job.now.pool.now job.now.problem.now seat.old × (engine.old.problem ≡ job.now.problem.now) }
-    requires stands { Stands O.Outlet job.now seat.old out.old told.old }
-    requires owes { OwesAll seat.old.mine.piece (map O.Found.stands_for events.old.items) engine.old [] }
-    ensures leads { told.new.leads ≡ told.old.leads }
+    requires seat { IsSeat job.now.pool.now job.now.problem.now worker.old.seat.now
+        × (engine.old.problem ≡ job.now.problem.now) }
+    requires stands { Standing O.Outlet job.now worker.old out.old }
+    requires owes { OwesAll worker.old.seat.now.mine.piece (map O.Found.stands_for events.old.items) engine.old [] }
+    ensures holds { Holds worker.old worker.new }
     ensures problem { OnOk result (engine.new.problem ≡ job.now.problem.now) }
-    ensures ran { IfOk result (λ ran. RunsTo (Stands O.Outlet job.now seat.new out.new told.new) (Stopped O.Outlet job.now out.new told.new)
-        (WasRefused told.new) job.now.problem.now ran seat.old seat.new (map O.Found.stands_for events.new.items) engine.new) }
-    ensures failed { OnErr result (Stays (Stands O.Outlet job.now seat.new out.new told.new) seat.old seat.new) }
+    ensures ran { IfOk result (λ ran. RunsTo O.Outlet job.now ran worker.old worker.new out.new
+        (map O.Found.stands_for events.new.items) engine.new) }
+    ensures failed { OnErr result (Stays O.Outlet job.now worker.old worker.new out.new) }
 {
     'stretches: loop {
         if stretch(engine, events, job.reports_at_once())? {
             return Ok(Ran::Done);
         }
-        let Some(seen) = look(job, seat, told, out) else {
+        let Some(seen) = look(job, worker.seat, worker.told, out) else {
             return Ok(Ran::Left);
         };
         let answered = job.reports_at_once() && ends_with_answer(events);
         if is_to_share(answered, seen, job.pool.workers()) {
-            if let Some(batch) = share(job, seat, engine, events, answered)? {
+            if let Some(batch) = share(job, worker.seat, engine, events, answered)? {
                 return Ok(Ran::Back(batch));
             }
         }
@@ -187,47 +186,52 @@ fn run<'p, R: Wait, O: Outlet>(
 // Runs an engine to its end, and publishes nothing. False where the pool is starved or stopped.
 fn run_alone<'p, R: Wait, O: Outlet>(
     job: &Job<'_, 'p, R, O>,
-    seat: &mut Seat<Offer<'p, O::Found>>,
+    worker: &mut Worker<'_, 'p, O::Found>,
     engine: &mut Engine<'p>,
     events: &mut Vec<O::Found>,
-    told: &mut Told,
     out: &mut O,
 ) -> Result<bool, OutOfMemory>
     requires suits { O.Found.suits engine.old.problem }
-    requires seat { IsSeat job.now.pool.now job.now.problem.now seat.old }
-    requires stands { Stands O.Outlet job.now seat.old out.old told.old }
-    ensures leads { told.new.leads ≡ told.old.leads }
+    requires seat { IsSeat job.now.pool.now job.now.problem.now worker.old.seat.now }
+    requires stands { Standing O.Outlet job.now worker.old out.old }
+    ensures holds { Holds worker.old worker.new }
     ensures problem { OnOk result (engine.new.problem ≡ engine.old.problem) }
-    ensures done { IfOk result (λ done. done ≡ true → RunsAlone (Stands O.Outlet job.now seat.new out.new told.new) seat.old seat.new
+    ensures done { IfOk result (λ done. done ≡ true → RunsAlone O.Outlet job.now worker.old worker.new out.new
         (map O.Found.stands_for events.old.items) engine.old (map O.Found.stands_for events.new.items) engine.new) }
-    ensures left { IfOk result (λ done. done ≡ false → Leaves (Stopped O.Outlet job.now out.new told.new)
-        (WasRefused told.new) seat.old seat.new) }
-    ensures failed { OnErr result (Stays (Stands O.Outlet job.now seat.new out.new told.new) seat.old seat.new) }
+    ensures left { IfOk result (λ done. done ≡ false → Leaves O.Outlet job.now worker.old worker.new out.new) }
+    ensures failed { OnErr result (Stays O.Outlet job.now worker.old worker.new out.new) }
 {
     'stretches: loop {
         if stretch(engine, events, false)? {
             return Ok(true);
         }
-        if look(job, seat, told, out).is_none() {
+        if look(job, worker.seat, worker.told, out).is_none() {
             return Ok(false);
         }
     }
+}
+
+// An alternative of a batch.
+#[derive(Drop)]
+struct Alternative<'p> {
+    batch: Arc<Frozen<'p>>,
+    k: u32,
 }
 
 // An engine for an alternative of a batch: the one that the worker has kept goes on, if there is one.
 fn engine_for<'p, R, O: Outlet>(
     job: &Job<'_, 'p, R, O>,
     kept: &mut Option<Engine<'p>>,
-    batch: Arc<Frozen<'p>>,
-    k: u32,
+    claimed: Alternative<'p>,
 ) -> Result<Engine<'p>, OutOfMemory>
     requires kept { IsKeptOf job.now.problem.now kept.old }
-    requires inside { k < length (alternatives_in (arc_value batch)) }
-    requires of { (arc_value batch).problem ≡ job.now.problem.now }
+    requires inside { claimed.k < length (alternatives_in (arc_value claimed.batch)) }
+    requires of { (arc_value claimed.batch).problem ≡ job.now.problem.now }
     ensures problem { IfOk result (λ e. e.problem ≡ job.now.problem.now) }
-    ensures owes { IfOk result (λ e. (owes : Owed TheEvent) → slice_get (alternatives_in (arc_value batch.entry)) k ≡ Some owes
+    ensures owes { IfOk result (λ e. (owes : Owed TheEvent) → slice_get (alternatives_in (arc_value claimed.entry.batch)) claimed.entry.k ≡ Some owes
         → Resumes job.now.problem.now owes e) }
 {
+    let Alternative { batch, k } = claimed;
     match kept.take() {
         Some(engine) => engine.advance(batch, k),
         None => Engine::resume_shared(job.alloc, job.problem, batch, k),
@@ -247,33 +251,28 @@ where
 // stopped.
 fn run_one<'p, R: Wait, O: Outlet>(
     job: &Job<'_, 'p, R, O>,
-    kept: &mut Option<Engine<'p>>,
-    seat: &mut Seat<Offer<'p, O::Found>>,
-    batch: Arc<Frozen<'p>>,
-    k: u32,
+    worker: &mut Worker<'_, 'p, O::Found>,
+    claimed: Alternative<'p>,
     events: &mut Vec<O::Found>,
-    told: &mut Told,
     out: &mut O,
 ) -> Result<Option<u64>, OutOfMemory>
     requires suits { O.Found.suits job.now.problem.now }
-    requires seat { IsSeat job.now.pool.now job.now.problem.now seat.old }
-    requires stands { Stands O.Outlet job.now seat.old out.old told.old }
-    requires kept { IsKeptOf job.now.problem.now kept.old }
-    requires inside { k < length (alternatives_in (arc_value batch)) }
-    requires of { (arc_value batch).problem ≡ job.now.problem.now }
-    ensures leads { told.new.leads ≡ told.old.leads }
-    ensures kept { OnOk result (IsKeptOf job.now.problem.now kept.new) }
-    ensures some { IfOk result (λ o. IfSome o (λ n. (owes : Owed TheEvent) → slice_get (alternatives_in (arc_value
-        batch.entry)) k ≡ Some owes → RunsOne (Stands O.Outlet job.now seat.new out.new told.new) seat.old seat.new
-        (map O.Found.stands_for events.old.items) owes (map O.Found.stands_for events.new.items) n)) }
-    ensures none { IfOk result
-        (λ o. IfNone o (Leaves (Stopped O.Outlet job.now out.new told.new) (WasRefused told.new) seat.old seat.new)) }
-    ensures failed { OnErr result (Stays (Stands O.Outlet job.now seat.new out.new told.new) seat.old seat.new) }
+    requires seat { IsSeat job.now.pool.now job.now.problem.now worker.old.seat.now }
+    requires stands { Standing O.Outlet job.now worker.old out.old }
+    requires kept { IsKeptOf job.now.problem.now worker.old.kept.now }
+    requires inside { claimed.k < length (alternatives_in (arc_value claimed.batch)) }
+    requires of { (arc_value claimed.batch).problem ≡ job.now.problem.now }
+    ensures holds { Holds worker.old worker.new }
+    ensures kept { OnOk result (IsKeptOf job.now.problem.now worker.new.kept.now) }
+    ensures some { IfOk result (λ o. IfSome o (λ n. (x : Owed TheEvent) → slice_get (alternatives_in (arc_value claimed.entry.batch)) claimed.entry.k ≡ Some x
+        → RunsOne O.Outlet job.now worker.old worker.new out.new (map O.Found.stands_for events.old.items) x (map O.Found.stands_for events.new.items) n)) }
+    ensures none { IfOk result (λ o. IfNone o (Leaves O.Outlet job.now worker.old worker.new out.new)) }
+    ensures failed { OnErr result (Stays O.Outlet job.now worker.old worker.new out.new) }
 {
-    let mut engine = engine_for(job, kept, batch, k)?;
-    let done = run_alone(job, seat, &mut engine, events, told, out);
+    let mut engine = engine_for(job, worker.kept, claimed)?;
+    let done = run_alone(job, worker, &mut engine, events, out);
     let inferences = engine.cost();
-    keep(kept, engine);
+    keep(worker.kept, engine);
     choose(done, Some(inferences), None)
 }
 
@@ -281,31 +280,28 @@ fn run_one<'p, R: Wait, O: Outlet>(
 // None where the pool is starved or stopped.
 fn run_batch<'p, R: Wait, O: Outlet>(
     job: &Job<'_, 'p, R, O>,
-    kept: &mut Option<Engine<'p>>,
-    seat: &mut Seat<Offer<'p, O::Found>>,
+    worker: &mut Worker<'_, 'p, O::Found>,
     batch: &Arc<Frozen<'p>>,
     events: &mut Vec<O::Found>,
     mut inferences: u64,
-    told: &mut Told,
     out: &mut O,
 ) -> Result<Option<u64>, OutOfMemory>
     requires suits { O.Found.suits job.now.problem.now }
-    requires seat { IsSeat job.now.pool.now job.now.problem.now seat.old }
-    requires stands { Stands O.Outlet job.now seat.old out.old told.old }
-    requires kept { IsKeptOf job.now.problem.now kept.old }
+    requires seat { IsSeat job.now.pool.now job.now.problem.now worker.old.seat.now }
+    requires stands { Standing O.Outlet job.now worker.old out.old }
+    requires kept { IsKeptOf job.now.problem.now worker.old.kept.now }
     requires of { (arc_value batch.now).problem ≡ job.now.problem.now }
-    ensures leads { told.new.leads ≡ told.old.leads }
-    ensures kept { OnOk result (IsKeptOf job.now.problem.now kept.new) }
-    ensures some { IfOk result (λ o. IfSome o (λ n. RunsAll (Stands O.Outlet job.now seat.new out.new told.new)
-        seat.old seat.new (map O.Found.stands_for events.old.items) (events_in (alternatives_in (arc_value batch.now)))
-        (inferences + cost_in (alternatives_in (arc_value batch.now))) (map O.Found.stands_for events.new.items) n)) }
-    ensures none { IfOk result
-        (λ o. IfNone o (Leaves (Stopped O.Outlet job.now out.new told.new) (WasRefused told.new) seat.old seat.new)) }
-    ensures failed { OnErr result (Stays (Stands O.Outlet job.now seat.new out.new told.new) seat.old seat.new) }
+    ensures holds { Holds worker.old worker.new }
+    ensures kept { OnOk result (IsKeptOf job.now.problem.now worker.new.kept.now) }
+    ensures some { IfOk result (λ o. IfSome o (λ n. RunsAll O.Outlet job.now worker.old worker.new out.new
+        (map O.Found.stands_for events.old.items) (alternatives_in (arc_value batch.now)) inferences (map O.Found.stands_for events.new.items) n)) }
+    ensures none { IfOk result (λ o. IfNone o (Leaves O.Outlet job.now worker.old worker.new out.new)) }
+    ensures failed { OnErr result (Stays O.Outlet job.now worker.old worker.new out.new) }
 {
     for k in 0..batch.len() {
         let shared = Arc::try_clone(batch)?;
-        let Some(more) = run_one(job, kept, seat, shared, k, events, told, out)? else {
+        let next = Alternative { batch: shared, k };
+        let Some(more) = run_one(job, worker, next, events, out)? else {
             return Ok(None);
         };
         inferences = inferences.saturating_add(more);
@@ -327,27 +323,27 @@ enum Ending<'p> {
 // Runs the engine of a piece to its end.
 fn run_to_end<'p, R: Wait, O: Outlet>(
     job: &Job<'_, 'p, R, O>,
-    seat: &mut Seat<Offer<'p, O::Found>>,
+    worker: &mut Worker<'_, 'p, O::Found>,
     engine: &mut Engine<'p>,
     events: &mut Vec<O::Found>,
-    told: &mut Told,
     out: &mut O,
 ) -> Result<Ending<'p>, OutOfMemory>
     requires suits { O.Found.suits job.now.problem.now }
-    requires seat { IsSeat job.now.pool.now job.now.problem.now seat.old × (engine.old.problem ≡ job.now.problem.now) }
-    requires stands { Stands O.Outlet job.now seat.old out.old told.old }
-    requires owes { OwesAll seat.old.mine.piece (map O.Found.stands_for events.old.items) engine.old [] }
-    ensures leads { told.new.leads ≡ told.old.leads }
+    requires seat { IsSeat job.now.pool.now job.now.problem.now worker.old.seat.now
+        × (engine.old.problem ≡ job.now.problem.now) }
+    requires stands { Standing O.Outlet job.now worker.old out.old }
+    requires owes { OwesAll worker.old.seat.now.mine.piece (map O.Found.stands_for events.old.items) engine.old [] }
+    ensures holds { Holds worker.old worker.new }
     ensures problem { OnOk result (engine.new.problem ≡ job.now.problem.now) }
-    ensures ends { IfOk result (λ ending. EndsTo (Stands O.Outlet job.now seat.new out.new told.new) (Stopped O.Outlet job.now out.new
-        told.new) (WasRefused told.new) job.now.problem.now ending seat.old seat.new (map O.Found.stands_for events.new.items)) }
-    ensures failed { OnErr result (Stays (Stands O.Outlet job.now seat.new out.new told.new) seat.old seat.new) }
+    ensures ends { IfOk result (λ ending. EndsTo O.Outlet job.now ending worker.old worker.new out.new
+        (map O.Found.stands_for events.new.items)) }
+    ensures failed { OnErr result (Stays O.Outlet job.now worker.old worker.new out.new) }
 {
-    match run(job, seat, engine, events, told, out)? {
+    match run(job, worker, engine, events, out)? {
         Ran::Done => Ok(Ending::Whole(engine.cost())),
         Ran::Left => Ok(Ending::Left),
         Ran::Back(batch) => {
-            let done = run_alone(job, seat, engine, events, told, out);
+            let done = run_alone(job, worker, engine, events, out);
             choose(done, Ending::Partly(engine.cost(), batch), Ending::Left)
         }
     }
@@ -356,30 +352,28 @@ fn run_to_end<'p, R: Wait, O: Outlet>(
 // Runs the alternative of a piece to the end of its engine, which is kept.
 fn run_claimed<'p, R: Wait, O: Outlet>(
     job: &Job<'_, 'p, R, O>,
-    kept: &mut Option<Engine<'p>>,
-    seat: &mut Seat<Offer<'p, O::Found>>,
-    batch: Arc<Frozen<'p>>,
-    k: u32,
+    worker: &mut Worker<'_, 'p, O::Found>,
+    claimed: Alternative<'p>,
     events: &mut Vec<O::Found>,
-    told: &mut Told,
     out: &mut O,
 ) -> Result<Ending<'p>, OutOfMemory>
     requires suits { O.Found.suits job.now.problem.now }
-    requires seat { IsSeat job.now.pool.now job.now.problem.now seat.old }
-    requires stands { Stands O.Outlet job.now seat.old out.old told.old }
-    requires kept { IsKeptOf job.now.problem.now kept.old }
-    requires owes { IsSomeAnd seat.old.mine.piece (λ piece. slice_get (alternatives_in (arc_value batch)) k ≡ Some piece.owes) }
-    requires of { (arc_value batch).problem ≡ job.now.problem.now }
+    requires seat { IsSeat job.now.pool.now job.now.problem.now worker.old.seat.now }
+    requires stands { Standing O.Outlet job.now worker.old out.old }
+    requires kept { IsKeptOf job.now.problem.now worker.old.kept.now }
+    requires owes { IsSomeAnd worker.old.seat.now.mine.piece
+        (λ piece. slice_get (alternatives_in (arc_value claimed.batch)) claimed.k ≡ Some piece.owes) }
+    requires of { (arc_value claimed.batch).problem ≡ job.now.problem.now }
     requires none { events.old.items ≡ [] }
-    ensures leads { told.new.leads ≡ told.old.leads }
-    ensures kept { OnOk result (IsKeptOf job.now.problem.now kept.new) }
-    ensures ends { IfOk result (λ ending. EndsTo (Stands O.Outlet job.now seat.new out.new told.new) (Stopped O.Outlet job.now out.new
-        told.new) (WasRefused told.new) job.now.problem.now ending seat.old seat.new (map O.Found.stands_for events.new.items)) }
-    ensures failed { OnErr result (Stays (Stands O.Outlet job.now seat.new out.new told.new) seat.old seat.new) }
+    ensures holds { Holds worker.old worker.new }
+    ensures kept { OnOk result (IsKeptOf job.now.problem.now worker.new.kept.now) }
+    ensures ends { IfOk result (λ ending. EndsTo O.Outlet job.now ending worker.old worker.new out.new
+        (map O.Found.stands_for events.new.items)) }
+    ensures failed { OnErr result (Stays O.Outlet job.now worker.old worker.new out.new) }
 {
-    let mut engine = engine_for(job, kept, batch, k)?;
-    let ending = run_to_end(job, seat, &mut engine, events, told, out);
-    keep(kept, engine);
+    let mut engine = engine_for(job, worker.kept, claimed)?;
+    let ending = run_to_end(job, worker, &mut engine, events, out);
+    keep(worker.kept, engine);
     ending
 }
 
@@ -387,34 +381,31 @@ fn run_claimed<'p, R: Wait, O: Outlet>(
 // inferences. None where the pool is starved or stopped.
 fn run_piece<'p, R: Wait, O: Outlet>(
     job: &Job<'_, 'p, R, O>,
-    kept: &mut Option<Engine<'p>>,
-    seat: &mut Seat<Offer<'p, O::Found>>,
-    batch: Arc<Frozen<'p>>,
-    k: u32,
+    worker: &mut Worker<'_, 'p, O::Found>,
+    claimed: Alternative<'p>,
     events: &mut Vec<O::Found>,
-    told: &mut Told,
     out: &mut O,
 ) -> Result<Option<u64>, OutOfMemory>
     requires suits { O.Found.suits job.now.problem.now }
-    requires seat { IsSeat job.now.pool.now job.now.problem.now seat.old }
-    requires stands { Stands O.Outlet job.now seat.old out.old told.old }
-    requires kept { IsKeptOf job.now.problem.now kept.old }
-    requires owes { IsSomeAnd seat.old.mine.piece (λ piece. slice_get (alternatives_in (arc_value batch)) k ≡ Some piece.owes) }
-    requires of { (arc_value batch).problem ≡ job.now.problem.now }
+    requires seat { IsSeat job.now.pool.now job.now.problem.now worker.old.seat.now }
+    requires stands { Standing O.Outlet job.now worker.old out.old }
+    requires kept { IsKeptOf job.now.problem.now worker.old.kept.now }
+    requires owes { IsSomeAnd worker.old.seat.now.mine.piece
+        (λ piece. slice_get (alternatives_in (arc_value claimed.batch)) claimed.k ≡ Some piece.owes) }
+    requires of { (arc_value claimed.batch).problem ≡ job.now.problem.now }
     requires none { events.old.items ≡ [] }
-    ensures leads { told.new.leads ≡ told.old.leads }
-    ensures kept { OnOk result (IsKeptOf job.now.problem.now kept.new) }
-    ensures some { IfOk result (λ o. IfSome o (λ n. Reports (Stands O.Outlet job.now seat.new out.new told.new) seat.old
-        seat.new (map O.Found.stands_for events.new.items) n)) }
-    ensures none { IfOk result
-        (λ o. IfNone o (Leaves (Stopped O.Outlet job.now out.new told.new) (WasRefused told.new) seat.old seat.new)) }
-    ensures failed { OnErr result (Stays (Stands O.Outlet job.now seat.new out.new told.new) seat.old seat.new) }
+    ensures holds { Holds worker.old worker.new }
+    ensures kept { OnOk result (IsKeptOf job.now.problem.now worker.new.kept.now) }
+    ensures some { IfOk result (λ o. IfSome o
+        (λ n. Reports O.Outlet job.now worker.old worker.new out.new (map O.Found.stands_for events.new.items) n)) }
+    ensures none { IfOk result (λ o. IfNone o (Leaves O.Outlet job.now worker.old worker.new out.new)) }
+    ensures failed { OnErr result (Stays O.Outlet job.now worker.old worker.new out.new) }
 {
-    match run_claimed(job, kept, seat, batch, k, events, told, out)? {
+    match run_claimed(job, worker, claimed, events, out)? {
         Ending::Whole(inferences) => Ok(Some(inferences)),
         Ending::Left => Ok(None),
         Ending::Partly(inferences, back) => {
-            let ran = run_batch(job, kept, seat, &back, events, inferences, told, out);
+            let ran = run_batch(job, worker, &back, events, inferences, out);
             drop(back);
             ran
         }
@@ -424,33 +415,35 @@ fn run_piece<'p, R: Wait, O: Outlet>(
 /// Works an alternative that was claimed, and reports. False where the pool is starved or stopped.
 pub(crate) fn work_piece<'p, R: Wait, O: Outlet>(
     job: &Job<'_, 'p, R, O>,
-    kept: &mut Option<Engine<'p>>,
-    seat: &mut Seat<Offer<'p, O::Found>>,
+    worker: &mut Worker<'_, 'p, O::Found>,
     offer: Arc<Offer<'p, O::Found>>,
     k: u32,
-    told: &mut Told,
     out: &mut O,
 ) -> Result<bool, OutOfMemory>
     requires suits { O.Found.suits job.now.problem.now }
-    requires seat { IsSeat job.now.pool.now job.now.problem.now seat.old }
-    requires stands { Stands O.Outlet job.now seat.old out.old told.old }
-    requires kept { IsKeptOf job.now.problem.now kept.old }
-    requires owes { IsSomeAnd seat.old.mine.piece (λ piece. slice_get (alternatives_in (arc_value offer)) k ≡ Some piece.owes) }
+    requires seat { IsSeat job.now.pool.now job.now.problem.now worker.old.seat.now }
+    requires stands { Standing O.Outlet job.now worker.old out.old }
+    requires kept { IsKeptOf job.now.problem.now worker.old.kept.now }
+    requires owes { IsSomeAnd worker.old.seat.now.mine.piece
+        (λ piece. slice_get (alternatives_in (arc_value offer)) k ≡ Some piece.owes) }
     requires of { (arc_value offer).problem ≡ job.now.problem.now }
-    ensures leads { told.new.leads ≡ told.old.leads }
-    ensures kept { OnOk result (IsKeptOf job.now.problem.now kept.new) }
-    ensures done { IfOk result (λ done. done ≡ true → Stays
-        (Stands O.Outlet job.now seat.new out.new told.new) seat.old seat.new × (seat.new.mine.piece ≡ None)) }
-    ensures left { IfOk result (λ done. done ≡ false → Leaves (Stopped O.Outlet job.now out.new told.new)
-        (WasRefused told.new) seat.old seat.new) }
-    ensures failed { OnErr result (Stays (Stands O.Outlet job.now seat.new out.new told.new) seat.old seat.new) }
+    ensures holds { Holds worker.old worker.new }
+    ensures kept { OnOk result (IsKeptOf job.now.problem.now worker.new.kept.now) }
+    ensures done { IfOk result (λ done. done ≡ true → Stays O.Outlet job.now worker.old worker.new out.new
+        × (worker.new.seat.now.mine.piece ≡ None)) }
+    ensures left { IfOk result (λ done. done ≡ false → Leaves O.Outlet job.now worker.old worker.new out.new) }
+    ensures failed { OnErr result (Stays O.Outlet job.now worker.old worker.new out.new) }
 {
     let choice = offer.choice();
     drop(offer);
     let batch = choice?;
     let mut events = Vec::new(job.alloc);
-    match run_piece(job, kept, seat, batch, k, &mut events, told, out) {
-        Ok(Some(inferences)) => Ok(report(job, seat, events, inferences, told, out)),
+    let claimed = Alternative { batch, k };
+    match run_piece(job, worker, claimed, &mut events, out) {
+        Ok(Some(inferences)) => {
+            let found = Report { events, inferences };
+            Ok(report(job, worker.seat, found, worker.told, out))
+        }
         Ok(None) => {
             drop(events);
             Ok(false)

@@ -4,7 +4,9 @@ ghost use Rattle.ll_job.specs.Seats.{IsSeat, Same, HasLeft, IsOver};
 ghost use Rattle.ll_job.specs.Leading.{Stands, Stopped, WasRefused};
 ghost use Rattle.ll_job.specs.Turns.{Stays, Ended, Leaves, Fails, CanWork};
 ghost use Rattle.ll_crew.specs.Pieces.{IsKeptOf};
-ghost use Rattle.ll_crew.specs.Runs.{WentTo, TakesTurn};
+ghost use Rattle.ll_crew.specs.Runs.{TakesTurn};
+ghost use Rattle.ll_crew.specs.Workers as workers;
+ghost use Rattle.ll_crew.specs.Workers.{Holds, Standing, WentTo};
 
 use crate::piece::work_piece;
 use ll_bank::OutOfMemory;
@@ -25,6 +27,17 @@ use std::thread;
 /// So often a worker that finds nothing to claim yields and tries again, before it waits for the bell.
 const YIELDS: u32 = 4;
 
+/// What a worker has at hand. Its engine goes on from one claim to the next.
+#[derive(Drop)]
+pub(crate) struct Worker<'w, 'p, E: Notice> {
+    /// Its seat at the pool.
+    pub(crate) seat: &'w mut Seat<Offer<'p, E>>,
+    /// The engine that it keeps between two pieces.
+    pub(crate) kept: &'w mut Option<Engine<'p>>,
+    /// What it has told the outlet.
+    pub(crate) told: &'w mut Told,
+}
+
 // How a claim went.
 enum Went {
     // An alternative was claimed, worked and reported.
@@ -40,31 +53,28 @@ enum Went {
 // Claims an alternative and works it, if there is one. Where there is none a worker that leads gives the outlet what is ready.
 fn claim_one<'p, R: Wait, O: Outlet>(
     job: &Job<'_, 'p, R, O>,
-    kept: &mut Option<Engine<'p>>,
-    seat: &mut Seat<Offer<'p, O::Found>>,
-    told: &mut Told,
+    worker: &mut Worker<'_, 'p, O::Found>,
     out: &mut O,
 ) -> Result<Went, OutOfMemory>
     requires suits { O.Found.suits job.now.problem.now }
-    requires seat { CanWork job.now.pool.now job.now.problem.now seat.old }
-    requires stands { Stands O.Outlet job.now seat.old out.old told.old }
-    requires kept { IsKeptOf job.now.problem.now kept.old }
-    ensures leads { told.new.leads ≡ told.old.leads }
-    ensures kept { OnOk result (IsKeptOf job.now.problem.now kept.new) }
-    ensures went { IfOk result (λ went. WentTo (Stands O.Outlet job.now seat.new out.new told.new)
-        (Stopped O.Outlet job.now out.new told.new) (WasRefused told.new) job.now.problem.now went seat.old seat.new) }
-    ensures turns { IfOk result (λ went. TakesTurn went seat.old seat.new) }
-    ensures failed { OnErr result (Stays (Stands O.Outlet job.now seat.new out.new told.new) seat.old seat.new) }
+    requires seat { CanWork job.now.pool.now job.now.problem.now worker.old.seat.now }
+    requires stands { Standing O.Outlet job.now worker.old out.old }
+    requires kept { IsKeptOf job.now.problem.now worker.old.kept.now }
+    ensures holds { Holds worker.old worker.new }
+    ensures kept { OnOk result (IsKeptOf job.now.problem.now worker.new.kept.now) }
+    ensures went { IfOk result (λ went. WentTo O.Outlet job.now went worker.old worker.new out.new) }
+    ensures turns { IfOk result (λ went. TakesTurn went worker.old.seat.now worker.new.seat.now) }
+    ensures failed { OnErr result (workers.Stays O.Outlet job.now worker.old worker.new out.new) }
 {
-    match job.pool.claim(job.rt, seat) {
+    match job.pool.claim(job.rt, worker.seat) {
         Claimed::Work { piece: _, batch, k } => {
-            if work_piece(job, kept, seat, batch, k, told, out)? {
+            if work_piece(job, worker, batch, k, out)? {
                 return Ok(Went::Worked);
             }
             Ok(Went::Left)
         }
         Claimed::Idle { busy: _ } => {
-            if tell(job, seat, told, out) {
+            if tell(job, worker.seat, worker.told, out) {
                 return Ok(Went::Idle);
             }
             Ok(Went::Left)
@@ -80,28 +90,24 @@ fn claim_one<'p, R: Wait, O: Outlet>(
 fn work_with<'p, R: Wait, G: Gate, O: Outlet>(
     job: &Job<'_, 'p, R, O>,
     gate: &G,
-    kept: &mut Option<Engine<'p>>,
-    seat: &mut Seat<Offer<'p, O::Found>>,
-    told: &mut Told,
+    worker: &mut Worker<'_, 'p, O::Found>,
     out: &mut O,
 ) -> Result<bool, OutOfMemory>
     requires suits { O.Found.suits job.now.problem.now }
-    requires seat { CanWork job.now.pool.now job.now.problem.now seat.old }
-    requires stands { Stands O.Outlet job.now seat.old out.old told.old }
-    requires kept { IsKeptOf job.now.problem.now kept.old }
-    ensures leads { told.new.leads ≡ told.old.leads }
-    ensures done { IfOk result (λ done. done ≡ true → Ended
-        (Stands O.Outlet job.now seat.new out.new told.new) job.now.problem.now seat.old seat.new) }
-    ensures left { IfOk result (λ done. done ≡ false → Leaves (Stopped O.Outlet job.now out.new told.new)
-        (WasRefused told.new) seat.old seat.new) }
-    ensures failed { OnErr result (Stays (Stands O.Outlet job.now seat.new out.new told.new) seat.old seat.new) }
+    requires seat { CanWork job.now.pool.now job.now.problem.now worker.old.seat.now }
+    requires stands { Standing O.Outlet job.now worker.old out.old }
+    requires kept { IsKeptOf job.now.problem.now worker.old.kept.now }
+    ensures holds { Holds worker.old worker.new }
+    ensures done { IfOk result (λ done. done ≡ true → workers.Ended O.Outlet job.now worker.old worker.new out.new) }
+    ensures left { IfOk result (λ done. done ≡ false → workers.Leaves O.Outlet job.now worker.old worker.new out.new) }
+    ensures failed { OnErr result (workers.Stays O.Outlet job.now worker.old worker.new out.new) }
 {
     let mut claims = 0u64;
     let mut misses = 0u32;
     'claims: for _ in job.rt.forever() {
-        gate.pause(seat.worker(), claims);
-        let heard = job.bell.heard(job.rt, seat);
-        match claim_one(job, kept, seat, told, out)? {
+        gate.pause(worker.seat.worker(), claims);
+        let heard = job.bell.heard(job.rt, worker.seat);
+        match claim_one(job, worker, out)? {
             Went::Worked => {
                 claims = claims.saturating_add(1);
                 misses = 0;
@@ -110,7 +116,7 @@ fn work_with<'p, R: Wait, G: Gate, O: Outlet>(
                 if misses < YIELDS {
                     thread::yield_now();
                 } else {
-                    job.bell.wait(job.rt, told.leads, heard, seat);
+                    job.bell.wait(job.rt, worker.told.leads, heard, worker.seat);
                 }
                 misses = misses.saturating_add(1);
             }
@@ -140,7 +146,12 @@ fn work_on<'p, R: Wait, G: Gate, O: Outlet>(
     ensures failed { OnErr result (Stays (Stands O.Outlet job.now seat.new out.new told.new) seat.old seat.new) }
 {
     let mut kept = None;
-    let done = work_with(job, gate, &mut kept, seat, told, out);
+    let mut worker = Worker {
+        seat,
+        kept: &mut kept,
+        told,
+    };
+    let done = work_with(job, gate, &mut worker, out);
     drop(kept);
     done
 }

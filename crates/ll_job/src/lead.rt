@@ -1,5 +1,5 @@
 //! What worker 0 tells the outlet, a look at the pool, and the report of a piece.
-ghost use Rattle.std.specs.Prelude.{◌≡◌, ◌≤◌, None, IfSome, IsSome, IsNone, IsSomeAnd, map, true, false};
+ghost use Rattle.std.specs.Prelude.{◌≡◌, ◌≤◌, None, IfSome, IsSome, IsNone, IsSomeAnd, true, false};
 ghost use Rattle.ll_laws.specs.Sound.{report_of};
 ghost use Rattle.ll_pool.specs.Turns.{HasQuit};
 ghost use Rattle.ll_job.specs.Seats.{IsSeat};
@@ -171,22 +171,20 @@ pub fn look<'p, R: Wait, O: Outlet>(
 pub fn report<'p, R: Wait, O: Outlet>(
     job: &Job<'_, 'p, R, O>,
     seat: &mut Seat<Offer<'p, O::Found>>,
-    events: Vec<O::Found>,
-    inferences: u64,
+    found: Report<O::Found>,
     told: &mut Told,
     out: &mut O,
 ) -> bool
     requires seat { IsSeat job.now.pool.now job.now.problem.now seat.old }
     requires stands { Stands O.Outlet job.now seat.old out.old told.old }
-    requires owes { IsSomeAnd seat.old.mine.piece (λ piece. record { events = map O.Found.stands_for events.items; cost = inferences }
-        ≡ report_of piece.owes) }
+    requires owes { IsSomeAnd seat.old.mine.piece (λ piece. found ≡ report_of piece.owes) }
     ensures leads { told.new.leads ≡ told.old.leads }
-    ensures done { result ≡ true → Stays (Stands O.Outlet job.now seat.new out.new told.new) seat.old seat.new ×
-        (seat.new.mine.piece ≡ None) }
+    ensures done { result ≡ true → Stays (Stands O.Outlet job.now seat.new out.new told.new) seat.old seat.new
+        × (seat.new.mine.piece ≡ None) }
     ensures left { result ≡ false → Leaves (Stopped O.Outlet job.now out.new told.new)
         (WasRefused told.new) seat.old seat.new }
 {
-    job.pool.report(job.rt, seat, Report { events, inferences });
+    job.pool.report(job.rt, seat, found);
     let _woken = job.bell.ring(job.rt, 0);
     tell(job, seat, told, out)
 }

@@ -9,11 +9,12 @@ pub returns-in-Some-clause-problem : goal.returns-in-Some-clause-problem
 returns-in-Some-clause-problem g c =
     subst (λ p. IfOk c.advance.result (λ (e : Owing). e.problem ≡ p))
     (kept_some c.args.job.now.problem.now c.args.kept.now c.in-Some.engine (sym c.take.ensures.value ∙ c.in-Some.is) c.requires.kept)
-    (its_problems (alternatives_in (arc_value c.args.batch)) c.args.k c.in-Some.engine.problem c.advance.result c.requires.inside c.advance.ensures.owes)
+    (its_problems (alternatives_in (arc_value c.args.claimed.batch)) c.args.claimed.k c.in-Some.engine.problem c.advance.result c.requires.inside
+    c.advance.ensures.owes)
 
 pub returns-in-None-clause-problem : goal.returns-in-None-clause-problem
 returns-in-None-clause-problem g c =
-    its_problems (alternatives_in (arc_value c.args.batch)) c.args.k c.args.job.now.problem.now c.resume_shared.result c.requires.inside
+    its_problems (alternatives_in (arc_value c.args.claimed.batch)) c.args.claimed.k c.args.job.now.problem.now c.resume_shared.result c.requires.inside
     c.resume_shared.ensures.owes
 
 pub advance-requires-clause-inside : goal.advance-requires-clause-inside

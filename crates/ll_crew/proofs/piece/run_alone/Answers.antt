@@ -5,18 +5,19 @@ use Rattle.std.proofs.lemmas.Result.{IfOk-from_err}
 use Rattle.ll_lists.proofs.CallerLemmas.{OnErr-always}
 use Rattle.ll_job.specs.Leading.{WasRefused}
 use Rattle.ll_job.proofs.CallerLemmas.{same_itself, seat_on, goes_stays, stays_out, goes_on}
+use Rattle.ll_crew.proofs.Holding.{holds_itself}
 use Rattle.ll_crew.proofs.Running.{stretching_starts, stretch_on, stretch_last}
 use Rattle.ll_crew.proofs.piece.run_alone.Goals as goal
 
 pub stretches-init : goal.stretches-init
 stretches-init g c = (
-  refl,
-  record { same = same_itself c.args.seat.now; piece = refl; quit = refl; stands = c.requires.stands },
+  holds_itself _,
+  record { same = same_itself c.args.worker.now.seat.now; piece = refl; quit = refl; stands = c.requires.stands },
   stretching_starts (map g.O.Found.Notice.stands_for c.args.events.now.items) c.args.engine.now,
 )
 
-pub returns-in_err-stretch-clause-leads : goal.returns-in_err-stretch-clause-leads
-returns-in_err-stretch-clause-leads g c = let i = c.stretches.invariant in i.0
+pub returns-in_err-stretch-clause-holds : goal.returns-in_err-stretch-clause-holds
+returns-in_err-stretch-clause-holds g c = let i = c.stretches.invariant in i.0
 
 pub returns-in_err-stretch-clause-problem : goal.returns-in_err-stretch-clause-problem
 returns-in_err-stretch-clause-problem g c = IfOk-from_err c.from_residual.result _ c.from_residual.ensures.0
@@ -30,10 +31,10 @@ returns-in_err-stretch-clause-left g c = IfOk-from_err c.from_residual.result _ 
 pub returns-in_err-stretch-clause-failed : goal.returns-in_err-stretch-clause-failed
 returns-in_err-stretch-clause-failed g c =
     let i = c.stretches.invariant in
-    OnErr-always c.from_residual.result (goes_stays _ c.args.seat.now c.stretches.seat i.1)
+    OnErr-always c.from_residual.result (goes_stays _ c.args.worker.now.seat.now c.stretches.worker.seat.now i.1)
 
-pub returns-then-branch-clause-leads : goal.returns-then-branch-clause-leads
-returns-then-branch-clause-leads g c = let i = c.stretches.invariant in i.0
+pub returns-then-branch-clause-holds : goal.returns-then-branch-clause-holds
+returns-then-branch-clause-holds g c = let i = c.stretches.invariant in i.0
 
 pub returns-then-branch-clause-problem : goal.returns-then-branch-clause-problem
 returns-then-branch-clause-problem g c =
@@ -52,13 +53,14 @@ returns-then-branch-clause-left g c = λ e. absurd (true≢false e)
 pub look-requires-clause-seat : goal.look-requires-clause-seat
 look-requires-clause-seat g c κs within =
     let i = c.stretches.invariant in let goes = i.1 in
-    seat_on c.args.job.now.pool.now c.args.job.now.problem.now c.args.seat.now c.stretches.seat goes.same c.requires.seat
+    seat_on c.args.job.now.pool.now c.args.job.now.problem.now c.args.worker.now.seat.now c.stretches.worker.seat.now goes.same c.requires.seat
 
 pub look-requires-clause-stands : goal.look-requires-clause-stands
 look-requires-clause-stands g c κs within = let i = c.stretches.invariant in let goes = i.1 in goes.stands
 
-pub returns-then-is_none-clause-leads : goal.returns-then-is_none-clause-leads
-returns-then-is_none-clause-leads g c = let i = c.stretches.invariant in c.look.ensures.leads ∙ i.0
+pub returns-then-is_none-clause-holds : goal.returns-then-is_none-clause-holds
+returns-then-is_none-clause-holds g c = let i = c.stretches.invariant in
+    (let h = i.0 in record { leads = c.look.ensures.leads ∙ h.leads; seat = h.seat; told = h.told; kept = h.kept })
 
 pub returns-then-is_none-clause-problem : goal.returns-then-is_none-clause-problem
 returns-then-is_none-clause-problem g c =
@@ -71,8 +73,8 @@ pub returns-then-is_none-clause-left : goal.returns-then-is_none-clause-left
 returns-then-is_none-clause-left g c = λ e.
     let i = c.stretches.invariant in
     let none : IsNone c.look.result = search rules in
-    stays_out _ _ (WasRefused c.look.new.told) c.args.seat.now c.stretches.seat c.look.new.seat
-    (goes_stays _ c.args.seat.now c.stretches.seat i.1) (c.look.ensures.left none)
+    stays_out _ _ (WasRefused c.look.new.told) c.args.worker.now.seat.now c.stretches.worker.seat.now c.look.new.seat
+    (goes_stays _ c.args.worker.now.seat.now c.stretches.worker.seat.now i.1) (c.look.ensures.left none)
 
 pub stretches-preserved : goal.stretches-preserved
 stretches-preserved g c =
@@ -80,9 +82,9 @@ stretches-preserved g c =
     let some : IsSome c.look.result = search rules in
     let last = c.in_ok-stretch.ensures in
     let less = last.less c.if-branch.false in (
-      c.look.ensures.leads ∙ i.0,
+      (let h = i.0 in record { leads = c.look.ensures.leads ∙ h.leads; seat = h.seat; told = h.told; kept = h.kept }),
       goes_on g.O.Outlet c.args.job.now.start.now.value c.args.job.now.problem.now
-          c.args.seat.now c.stretches.seat c.look.new.seat _ _ i.1 (c.look.ensures.on some),
+          c.args.worker.now.seat.now c.stretches.worker.seat.now c.look.new.seat _ _ i.1 (c.look.ensures.on some),
       stretch_on c.in_ok-stretch.field-0 (map g.O.Found.Notice.stands_for c.args.events.now.items)
           (map g.O.Found.Notice.stands_for c.stretches.events.items) (map g.O.Found.Notice.stands_for c.stretch.new.events.items)
           c.args.engine.now c.stretches.engine c.stretch.new.engine i.2 last (omega arith),

@@ -4,8 +4,10 @@ use Rattle.std.specs.Arc.{arc_value}
 use Rattle.std.proofs.lemmas.Result.{IfOk-from_err}
 use Rattle.ll_lists.proofs.CallerLemmas.{OnErr-always}
 use Rattle.ll_freeze.specs.Frozen.{FrozenSight, alternatives_in}
-use Rattle.ll_job.specs.Leading.{Stands}
-use Rattle.ll_job.proofs.CallerLemmas.{seat_on, stays_on, goes_stays}
+use Rattle.ll_job.proofs.CallerLemmas.{seat_on, stays_on, stays_out, goes_stays}
+use Rattle.ll_crew.specs.Workers.{Standing}
+use Rattle.ll_crew.proofs.Arms.{none_of}
+use Rattle.ll_crew.proofs.Holding.{holds_on}
 use Rattle.ll_crew.proofs.Finishing.{at_place, runs_more}
 use Rattle.ll_crew.proofs.piece.run_batch.Goals as goal
 
@@ -17,11 +19,11 @@ loop-k-preserved g c =
     let at = at_place (alternatives_in (arc_value c.args.batch.now)) c.loop-k.k low in
     let same : arc_value c.in_ok-shared.shared ≡ arc_value c.args.batch.now = search rules in
     let one = (rw c.in-Some.is at c.in_ok-more.ensures.some) at.0 (ap (λ (b : FrozenSight). slice_get (alternatives_in b) c.loop-k.k) same ∙ at.1) in (
-      c.run_one.ensures.leads ∙ i.0,
+      holds_on _ _ _ i.0 c.run_one.ensures.holds,
       c.in_ok-more.ensures.kept,
-      runs_more (Stands g.O.Outlet c.args.job.now
-          c.loop-k.seat c.loop-k.out c.loop-k.told) (Stands g.O.Outlet c.args.job.now c.run_one.new.seat c.run_one.new.out c.run_one.new.told)
-          c.args.seat.now c.loop-k.seat c.run_one.new.seat (map g.O.Found.Notice.stands_for c.args.events.now.items) c.args.inferences
+      runs_more (Standing g.O.Outlet c.args.job.now c.loop-k.worker c.loop-k.out) (Standing g.O.Outlet c.args.job.now c.run_one.new.worker c.run_one.new.out)
+          c.args.worker.now.seat.now c.loop-k.worker.seat.now c.run_one.new.worker.seat.now (map g.O.Found.Notice.stands_for c.args.events.now.items)
+          c.args.inferences
           (alternatives_in (arc_value c.args.batch.now)) c.loop-k.k
           at.0
           (map g.O.Found.Notice.stands_for c.loop-k.events.items) (map g.O.Found.Notice.stands_for c.run_one.new.events.items) c.loop-k.inferences
@@ -29,8 +31,8 @@ loop-k-preserved g c =
           c.saturating_add-inferences.ensures,
     )
 
-pub returns-in_err-shared-clause-leads : goal.returns-in_err-shared-clause-leads
-returns-in_err-shared-clause-leads g c = let i = c.loop-k.invariant in i.0
+pub returns-in_err-shared-clause-holds : goal.returns-in_err-shared-clause-holds
+returns-in_err-shared-clause-holds g c = let i = c.loop-k.invariant in i.0
 
 pub returns-in_err-shared-clause-kept : goal.returns-in_err-shared-clause-kept
 returns-in_err-shared-clause-kept g c = IfOk-from_err c.from_residual.result _ c.from_residual.ensures.0
@@ -44,7 +46,7 @@ returns-in_err-shared-clause-none g c = IfOk-from_err c.from_residual.result _ c
 pub returns-in_err-shared-clause-failed : goal.returns-in_err-shared-clause-failed
 returns-in_err-shared-clause-failed g c =
     let i = c.loop-k.invariant in let runs = i.2 in let goes = runs.goes in
-    OnErr-always c.from_residual.result (goes_stays _ c.args.seat.now c.loop-k.seat goes)
+    OnErr-always c.from_residual.result (goes_stays _ c.args.worker.now.seat.now c.loop-k.worker.seat.now goes)
 
 pub run_one-requires-clause-suits : goal.run_one-requires-clause-suits
 run_one-requires-clause-suits g c κs within = c.requires.suits
@@ -52,7 +54,7 @@ run_one-requires-clause-suits g c κs within = c.requires.suits
 pub run_one-requires-clause-seat : goal.run_one-requires-clause-seat
 run_one-requires-clause-seat g c κs within =
     let i = c.loop-k.invariant in let runs = i.2 in let goes = runs.goes in
-    seat_on c.args.job.now.pool.now c.args.job.now.problem.now c.args.seat.now c.loop-k.seat goes.same c.requires.seat
+    seat_on c.args.job.now.pool.now c.args.job.now.problem.now c.args.worker.now.seat.now c.loop-k.worker.seat.now goes.same c.requires.seat
 
 pub run_one-requires-clause-stands : goal.run_one-requires-clause-stands
 run_one-requires-clause-stands g c κs within = let i = c.loop-k.invariant in let runs = i.2 in let goes = runs.goes in goes.stands
@@ -60,8 +62,8 @@ run_one-requires-clause-stands g c κs within = let i = c.loop-k.invariant in le
 pub run_one-requires-clause-kept : goal.run_one-requires-clause-kept
 run_one-requires-clause-kept g c κs within = let i = c.loop-k.invariant in i.1
 
-pub returns-in_err-more-clause-leads : goal.returns-in_err-more-clause-leads
-returns-in_err-more-clause-leads g c = let i = c.loop-k.invariant in c.run_one.ensures.leads ∙ i.0
+pub returns-in_err-more-clause-holds : goal.returns-in_err-more-clause-holds
+returns-in_err-more-clause-holds g c = let i = c.loop-k.invariant in holds_on _ _ _ i.0 c.run_one.ensures.holds
 
 pub returns-in_err-more-clause-kept : goal.returns-in_err-more-clause-kept
 returns-in_err-more-clause-kept g c = IfOk-from_err c.from_residual-in_err-more.result _ c.from_residual-in_err-more.ensures.0
@@ -76,16 +78,17 @@ pub returns-in_err-more-clause-failed : goal.returns-in_err-more-clause-failed
 returns-in_err-more-clause-failed g c =
     let i = c.loop-k.invariant in let runs = i.2 in let goes = runs.goes in
     OnErr-always c.from_residual-in_err-more.result
-    (stays_on _ _ c.args.seat.now c.loop-k.seat c.run_one.new.seat (goes_stays _ c.args.seat.now c.loop-k.seat goes) c.in_err-more.ensures.failed)
+    (stays_on _ _ c.args.worker.now.seat.now c.loop-k.worker.seat.now c.run_one.new.worker.seat.now
+    (goes_stays _ c.args.worker.now.seat.now c.loop-k.worker.seat.now goes) c.in_err-more.ensures.failed)
 
-pub returns-in_default-clause-leads : goal.returns-in_default-clause-leads
-returns-in_default-clause-leads g c = let i = c.loop-k.invariant in c.run_one.ensures.leads ∙ i.0
+pub returns-in_default-clause-holds : goal.returns-in_default-clause-holds
+returns-in_default-clause-holds g c = let i = c.loop-k.invariant in holds_on _ _ _ i.0 c.run_one.ensures.holds
 
 pub returns-in_default-clause-kept : goal.returns-in_default-clause-kept
 returns-in_default-clause-kept g c = c.in_ok-more.ensures.kept
 
-pub returns-clause-leads : goal.returns-clause-leads
-returns-clause-leads g c = let i = c.loop-k.invariant in i.0
+pub returns-clause-holds : goal.returns-clause-holds
+returns-clause-holds g c = let i = c.loop-k.invariant in i.0
 
 pub returns-clause-kept : goal.returns-clause-kept
 returns-clause-kept g c = let i = c.loop-k.invariant in i.1
@@ -101,3 +104,9 @@ returns-clause-none g c = _
 
 pub returns-clause-failed : goal.returns-clause-failed
 returns-clause-failed g c = _
+
+pub returns-in_default-clause-none : goal.returns-in_default-clause-none
+returns-in_default-clause-none g c =
+    let i = c.loop-k.invariant in let runs = i.2 in
+    stays_out _ _ _ c.args.worker.now.seat.now c.loop-k.worker.seat.now c.run_one.new.worker.seat.now
+    (goes_stays _ c.args.worker.now.seat.now c.loop-k.worker.seat.now runs.goes) (none_of c.in_ok-more.field-0 c.in_default.is c.in_ok-more.ensures.none)

@@ -1,17 +1,16 @@
 use Rattle.std.specs.Prelude.{map}
-use Rattle.std.proofs.Common.{◌≡◌}
 use Rattle.std.specs.Arc.{arc_value}
 use Rattle.ll_freeze.specs.Frozen.{alternatives_in}
-use Rattle.ll_job.specs.Leading.{Stands}
 use Rattle.ll_crew.specs.Pieces.{IsKeptOf}
 use Rattle.ll_crew.specs.Runs.{RunsFirst}
+use Rattle.ll_crew.specs.Workers.{Holds, Standing}
 use Rattle.ll_crew.proofs.piece.run_batch.Given as goal
 
 abbrev pub invariant-loop-k : goal.invariant-loop-k
 invariant-loop-k g l =
-    (l.told.leads ≡ l.initial.told.leads)
-    × IsKeptOf l.job.problem.now l.kept
-    × RunsFirst (Stands g.O.Outlet l.job l.seat l.out l.told)
-    l.initial.seat l.seat
+    Holds l.initial.worker l.worker
+    × IsKeptOf l.job.problem.now l.worker.kept.now
+    × RunsFirst (Standing g.O.Outlet l.job l.worker l.out)
+    l.initial.worker.seat.now l.worker.seat.now
     (map g.O.Found.Notice.stands_for l.initial.events.items) l.initial.inferences (alternatives_in (arc_value l.batch)) l.k
     (map g.O.Found.Notice.stands_for l.events.items) l.inferences

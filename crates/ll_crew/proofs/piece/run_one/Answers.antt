@@ -6,16 +6,17 @@ use Rattle.ll_lists.proofs.CallerLemmas.{OnOk-weaker, OnErr-always}
 use Rattle.ll_laws.specs.declared.Event.{Event}
 use Rattle.ll_laws.specs.Pool.{Owed}
 use Rattle.ll_freeze.specs.Frozen.{alternatives_in}
-use Rattle.ll_job.specs.Leading.{Stands, Stopped, WasRefused}
+use Rattle.ll_job.specs.Leading.{WasRefused}
 use Rattle.ll_job.specs.Turns.{Leaves}
 use Rattle.ll_crew.specs.Pieces.{IsKeptOf}
 use Rattle.ll_crew.specs.Runs.{RunsOne}
 use Rattle.ll_job.proofs.CallerLemmas.{stays_here}
+use Rattle.ll_crew.specs.Workers.{Standing, Stopping}
 use Rattle.ll_crew.proofs.Finishing.{one_run, chosen_holds, chosen_on, chosen_fails, done_of}
 use Rattle.ll_crew.proofs.piece.run_one.Goals as goal
 
-pub returns-in_err-engine-clause-leads : goal.returns-in_err-engine-clause-leads
-returns-in_err-engine-clause-leads g c = refl
+pub returns-in_err-engine-clause-holds : goal.returns-in_err-engine-clause-holds
+returns-in_err-engine-clause-holds g c = record { leads = refl; seat = refl; told = refl; kept = refl }
 
 pub returns-in_err-engine-clause-kept : goal.returns-in_err-engine-clause-kept
 returns-in_err-engine-clause-kept g c = IfOk-from_err c.from_residual.result _ c.from_residual.ensures.0
@@ -27,10 +28,10 @@ pub returns-in_err-engine-clause-none : goal.returns-in_err-engine-clause-none
 returns-in_err-engine-clause-none g c = IfOk-from_err c.from_residual.result _ c.from_residual.ensures.0
 
 pub returns-in_err-engine-clause-failed : goal.returns-in_err-engine-clause-failed
-returns-in_err-engine-clause-failed g c = OnErr-always c.from_residual.result (stays_here _ c.args.seat.now c.requires.stands)
+returns-in_err-engine-clause-failed g c = OnErr-always c.from_residual.result (stays_here _ c.args.worker.now.seat.now c.requires.stands)
 
-pub returns-clause-leads : goal.returns-clause-leads
-returns-clause-leads g c = c.run_alone-done.ensures.leads
+pub returns-clause-holds : goal.returns-clause-holds
+returns-clause-holds g c = let h = c.run_alone-done.ensures.holds in record { leads = h.leads; seat = h.seat; told = h.told; kept = h.kept }
 
 pub returns-clause-kept : goal.returns-clause-kept
 returns-clause-kept g c =
@@ -43,9 +44,9 @@ pub returns-clause-some : goal.returns-clause-some
 returns-clause-some g c =
     let alone = c.run_alone-done.ensures in let chosen = c.choose.ensures in
     chosen_holds
-    (λ (x : Option ℕ). IfSome x (λ n. (owes : Owed Event) → slice_get (alternatives_in (arc_value c.args.batch)) c.args.k ≡ Some owes → RunsOne
-    (Stands g.O.Outlet c.args.job.now c.run_alone-done.new.seat c.run_alone-done.new.out c.run_alone-done.new.told)
-    c.args.seat.now c.run_alone-done.new.seat (map g.O.Found.Notice.stands_for c.args.events.now.items) owes
+    (λ (x : Option ℕ). IfSome x (λ n. (owes : Owed Event) → slice_get (alternatives_in (arc_value c.args.claimed.batch)) c.args.claimed.k ≡ Some owes → RunsOne
+    (Standing g.O.Outlet c.args.job.now c.run_alone-done.new.worker c.run_alone-done.new.out)
+    c.args.worker.now.seat.now c.run_alone-done.new.worker.seat.now (map g.O.Found.Notice.stands_for c.args.events.now.items) owes
     (map g.O.Found.Notice.stands_for c.run_alone-done.new.events.items) n))
     c.run_alone-done.result c.choose.result (Some c.cost-inferences.result) None chosen.yes chosen.no chosen.failed
     (λ is owes at. one_run _ _ _ owes _ _ _ _ _ _ (c.in_ok-engine.ensures.owes owes at) (done_of _ c.run_alone-done.result true is alone.done refl)
@@ -57,8 +58,9 @@ returns-clause-none g c =
     let alone = c.run_alone-done.ensures in let chosen = c.choose.ensures in
     chosen_holds
     (λ (x : Option ℕ). IfNone x (Leaves
-    (Stopped g.O.Outlet c.args.job.now c.run_alone-done.new.out c.run_alone-done.new.told) (WasRefused c.run_alone-done.new.told) c.args.seat.now
-    c.run_alone-done.new.seat))
+    (Stopping g.O.Outlet c.args.job.now c.run_alone-done.new.worker c.run_alone-done.new.out) (WasRefused c.run_alone-done.new.worker.told.now)
+    c.args.worker.now.seat.now
+    c.run_alone-done.new.worker.seat.now))
     c.run_alone-done.result c.choose.result (Some c.cost-inferences.result) None chosen.yes chosen.no chosen.failed
     (λ is. tt) (λ is. done_of _ c.run_alone-done.result false is alone.left refl)
 

@@ -1,13 +1,13 @@
-use Rattle.std.proofs.Common.{◌∙◌}
 use Rattle.std.proofs.lemmas.Result.{IfOk-from_err}
 use Rattle.ll_lists.proofs.CallerLemmas.{OnErr-always}
 use Rattle.ll_crew.specs.declared.piece.Ending.TheVariants as ending
+use Rattle.ll_crew.proofs.Holding.{holds_on}
 use Rattle.ll_crew.proofs.Arms.{ended_as}
 use Rattle.ll_crew.proofs.Finishing.{partly_reports}
 use Rattle.ll_crew.proofs.piece.run_piece.Goals as goal
 
-pub returns-in_err-inferences-clause-leads : goal.returns-in_err-inferences-clause-leads
-returns-in_err-inferences-clause-leads g c = c.run_claimed.ensures.leads
+pub returns-in_err-inferences-clause-holds : goal.returns-in_err-inferences-clause-holds
+returns-in_err-inferences-clause-holds g c = c.run_claimed.ensures.holds
 
 pub returns-in_err-inferences-clause-kept : goal.returns-in_err-inferences-clause-kept
 returns-in_err-inferences-clause-kept g c = IfOk-from_err c.from_residual.result _ c.from_residual.ensures.0
@@ -21,17 +21,17 @@ returns-in_err-inferences-clause-none g c = IfOk-from_err c.from_residual.result
 pub returns-in_err-inferences-clause-failed : goal.returns-in_err-inferences-clause-failed
 returns-in_err-inferences-clause-failed g c = OnErr-always c.from_residual.result c.in_err-inferences.ensures.failed
 
-pub returns-in-Partly-clause-leads : goal.returns-in-Partly-clause-leads
-returns-in-Partly-clause-leads g c = c.run_batch-ran.ensures.leads ∙ c.run_claimed.ensures.leads
+pub returns-in-Partly-clause-holds : goal.returns-in-Partly-clause-holds
+returns-in-Partly-clause-holds g c = holds_on _ _ _ c.run_claimed.ensures.holds c.run_batch-ran.ensures.holds
 
-pub returns-in-Whole-clause-leads : goal.returns-in-Whole-clause-leads
-returns-in-Whole-clause-leads g c = c.run_claimed.ensures.leads
+pub returns-in-Whole-clause-holds : goal.returns-in-Whole-clause-holds
+returns-in-Whole-clause-holds g c = c.run_claimed.ensures.holds
 
 pub returns-in-Whole-clause-kept : goal.returns-in-Whole-clause-kept
 returns-in-Whole-clause-kept g c = c.in_ok-inferences.ensures.kept
 
-pub returns-in-Left-clause-leads : goal.returns-in-Left-clause-leads
-returns-in-Left-clause-leads g c = c.run_claimed.ensures.leads
+pub returns-in-Left-clause-holds : goal.returns-in-Left-clause-holds
+returns-in-Left-clause-holds g c = c.run_claimed.ensures.holds
 
 pub returns-in-Left-clause-kept : goal.returns-in-Left-clause-kept
 returns-in-Left-clause-kept g c = c.in_ok-inferences.ensures.kept
@@ -49,8 +49,8 @@ returns-in-Partly-clause-kept g c = c.run_batch-ran.ensures.kept
 
 pub returns-in-Partly-clause-some : goal.returns-in-Partly-clause-some
 returns-in-Partly-clause-some g c =
-    partly_reports _ _ _ _ _ c.in_ok-inferences.field-0 c.in-Partly.inferences c.in-Partly.back c.args.seat.now c.run_claimed.new.seat
-    c.run_batch-ran.new.seat _ _ c.run_batch-ran.result c.in-Partly.is c.in_ok-inferences.ensures.ends c.run_batch-ran.ensures.some
+    partly_reports _ _ _ _ _ c.in_ok-inferences.field-0 c.in-Partly.inferences c.in-Partly.back c.args.worker.now.seat.now c.run_claimed.new.worker.seat.now
+    c.run_batch-ran.new.worker.seat.now _ _ c.run_batch-ran.result c.in-Partly.is c.in_ok-inferences.ensures.ends c.run_batch-ran.ensures.some
 
 pub returns-in-Whole-clause-none : goal.returns-in-Whole-clause-none
 returns-in-Whole-clause-none g c = _

@@ -5,22 +5,22 @@ use Rattle.std.specs.Arc.{arc_value}
 use Rattle.ll_lists.proofs.CallerLemmas.{OnOk-weaker, OnErr-weaker}
 use Rattle.ll_laws.specs.Search.{cut_count}
 use Rattle.ll_freeze.specs.Frozen.{alternatives_in}
-use Rattle.ll_job.specs.Leading.{Stands, Stopped, WasRefused}
+use Rattle.ll_job.specs.Leading.{WasRefused}
 use Rattle.ll_crew.specs.Runs.{RunsTo, EndsTo}
 use Rattle.ll_crew.specs.declared.piece.Ran.TheVariants.{Back}
 use Rattle.ll_crew.specs.declared.piece.Ending.{Ending}
 use Rattle.ll_crew.specs.declared.piece.Ending.TheVariants as ending
 use Rattle.ll_job.proofs.CallerLemmas.{stays_goes, stays_on, stays_out}
+use Rattle.ll_crew.specs.Workers.{Standing, Stopping}
 use Rattle.ll_crew.proofs.Arms.{ran_back}
 use Rattle.ll_crew.proofs.Finishing.{all_lacks, chosen_holds, chosen_on, chosen_fails, done_of}
 use Rattle.ll_crew.proofs.piece.run_to_end.Goals as goal
 use Rattle.ll_crew.proofs.piece.run_to_end.Goals.{In-Back}
 
 came_back : (g : _) (c : In-Back g)
-    → RunsTo (Stands g.O.Outlet c.args.job.now c.run.new.seat c.run.new.out c.run.new.told)
-    (Stopped g.O.Outlet c.args.job.now c.run.new.out
-    c.run.new.told)
-    (WasRefused c.run.new.told) c.args.job.now.problem.now (Back c.in-Back.batch) c.args.seat.now c.run.new.seat
+    → RunsTo (Standing g.O.Outlet c.args.job.now c.run.new.worker c.run.new.out)
+    (Stopping g.O.Outlet c.args.job.now c.run.new.worker c.run.new.out)
+    (WasRefused c.run.new.worker.told.now) c.args.job.now.problem.now (Back c.in-Back.batch) c.args.worker.now.seat.now c.run.new.worker.seat.now
     (map g.O.Found.Notice.stands_for c.run.new.events.items) c.run.new.engine
 came_back g c = ran_back _ _ _ _ c.in_ok-run.field-0 c.in-Back.batch _ _ _ _ c.in-Back.is c.in_ok-run.ensures.ran
 
@@ -28,27 +28,25 @@ pub returns-in-Back-clause-ends : goal.returns-in-Back-clause-ends
 returns-in-Back-clause-ends g c =
     let first = came_back g (goal.at.returns-in-Back-clause-ends g c).In-Back in
     let e = c.run_alone-done.ensures in let o = c.choose.ensures in
-    chosen_holds (λ (x : Ending). EndsTo (Stands g.O.Outlet c.args.job.now c.run_alone-done.new.seat c.run_alone-done.new.out c.run_alone-done.new.told)
-    (Stopped g.O.Outlet c.args.job.now
-    c.run_alone-done.new.out c.run_alone-done.new.told)
-    (WasRefused c.run_alone-done.new.told) c.args.job.now.problem.now x c.args.seat.now c.run_alone-done.new.seat
+    chosen_holds (λ (x : Ending). EndsTo (Standing g.O.Outlet c.args.job.now c.run_alone-done.new.worker c.run_alone-done.new.out)
+    (Stopping g.O.Outlet c.args.job.now c.run_alone-done.new.worker c.run_alone-done.new.out)
+    (WasRefused c.run_alone-done.new.worker.told.now) c.args.job.now.problem.now x c.args.worker.now.seat.now c.run_alone-done.new.worker.seat.now
     (map g.O.Found.Notice.stands_for c.run_alone-done.new.events.items))
     c.run_alone-done.result c.choose.result (ending.Partly c.cost-in-Back.result c.in-Back.batch) ending.Left o.yes o.no o.failed
     (λ is.
     let alone = done_of _ c.run_alone-done.result true is e.done refl in let go = alone.goes in (
       stays_goes g.O.Outlet c.args.job.now.start.now.value c.args.job.now.problem.now
-          c.args.seat.now c.run.new.seat c.run_alone-done.new.seat
-          (Stands g.O.Outlet c.args.job.now
-          c.run.new.seat c.run.new.out c.run.new.told)
-          (Stands g.O.Outlet c.args.job.now
-          c.run_alone-done.new.seat c.run_alone-done.new.out c.run_alone-done.new.told) first.0 go,
-      all_lacks c.run.new.seat.mine.piece c.run_alone-done.new.seat.mine.piece (map g.O.Found.Notice.stands_for c.run.new.events.items)
+          c.args.worker.now.seat.now c.run.new.worker.seat.now c.run_alone-done.new.worker.seat.now
+          (Standing g.O.Outlet c.args.job.now c.run.new.worker c.run.new.out)
+          (Standing g.O.Outlet c.args.job.now c.run_alone-done.new.worker c.run_alone-done.new.out) first.0 go,
+      all_lacks c.run.new.worker.seat.now.mine.piece c.run_alone-done.new.worker.seat.now.mine.piece (map g.O.Found.Notice.stands_for c.run.new.events.items)
           (map g.O.Found.Notice.stands_for c.run_alone-done.new.events.items) c.run.new.engine
           (alternatives_in (arc_value c.in-Back.batch)) c.cost-in-Back.result go.piece first.1 alone.whole
           (ap cut_count c.cost-in-Back.ensures ∙ alone.made),
       first.2,
     ))
-    (λ is. stays_out _ _ (WasRefused c.run_alone-done.new.told) c.args.seat.now c.run.new.seat c.run_alone-done.new.seat
+    (λ is. stays_out _ _ (WasRefused c.run_alone-done.new.worker.told.now) c.args.worker.now.seat.now c.run.new.worker.seat.now
+    c.run_alone-done.new.worker.seat.now
     first.0 (done_of _ c.run_alone-done.result false is e.left refl))
 
 pub returns-in-Back-clause-problem : goal.returns-in-Back-clause-problem
@@ -62,7 +60,8 @@ returns-in-Back-clause-failed g c =
     let first = came_back g (goal.at.returns-in-Back-clause-failed g c).In-Back in
     let e = c.run_alone-done.ensures in let o = c.choose.ensures in
     chosen_fails _ c.run_alone-done.result c.choose.result (ending.Partly c.cost-in-Back.result c.in-Back.batch) ending.Left o.yes o.no
-    (OnErr-weaker c.run_alone-done.result (λ f. stays_on _ _ c.args.seat.now c.run.new.seat c.run_alone-done.new.seat first.0 f) e.failed)
+    (OnErr-weaker c.run_alone-done.result (λ f. stays_on _ _ c.args.worker.now.seat.now c.run.new.worker.seat.now c.run_alone-done.new.worker.seat.now
+    first.0 f) e.failed)
 
 pub returns-in_err-run-clause-problem : goal.returns-in_err-run-clause-problem
 returns-in_err-run-clause-problem g c = IfOk-from_err c.from_residual.result _ c.from_residual.ensures.0

@@ -1,14 +1,15 @@
-use Rattle.std.proofs.Common.{◌∙◌, refl, sym}
+use Rattle.std.proofs.Common.{◌∙◌, sym}
 use Rattle.std.proofs.lemmas.Bool.{true≢false}
 use Rattle.std.proofs.lemmas.Result.{IfOk-from_err}
 use Rattle.ll_lists.proofs.CallerLemmas.{OnErr-always}
 use Rattle.ll_job.specs.Leading.{WasRefused}
 use Rattle.ll_job.proofs.CallerLemmas.{stays_here, stays_on, stays_out}
+use Rattle.ll_crew.proofs.Holding.{holds_itself}
 use Rattle.ll_crew.proofs.Arms.{some_of, none_of}
 use Rattle.ll_crew.proofs.piece.work_piece.Goals as goal
 
-pub returns-in_err-batch-clause-leads : goal.returns-in_err-batch-clause-leads
-returns-in_err-batch-clause-leads g c = refl
+pub returns-in_err-batch-clause-holds : goal.returns-in_err-batch-clause-holds
+returns-in_err-batch-clause-holds g c = holds_itself _
 
 pub returns-in_err-batch-clause-kept : goal.returns-in_err-batch-clause-kept
 returns-in_err-batch-clause-kept g c = IfOk-from_err c.from_residual.result _ c.from_residual.ensures.0
@@ -20,10 +21,11 @@ pub returns-in_err-batch-clause-left : goal.returns-in_err-batch-clause-left
 returns-in_err-batch-clause-left g c = IfOk-from_err c.from_residual.result _ c.from_residual.ensures.0
 
 pub returns-in_err-batch-clause-failed : goal.returns-in_err-batch-clause-failed
-returns-in_err-batch-clause-failed g c = OnErr-always c.from_residual.result (stays_here _ c.args.seat.now c.requires.stands)
+returns-in_err-batch-clause-failed g c = OnErr-always c.from_residual.result (stays_here _ c.args.worker.now.seat.now c.requires.stands)
 
-pub returns-in-Ok-Some-clause-leads : goal.returns-in-Ok-Some-clause-leads
-returns-in-Ok-Some-clause-leads g c = c.report.ensures.leads ∙ c.run_piece.ensures.leads
+pub returns-in-Ok-Some-clause-holds : goal.returns-in-Ok-Some-clause-holds
+returns-in-Ok-Some-clause-holds g c = let h = c.run_piece.ensures.holds in record
+    { leads = c.report.ensures.leads ∙ h.leads; seat = h.seat; told = h.told; kept = h.kept }
 
 pub returns-in-Ok-Some-clause-kept : goal.returns-in-Ok-Some-clause-kept
 returns-in-Ok-Some-clause-kept g c = c.in-Ok-Some.ensures.kept
@@ -32,16 +34,16 @@ pub returns-in-Ok-Some-clause-done : goal.returns-in-Ok-Some-clause-done
 returns-in-Ok-Some-clause-done g c = λ e.
     let reports = some_of _ c.in-Ok-Some.field-0 c.in-Ok-Some.inferences c.in-Ok-Some.field-0-is c.in-Ok-Some.ensures.some in
     let done = c.report.ensures.done e in
-    (stays_on _ _ c.args.seat.now c.run_piece.new.seat c.report.new.seat reports.stays done.0, done.1)
+    (stays_on _ _ c.args.worker.now.seat.now c.run_piece.new.worker.seat.now c.report.new.seat reports.stays done.0, done.1)
 
 pub returns-in-Ok-Some-clause-left : goal.returns-in-Ok-Some-clause-left
 returns-in-Ok-Some-clause-left g c = λ e.
     let reports = some_of _ c.in-Ok-Some.field-0 c.in-Ok-Some.inferences c.in-Ok-Some.field-0-is c.in-Ok-Some.ensures.some in
-    stays_out _ _ (WasRefused c.report.new.told) c.args.seat.now c.run_piece.new.seat c.report.new.seat
+    stays_out _ _ (WasRefused c.report.new.told) c.args.worker.now.seat.now c.run_piece.new.worker.seat.now c.report.new.seat
     reports.stays (c.report.ensures.left e)
 
-pub returns-in-Ok-None-clause-leads : goal.returns-in-Ok-None-clause-leads
-returns-in-Ok-None-clause-leads g c = c.run_piece.ensures.leads
+pub returns-in-Ok-None-clause-holds : goal.returns-in-Ok-None-clause-holds
+returns-in-Ok-None-clause-holds g c = c.run_piece.ensures.holds
 
 pub returns-in-Ok-None-clause-kept : goal.returns-in-Ok-None-clause-kept
 returns-in-Ok-None-clause-kept g c = c.in-Ok-None.ensures.kept
@@ -52,8 +54,8 @@ returns-in-Ok-None-clause-done g c = λ e. absurd (true≢false (sym e))
 pub returns-in-Ok-None-clause-left : goal.returns-in-Ok-None-clause-left
 returns-in-Ok-None-clause-left g c = λ e. none_of c.in-Ok-None.field-0 c.in-Ok-None.field-0-is c.in-Ok-None.ensures.none
 
-pub returns-in-Err-clause-leads : goal.returns-in-Err-clause-leads
-returns-in-Err-clause-leads g c = c.run_piece.ensures.leads
+pub returns-in-Err-clause-holds : goal.returns-in-Err-clause-holds
+returns-in-Err-clause-holds g c = c.run_piece.ensures.holds
 
 pub returns-in-Err-clause-failed : goal.returns-in-Err-clause-failed
 returns-in-Err-clause-failed g c = c.in-Err.ensures.failed

@@ -1,13 +1,13 @@
 use Rattle.std.proofs.Common.{◌≡◌, None}
-use Rattle.ll_job.specs.Leading.{Stands}
 use Rattle.ll_job.specs.Turns.{Stays}
 use Rattle.ll_crew.specs.Pieces.{IsKeptOf}
+use Rattle.ll_crew.specs.Workers.{Holds, Standing}
 use Rattle.ll_crew.proofs.worker.work_with.Given as goal
 
 abbrev pub invariant-claims : goal.invariant-claims
 invariant-claims g l =
-    (l.told.leads ≡ l.initial.told.leads)
-    × Stays (Stands g.O.Outlet l.job l.seat l.out l.told)
-    l.initial.seat l.seat
-    × (l.seat.mine.piece ≡ None)
-    × IsKeptOf l.job.problem.now l.kept
+    Holds l.initial.worker l.worker
+    × Stays (Standing g.O.Outlet l.job l.worker l.out)
+    l.initial.worker.seat.now l.worker.seat.now
+    × (l.worker.seat.now.mine.piece ≡ None)
+    × IsKeptOf l.job.problem.now l.worker.kept.now

@@ -12,9 +12,8 @@ ghost use Rattle.ll_judge.specs.declared.refusing.Refusal.TheVariants.{OutOfMemo
 ghost use Rattle.ll_judge.specs.CallEnds.{Ends};
 ghost use Rattle.ll_judge.specs.Told.{ShelfTold, SinkTold, StatusTold};
 ghost use Rattle.ll_top.specs.Deepening.{DeepenComesTo};
-ghost use Rattle.ll_top.specs.DeepenEnds.{with_bound, first_run, DeepenRefuses, DeepensTo};
+ghost use Rattle.ll_top.specs.DeepenEnds.{with_bound, DeepenRefuses, DeepensTo};
 ghost use Rattle.ll_top.specs.Endings.{status_of_found};
-ghost use Rattle.ll_judge.specs.Outcome.{name_of};
 ghost use Rattle.ll_top.specs.OwnEnds.{EndsOwn, NoneFails};
 ghost use Rattle.ll_top.specs.Shown.{DeepenShown};
 ghost use Rattle.ll_words.specs.Words.{shown_deepen};

@@ -16,7 +16,7 @@ ghost use Rattle.ll_judge.specs.Told.{ShelfTold, SinkTold, StatusTold};
 ghost use Rattle.ll_top.specs.OwnEnds.{EndsOwn, NoneFails};
 ghost use Rattle.ll_top.specs.Running.{IsRunRefusal};
 ghost use Rattle.ll_top.specs.Sessions.{reply_text, SessionComesTo};
-ghost use Rattle.ll_top.specs.SessionEnds.{name_in_session, RefusesText, WritesReply, CutsReply, RepliesTo, TextsComeTo, RefusesProgram};
+ghost use Rattle.ll_top.specs.SessionEnds.{RefusesText, WritesReply, CutsReply, RepliesTo, TextsComeTo, RefusesProgram};
 ghost use Rattle.ll_judge.specs.Judging.{IsFaultless};
 ghost use Rattle.ll_top.specs.Shown.{WritesReplies, SessionShown};
 ghost use Rattle.ll_words.specs.Words.{shown_session};

@@ -276,30 +276,39 @@ fn run_one<'p, R: Wait, O: Outlet>(
     choose(done, Some(inferences), None)
 }
 
+// What a piece has and owes once its engine is done.
+#[derive(Drop)]
+struct Rest<'p> {
+    // So many inferences were made.
+    inferences: u64,
+    // This batch came back.
+    batch: Arc<Frozen<'p>>,
+}
+
 // Runs each alternative of a batch to its end. Adds its events, and its inferences to those that there are, cut at the greatest `u64`.
 // None where the pool is starved or stopped.
 fn run_batch<'p, R: Wait, O: Outlet>(
     job: &Job<'_, 'p, R, O>,
     worker: &mut Worker<'_, 'p, O::Found>,
-    batch: &Arc<Frozen<'p>>,
+    rest: &Rest<'p>,
     events: &mut Vec<O::Found>,
-    mut inferences: u64,
     out: &mut O,
 ) -> Result<Option<u64>, OutOfMemory>
     requires suits { O.Found.suits job.now.problem.now }
     requires seat { IsSeat job.now.pool.now job.now.problem.now worker.old.seat.now }
     requires stands { Standing O.Outlet job.now worker.old out.old }
     requires kept { IsKeptOf job.now.problem.now worker.old.kept.now }
-    requires of { (arc_value batch.now).problem ≡ job.now.problem.now }
+    requires of { (arc_value rest.now.batch).problem ≡ job.now.problem.now }
     ensures holds { Holds worker.old worker.new }
     ensures kept { OnOk result (IsKeptOf job.now.problem.now worker.new.kept.now) }
-    ensures some { IfOk result (λ o. IfSome o (λ n. RunsAll O.Outlet job.now worker.old worker.new out.new
-        (map O.Found.stands_for events.old.items) (alternatives_in (arc_value batch.now)) inferences (map O.Found.stands_for events.new.items) n)) }
+    ensures some { IfOk result (λ o. IfSome o (λ n. RunsAll O.Outlet job.now worker.old worker.new out.new (map O.Found.stands_for events.old.items)
+        (alternatives_in (arc_value rest.now.batch)) rest.now.inferences (map O.Found.stands_for events.new.items) n)) }
     ensures none { IfOk result (λ o. IfNone o (Leaves O.Outlet job.now worker.old worker.new out.new)) }
     ensures failed { OnErr result (Stays O.Outlet job.now worker.old worker.new out.new) }
 {
-    for k in 0..batch.len() {
-        let shared = Arc::try_clone(batch)?;
+    let mut inferences = rest.inferences;
+    for k in 0..rest.batch.len() {
+        let shared = Arc::try_clone(&rest.batch)?;
         let next = Alternative { batch: shared, k };
         let Some(more) = run_one(job, worker, next, events, out)? else {
             return Ok(None);
@@ -405,8 +414,12 @@ fn run_piece<'p, R: Wait, O: Outlet>(
         Ending::Whole(inferences) => Ok(Some(inferences)),
         Ending::Left => Ok(None),
         Ending::Partly(inferences, back) => {
-            let ran = run_batch(job, worker, &back, events, inferences, out);
-            drop(back);
+            let rest = Rest {
+                inferences,
+                batch: back,
+            };
+            let ran = run_batch(job, worker, &rest, events, out);
+            drop(rest);
             ran
         }
     }

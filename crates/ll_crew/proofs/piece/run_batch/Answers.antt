@@ -14,17 +14,17 @@ use Rattle.ll_crew.proofs.piece.run_batch.Goals as goal
 pub loop-k-preserved : goal.loop-k-preserved
 loop-k-preserved g c =
     let i = c.loop-k.invariant in
-    let len : c.len-k-end.result ≡ length (alternatives_in (arc_value c.args.batch.now)) = cc (c.len-k-end.ensures, c.deref.ensures) in
-    let low : c.loop-k.k < length (alternatives_in (arc_value c.args.batch.now)) = omega (arith, c.loop-k-test.true) in
-    let at = at_place (alternatives_in (arc_value c.args.batch.now)) c.loop-k.k low in
-    let same : arc_value c.in_ok-shared.shared ≡ arc_value c.args.batch.now = search rules in
+    let len : c.len-k-end.result ≡ length (alternatives_in (arc_value c.args.rest.now.batch)) = cc (c.len-k-end.ensures, c.deref.ensures) in
+    let low : c.loop-k.k < length (alternatives_in (arc_value c.args.rest.now.batch)) = omega (arith, c.loop-k-test.true) in
+    let at = at_place (alternatives_in (arc_value c.args.rest.now.batch)) c.loop-k.k low in
+    let same : arc_value c.in_ok-shared.shared ≡ arc_value c.args.rest.now.batch = search rules in
     let one = (rw c.in-Some.is at c.in_ok-more.ensures.some) at.0 (ap (λ (b : FrozenSight). slice_get (alternatives_in b) c.loop-k.k) same ∙ at.1) in (
       holds_on _ _ _ i.0 c.run_one.ensures.holds,
       c.in_ok-more.ensures.kept,
       runs_more (Standing g.O.Outlet c.args.job.now c.loop-k.worker c.loop-k.out) (Standing g.O.Outlet c.args.job.now c.run_one.new.worker c.run_one.new.out)
           c.args.worker.now.seat.now c.loop-k.worker.seat.now c.run_one.new.worker.seat.now (map g.O.Found.Notice.stands_for c.args.events.now.items)
-          c.args.inferences
-          (alternatives_in (arc_value c.args.batch.now)) c.loop-k.k
+          c.args.rest.now.inferences
+          (alternatives_in (arc_value c.args.rest.now.batch)) c.loop-k.k
           at.0
           (map g.O.Found.Notice.stands_for c.loop-k.events.items) (map g.O.Found.Notice.stands_for c.run_one.new.events.items) c.loop-k.inferences
           c.in-Some.more c.saturating_add-inferences.result at.1 i.2 one

@@ -12,5 +12,5 @@ invariant-loop-k g l =
     × IsKeptOf l.job.problem.now l.worker.kept.now
     × RunsFirst (Standing g.O.Outlet l.job l.worker l.out)
     l.initial.worker.seat.now l.worker.seat.now
-    (map g.O.Found.Notice.stands_for l.initial.events.items) l.initial.inferences (alternatives_in (arc_value l.batch)) l.k
+    (map g.O.Found.Notice.stands_for l.initial.events.items) l.initial.inferences (alternatives_in (arc_value l.rest.batch)) l.k
     (map g.O.Found.Notice.stands_for l.events.items) l.inferences

@@ -2,6 +2,7 @@
 import ctypes
 import os
 import platform
+import select
 import signal
 import subprocess
 import sys
@@ -15,8 +16,10 @@ BUILT, RELEASED = f"{ROOT}/crates/lolli/out/lolli", f"{ROOT}/release/lolli-x86_6
 PROGRAM = BUILT if os.access(BUILT, os.X_OK) else RELEASED
 PAGE = f"{ROOT}/docs/MEASUREMENTS.md"
 PR_SET_CHILD_SUBREAPER = 36
-# Begins a process and says its number: a limit of its memory in KiB, where one is given, the file of its output, and its words.
-BEGIN = 'limit=$1 out=$2; shift 2; [ -z "$limit" ] || ulimit -v "$limit"; "$@" >"$out" 2>/dev/null & echo $!'
+# Begins a process and says its number: a limit of its memory in KiB, where one is given, the file of its output, and its words. It waits until
+# standard input ends before it becomes the command: a shell that had its child end first could take its status.
+BEGIN = """exec 3<&0; limit=$1 out=$2; shift 2; [ -z "$limit" ] || ulimit -v "$limit"
+{ read -r _ <&3; exec "$@" 3<&-; } >"$out" 2>/dev/null & echo $!"""
 
 
 class Run(typing.NamedTuple):
@@ -39,27 +42,31 @@ def begun(command, output, memory=None, **how):
 
     A shell begins it, says its number and ends: a process that this one began itself would have the memory of Python among its own most."""
     words = ["sh", "-c", BEGIN, "sh", str(memory // 1024) if memory else "", output, *command]
+    reader, writer = os.pipe()
+    told = subprocess.run(words, stdin=reader, stdout=subprocess.PIPE, check=True, **how)
+    os.close(reader)
     before = time.monotonic()
-    told = subprocess.run(words, stdin=subprocess.DEVNULL, stdout=subprocess.PIPE, check=True, **how)
+    os.close(writer)
     return int(told.stdout), before
 
 
 def measured(command, output, limit, **how):
     """Runs the command with its output in a file; returns what it took, or None where that was more than so many seconds by the clock."""
     process, before = begun(command, output, **how)
+    handle = os.pidfd_open(process)
     try:
-        while True:
-            ended, status, used = os.wait4(process, os.WNOHANG)
-            if ended:
-                took = used.ru_utime + used.ru_stime, time.monotonic() - before, used.ru_maxrss / 1024
-                return Run(*took, os.waitstatus_to_exitcode(status))
-            if time.monotonic() - before > limit:
-                end(process)
-                return None
-            time.sleep(0.002)
+        ended, _, _ = select.select([handle], [], [], limit)
+        after = time.monotonic()
     except KeyboardInterrupt:
         end(process)
         sys.exit(130)
+    finally:
+        os.close(handle)
+    if not ended:
+        end(process)
+        return None
+    _, status, used = os.wait4(process, 0)
+    return Run(used.ru_utime + used.ru_stime, after - before, used.ru_maxrss / 1024, os.waitstatus_to_exitcode(status))
 
 
 def end(process):

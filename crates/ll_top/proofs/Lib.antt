@@ -1,5 +1,6 @@
 pub mod outcomes
 pub mod calls
+pub mod made
 pub mod RunBounds
 pub mod Accepted
 pub mod Covered

@@ -17,7 +17,7 @@ use Rattle.ll_judge.specs.Judging.{IsProgramText, IsFaultless, IsProgramFault, I
 use Rattle.ll_judge.specs.Judging.{IsTextFault, of_program, of_query}
 use Rattle.ll_judge.specs.Judging.{TextsAsk, IsCheckFault, of_run_texts, of_proof, TextsGive}
 use Rattle.ll_top.specs.Rewriting.{AreOfOneProgram}
-use Rattle.ll_made.proofs.CallerLemmas.{headings-bare, faultless-aside}
+use Rattle.ll_top.proofs.made.Aside.{headings-bare, faultless-aside}
 use Rattle.ll_top.proofs.RewritingTrees.{printed-bare, part-bare}
 use Rattle.ll_top.proofs.outcomes.LawLemmas.{Laws, one-program, faultless-no-fault}
 

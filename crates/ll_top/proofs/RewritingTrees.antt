@@ -15,7 +15,7 @@ use Rattle.ll_parser.specs.Printed.{Rank, clauses, arrows, op_rank, left_rank, r
 use Rattle.ll_parser.specs.Printed.{head_text, term_text, arguments_text, pair_text, is_sum, is_product, expr_text, sides_text}
 use Rattle.ll_parser.specs.Printed.{bound_text, formula_text, line_end, names_text, clause_text, clauses_text, locals_text, module_text, modules_text}
 use Rattle.ll_parser.specs.Printed.{program_text}
-use Rattle.ll_made.proofs.CallerLemmas.{scope-bare}
+use Rattle.ll_top.proofs.made.Aside.{scope-bare}
 use Rattle.ll_polarity.specs.Scope.{Scope, binds, module_scope, meaning}
 use Rattle.ll_polarity.specs.Reading.{Met, Read, read_name, read_term, read_terms, read_form, read_number, joined, module_in, number_in, quantified}
 use Rattle.ll_polarity.specs.Asks.{ProgramPart, Named, read_clause, read_clauses, read_module, read_modules, module_names, part_of, kind_of}

@@ -1,3 +1,4 @@
+pub mod Faultless
 pub mod Making
 pub mod MadeRuns
 pub mod Outcome

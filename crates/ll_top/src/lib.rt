@@ -4,6 +4,7 @@
 mod accepting;
 mod agreeing;
 mod deepening;
+mod faultless;
 mod indexes;
 mod made_runs;
 mod making;
@@ -37,6 +38,7 @@ pub use agreeing::{
     workers_change_nothing,
 };
 use deepening::serve_deepen;
+pub use faultless::made_texts;
 use ll_check::serve_check;
 use ll_edge::{FileShelf, Gate, OpenGate, Shelf, Sink, StdSink};
 use ll_judge::{Cause, Refusal, prepare, refuse, serve_convert, serve_print};

@@ -24,6 +24,7 @@ ghost use Rattle.ll_judge.specs.Told.{SinkTold};
 ghost use Rattle.ll_top.specs.Endings.{status_of_found};
 ghost use Rattle.ll_top.specs.Running.{IsRunRefusal};
 
+use crate::faultless::made_texts;
 use crate::found_status;
 use crate::indexes::problem_index;
 use crate::refused::{Names, end_refused};
@@ -35,7 +36,6 @@ use ll_index::Index;
 use ll_judge::{Refusal, problem_of};
 use ll_laws::{Counts, Problem};
 use ll_lexer::one_reading;
-use ll_made::made_texts;
 use ll_make::{program, query};
 use ll_outlet::Silent;
 use ll_parser::{one_program, one_query};

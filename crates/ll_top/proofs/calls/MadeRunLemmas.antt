@@ -8,7 +8,7 @@ use Rattle.ll_laws.specs.declared.Counts.{Counts}
 use Rattle.ll_laws.specs.Problem.{ProblemTree, problem_events, problem_cost}
 use Rattle.ll_laws.specs.Output.{run_status, counts_text}
 use Rattle.ll_lexer.specs.declared.Fault.{Fault}
-use Rattle.ll_made.specs.Faultless.{IsFaultlessProgram, IsFaultlessQuery}
+use Rattle.ll_top.specs.Faultless.{IsFaultlessProgram, IsFaultlessQuery}
 use Rattle.ll_order.specs.Outlets.{CountsOf}
 use Rattle.ll_polarity.specs.Faults.{heading}
 use Rattle.ll_polarity.specs.Asks.{part_of, problem_with}

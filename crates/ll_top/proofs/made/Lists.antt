@@ -18,9 +18,9 @@ use Rattle.ll_parser.specs.Printed.{program_text as printed_text}
 use Rattle.ll_polarity.specs.Faults.{clauses_faults}
 use Rattle.ll_make.specs.declared.kind.MakeKind.TheVariants.{Perm, Choice}
 use Rattle.ll_make.specs.Programs.{program_text}
-use Rattle.ll_made.proofs.Opened.{opened}
-use Rattle.ll_made.proofs.Shapes.{perm_clauses, choice_clauses}
-use Rattle.ll_made.proofs.Whole.{AreClausesOf}
+use Rattle.ll_top.proofs.made.Opened.{opened}
+use Rattle.ll_top.proofs.made.Shapes.{perm_clauses, choice_clauses}
+use Rattle.ll_top.proofs.made.Whole.{AreClausesOf}
 
 -- ---- tests of what a clause needs
 

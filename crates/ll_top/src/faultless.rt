@@ -1,13 +1,11 @@
 //! The programs that are made are programs of the language without a fault, and so are their queries.
 //!
-//! The program calls no function of this crate: a function here carries a law as its contract.
-#![tactic(auto)]
-
+//! The function here carries a law as its contract, and does nothing.
 ghost use Rattle.std.specs.Prelude.{ℕ};
 ghost use Rattle.ll_make.specs.declared.kind.MakeKind.{MakeKind};
 ghost use Rattle.ll_make.specs.Kinds.{Fits, query_text};
 ghost use Rattle.ll_make.specs.Programs.{program_text};
-ghost use Rattle.ll_made.specs.Faultless.{IsFaultlessProgram, IsFaultlessQuery};
+ghost use Rattle.ll_top.specs.Faultless.{IsFaultlessProgram, IsFaultlessQuery};
 
 use ll_parser::printed_is_read;
 

@@ -1,4 +1,4 @@
-pub mod CallerLemmas
+-- Programs that are made have no fault.
 pub mod Names
 pub mod Opened
 pub mod Aside

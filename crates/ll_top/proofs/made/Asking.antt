@@ -11,8 +11,8 @@ use Rattle.ll_parser.specs.Text.{Query, bare, query_tokens, query_tree}
 use Rattle.ll_make.specs.declared.kind.MakeKind.{MakeKind}
 use Rattle.ll_make.specs.declared.kind.MakeKind.TheVariants.{Perm, Choice, Chain}
 use Rattle.ll_make.specs.Kinds.{query_text}
-use Rattle.ll_made.specs.Faultless.{IsFaultlessQuery}
-use Rattle.ll_made.proofs.Opened.{few-within}
+use Rattle.ll_top.specs.Faultless.{IsFaultlessQuery}
+use Rattle.ll_top.proofs.made.Opened.{few-within}
 
 -- a text of `go` and perhaps one variable of one letter
 no-kind : (j : TokenKind) → None ≡ Some j → ⊥

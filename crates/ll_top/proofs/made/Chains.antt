@@ -11,10 +11,10 @@ use Rattle.ll_polarity.specs.Faults.{clauses_faults}
 use Rattle.ll_make.specs.declared.kind.MakeKind.TheVariants.{Chain}
 use Rattle.ll_make.specs.Numbered.{numbered}
 use Rattle.ll_make.specs.Programs.{line, lines_text, link, links, program_text}
-use Rattle.ll_made.proofs.Names.{place-name}
-use Rattle.ll_made.proofs.Opened.{opened}
-use Rattle.ll_made.proofs.Shapes.{follows, lower_clauses, chain_clauses}
-use Rattle.ll_made.proofs.Whole.{AreClausesOf}
+use Rattle.ll_top.proofs.made.Names.{place-name}
+use Rattle.ll_top.proofs.made.Opened.{opened}
+use Rattle.ll_top.proofs.made.Shapes.{follows, lower_clauses, chain_clauses}
+use Rattle.ll_top.proofs.made.Whole.{AreClausesOf}
 
 -- ---- texts
 

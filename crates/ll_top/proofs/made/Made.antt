@@ -4,11 +4,11 @@ use Rattle.ll_make.specs.declared.kind.MakeKind.{MakeKind}
 use Rattle.ll_make.specs.declared.kind.MakeKind.TheVariants.{Perm, Choice, Chain}
 use Rattle.ll_make.specs.Kinds.{Fits}
 use Rattle.ll_make.specs.Programs.{program_text}
-use Rattle.ll_made.specs.Faultless.{IsFaultlessProgram}
-use Rattle.ll_made.proofs.Shapes.{perm_clauses, choice_clauses, chain_clauses}
-use Rattle.ll_made.proofs.Whole.{ReadsPrinted, clauses-read}
-use Rattle.ll_made.proofs.Lists.{perm-clauses, choice-clauses}
-use Rattle.ll_made.proofs.Chains.{chain-clauses}
+use Rattle.ll_top.specs.Faultless.{IsFaultlessProgram}
+use Rattle.ll_top.proofs.made.Shapes.{perm_clauses, choice_clauses, chain_clauses}
+use Rattle.ll_top.proofs.made.Whole.{ReadsPrinted, clauses-read}
+use Rattle.ll_top.proofs.made.Lists.{perm-clauses, choice-clauses}
+use Rattle.ll_top.proofs.made.Chains.{chain-clauses}
 
 pub program-read : ReadsPrinted → (kind : MakeKind) (n : ℕ) → Fits kind n → IsFaultlessProgram (program_text kind n)
 program-read law Perm n h = clauses-read law (perm_clauses n) (program_text Perm n) (perm-clauses n h.1)

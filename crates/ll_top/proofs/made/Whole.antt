@@ -10,9 +10,9 @@ use Rattle.ll_parser.specs.Reads.{Reads, IsWhole}
 use Rattle.ll_parser.specs.Printed.{program_text}
 use Rattle.ll_parser.specs.Bare.{bare_program}
 use Rattle.ll_polarity.specs.Faults.{clauses_faults}
-use Rattle.ll_made.specs.Faultless.{IsFaultlessProgram}
-use Rattle.ll_made.proofs.Opened.{opened, few-within}
-use Rattle.ll_made.proofs.Aside.{faultless-aside}
+use Rattle.ll_top.specs.Faultless.{IsFaultlessProgram}
+use Rattle.ll_top.proofs.made.Opened.{opened, few-within}
+use Rattle.ll_top.proofs.made.Aside.{faultless-aside}
 
 -- these clauses alone are printed as this text, can stand in one, and have no fault
 pub record AreClausesOf (clauses : List Clause) (text : List ℕ) : Type 0 where

@@ -1,6 +1,6 @@
-use Rattle.ll_made.proofs.Made.{program-read}
-use Rattle.ll_made.proofs.Asking.{query-read}
-use Rattle.ll_made.proofs.made_texts.Goals as goal
+use Rattle.ll_top.proofs.made.Made.{program-read}
+use Rattle.ll_top.proofs.made.Asking.{query-read}
+use Rattle.ll_top.proofs.faultless.made_texts.Goals as goal
 
 pub returns-clause-program : goal.returns-clause-program
 returns-clause-program c = λ kind n fits. program-read c.printed_is_read.ensures kind n fits

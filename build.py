@@ -38,7 +38,7 @@ SECONDS = {
     "ll_equate": 81, "ll_copy": 51, "ll_store": 64, "ll_close": 72, "ll_bind": 25, "ll_modules": 26, "ll_sequent": 168, "ll_resources": 85,
     "ll_printer": 91, "ll_prooftext": 276, "ll_agenda": 9, "ll_core": 68, "ll_turn": 38, "ll_pool": 49, "ll_order": 19, "ll_first": 15,
     "ll_index": 51, "ll_session": 39, "ll_freeze": 91, "ll_engine": 263, "ll_job": 116, "ll_crew": 297, "ll_trace": 102, "ll_deepen": 12,
-    "ll_make": 10, "ll_words": 59, "ll_made": 25, "ll_cover": 51, "ll_outlet": 45, "ll_judge": 72, "ll_check": 53, "ll_top": 146, "lolli": 95,
+    "ll_make": 10, "ll_cover": 51, "ll_top": 400, "lolli": 95,
 }
 # So many of these seconds count as proved in their time before the first crate is.
 SECONDS_BEFORE = 300

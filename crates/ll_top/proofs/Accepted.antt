@@ -20,11 +20,11 @@ use Rattle.ll_polarity.proofs.CallerLemmas.{asked_problem_valid}
 use Rattle.ll_prooftext.specs.Mentions.{text_names}
 use Rattle.ll_prooftext.specs.Versions.{IsProofText}
 use Rattle.ll_spelled.specs.Laws.{AnswersAreSpelled, SpelledIsRead}
-use Rattle.ll_words.specs.Words.{RunWords, CheckWords}
-use Rattle.ll_judge.specs.Judging.{TextsAsk}
-use Rattle.ll_judge.specs.Outcome.{AnyName, NoName, IsRead, RunAsks}
-use Rattle.ll_check.specs.Verdicts.{yes_text}
-use Rattle.ll_check.specs.Outcome.{bound_in, CheckGives, CheckComesTo, shown}
+use Rattle.ll_top.specs.forms.Words.{RunWords, CheckWords}
+use Rattle.ll_top.specs.texts.Judging.{TextsAsk}
+use Rattle.ll_top.specs.texts.Outcome.{AnyName, NoName, IsRead, RunAsks}
+use Rattle.ll_top.specs.checks.Verdicts.{yes_text}
+use Rattle.ll_top.specs.checks.Outcome.{bound_in, CheckGives, CheckComesTo, shown}
 use Rattle.ll_top.specs.Calls.{checks}
 use Rattle.ll_top.specs.Accepted.{PrintedIsAccepted}
 use Rattle.ll_top.proofs.RunBounds.{run-bounded}

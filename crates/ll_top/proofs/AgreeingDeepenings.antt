@@ -8,10 +8,10 @@ use Rattle.ll_laws.specs.declared.Event.{Event}
 use Rattle.ll_laws.specs.Problem.{ProblemTree, problem_events}
 use Rattle.ll_laws.specs.Search.{is_answer, any_reached}
 use Rattle.ll_laws.specs.Output.{run_status, output_status, status_by}
-use Rattle.ll_words.specs.Words.{DeepenWords}
-use Rattle.ll_judge.specs.declared.judge.Role.TheVariants.{Program, Query, Proof}
-use Rattle.ll_judge.specs.Faults.{Cause, fault_text, cause_status}
-use Rattle.ll_judge.specs.Outcome.{AnyName, NoName, RunFails, not_read, faulty, RunAsks}
+use Rattle.ll_top.specs.forms.Words.{DeepenWords}
+use Rattle.ll_top.specs.declared.texts.judge.Role.TheVariants.{Program, Query, Proof}
+use Rattle.ll_top.specs.texts.Faults.{Cause, fault_text, cause_status}
+use Rattle.ll_top.specs.texts.Outcome.{AnyName, NoName, RunFails, not_read, faulty, RunAsks}
 use Rattle.ll_top.specs.Outcome.{whole_text, ran, failed}
 use Rattle.ll_top.specs.Deepening.{run_within, bound_line, DeepenComesTo, deepened, deepen_failed}
 use Rattle.ll_top.specs.DeepenEnds.{with_bound}

@@ -12,7 +12,7 @@ use Rattle.ll_laws.specs.Dealt.{dealt}
 use Rattle.ll_laws.specs.Problem.{ProblemTree, problem_events}
 use Rattle.ll_laws.specs.Output.{answer_text}
 use Rattle.ll_laws.specs.ProofText.{derivation_text}
-use Rattle.ll_outlet.specs.Running.{event_lines, all_lines}
+use Rattle.ll_top.specs.lines.Running.{event_lines, all_lines}
 use Rattle.ll_top.specs.Outcome.{whole_text}
 use Rattle.ll_top.specs.Agreeing.{answers_of, lines_of}
 use Rattle.ll_top.specs.MadeRuns.{last_line}

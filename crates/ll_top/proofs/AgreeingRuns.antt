@@ -17,12 +17,12 @@ use Rattle.ll_laws.specs.Problem.{ProblemTree, setting_of, start_of, problem_eve
 use Rattle.ll_laws.specs.Output.{answer_text, summary_text, output_status, run_status, status_by}
 use Rattle.ll_laws.specs.ProofText.{derivation_text, proof_text}
 use Rattle.ll_textbook.specs.Kept.{bounded_by, answers_by, short_answers, AnswersAreKept}
-use Rattle.ll_outlet.specs.Running.{event_lines}
-use Rattle.ll_words.specs.Words.{RunWords, SessionWords, DeepenWords, HasFirst, IsRun, IsSession, IsDeepen}
-use Rattle.ll_words.proofs.CallerLemmas.{bad-not-in-form, run-in-form, session-in-form, deepen-in-form, run-kind, session-kind, deepen-kind}
-use Rattle.ll_judge.specs.declared.judge.Role.TheVariants.{Program, Query, Proof}
-use Rattle.ll_judge.specs.Faults.{Cause, Usage, Absent, Unreadable, Oversized, OversizedAs, Faulty, fault_text, cause_status}
-use Rattle.ll_judge.specs.Outcome.{AnyName, NoName, RunFails, not_read, faulty, RunAsks}
+use Rattle.ll_top.specs.lines.Running.{event_lines}
+use Rattle.ll_top.specs.forms.Words.{RunWords, SessionWords, DeepenWords, HasFirst, IsRun, IsSession, IsDeepen}
+use Rattle.ll_top.proofs.wording.FirstWords.{bad-not-in-form, run-in-form, session-in-form, deepen-in-form, run-kind, session-kind, deepen-kind}
+use Rattle.ll_top.specs.declared.texts.judge.Role.TheVariants.{Program, Query, Proof}
+use Rattle.ll_top.specs.texts.Faults.{Cause, Usage, Absent, Unreadable, Oversized, OversizedAs, Faulty, fault_text, cause_status}
+use Rattle.ll_top.specs.texts.Outcome.{AnyName, NoName, RunFails, not_read, faulty, RunAsks}
 use Rattle.ll_top.specs.Outcome.{whole_text, stopped_text, stopped_or_whole, text_of_run, status_of_run, RunComesTo, ran, failed}
 use Rattle.ll_top.specs.Sessions.{SessionComesTo}
 use Rattle.ll_top.specs.Deepening.{DeepenComesTo}

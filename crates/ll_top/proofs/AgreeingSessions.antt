@@ -8,11 +8,11 @@ use Rattle.ll_parser.specs.Raw.{ProgramTree}
 use Rattle.ll_session.specs.Reading.{IsQueryFault as IsLineFault, TextAsks, lexical as line_lexical, grammatical as line_grammatical, of_scope}
 use Rattle.ll_session.specs.Lines.{lines}
 use Rattle.ll_session.specs.Queries.{QueryLine, LineAsks, HaveQueries, no_line as no_lines, passed as passed_over, asked as asked_here, on_line}
-use Rattle.ll_words.specs.Words.{SessionWords}
-use Rattle.ll_judge.specs.declared.judge.Role.TheVariants.{Program, Query}
-use Rattle.ll_judge.specs.Faults.{Cause, Faulty, fault_text}
-use Rattle.ll_judge.specs.Judging.{IsFaultless, IsQueryFault, of_query_reading, of_query_scope, lexical, grammatical, of_program, of_query, TextsAsk}
-use Rattle.ll_judge.specs.Outcome.{AnyName, NoName, RunAsks, RunFails, not_read, faulty}
+use Rattle.ll_top.specs.forms.Words.{SessionWords}
+use Rattle.ll_top.specs.declared.texts.judge.Role.TheVariants.{Program, Query}
+use Rattle.ll_top.specs.texts.Faults.{Cause, Faulty, fault_text}
+use Rattle.ll_top.specs.texts.Judging.{IsFaultless, IsQueryFault, of_query_reading, of_query_scope, lexical, grammatical, of_program, of_query, TextsAsk}
+use Rattle.ll_top.specs.texts.Outcome.{AnyName, NoName, RunAsks, RunFails, not_read, faulty}
 use Rattle.ll_top.specs.Outcome.{whole_text, status_of_run, text_of_run, ran, failed}
 use Rattle.ll_top.specs.Sessions.{reply_text, replies_text, SessionAsks, SessionFails, session_not_read, faulty_program, SessionComesTo}
 use Rattle.ll_top.specs.Sessions.{replied as replied_to, session_failed}

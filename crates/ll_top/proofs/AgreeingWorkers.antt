@@ -3,12 +3,12 @@ use Rattle.std.proofs.Common.{ℕ, refl, sym, subst, ◌∙◌, List}
 use Rattle.std.specs.Prelude.{Option, Some}
 use Rattle.ll_edge.specs.Texts.{Texts}
 use Rattle.ll_laws.specs.Problem.{ProblemTree}
-use Rattle.ll_words.specs.Making.{MadeRunWords}
-use Rattle.ll_words.specs.Words.{RunWords, SessionWords, DeepenWords, IsMadeRun}
-use Rattle.ll_words.proofs.CallerLemmas.{bad-not-in-form, made-run-in-form, made-run-kind}
-use Rattle.ll_judge.specs.declared.judge.Role.TheVariants.{Program, Query, Proof}
-use Rattle.ll_judge.specs.Faults.{Cause}
-use Rattle.ll_judge.specs.Outcome.{AnyName, NoName, RunFails, not_read, faulty, RunAsks}
+use Rattle.ll_top.specs.forms.Making.{MadeRunWords}
+use Rattle.ll_top.specs.forms.Words.{RunWords, SessionWords, DeepenWords, IsMadeRun}
+use Rattle.ll_top.proofs.wording.FirstWords.{bad-not-in-form, made-run-in-form, made-run-kind}
+use Rattle.ll_top.specs.declared.texts.judge.Role.TheVariants.{Program, Query, Proof}
+use Rattle.ll_top.specs.texts.Faults.{Cause}
+use Rattle.ll_top.specs.texts.Outcome.{AnyName, NoName, RunFails, not_read, faulty, RunAsks}
 use Rattle.ll_top.specs.Outcome.{RunComesTo, ran, failed}
 use Rattle.ll_top.specs.MadeRuns.{MadeRunComesTo}
 use Rattle.ll_top.specs.Sessions.{SessionFails, session_not_read, faulty_program, SessionComesTo, replied, session_failed}

@@ -20,16 +20,18 @@ use Rattle.ll_laws.proofs.CallerLemmas.{among, subs_id}
 use Rattle.ll_textbook.proofs.CallerLemmas.{steps_within}
 use Rattle.ll_cover.specs.Covering.{IsCoveredBy, NamesFirst}
 use Rattle.ll_spelled.specs.Laws.{AnswersAreSpelled, SpelledIsRead}
-use Rattle.ll_words.specs.Words.{CheckWords, IsCheck}
-use Rattle.ll_words.proofs.CallerLemmas.{bad-not-in-form, checked-in-form, checked-kind}
-use Rattle.ll_judge.specs.declared.judge.Role.TheVariants.{Program, Query, Proof}
-use Rattle.ll_judge.specs.Faults.{Cause, fault_text, cause_status}
-use Rattle.ll_judge.specs.Judging.{TextsAsk}
-use Rattle.ll_judge.specs.Outcome.{AnyName, NoName}
-use Rattle.ll_check.specs.Verdicts.{yes_text, covered_text}
-use Rattle.ll_check.specs.Outcome.{bound_in, CheckFails, texts_not_read, faulty_text, CheckGives, CheckComesTo, shown, refuted, covered, too_long, counting}
-use Rattle.ll_check.specs.Outcome.{check_failed}
-use Rattle.ll_check.proofs.CallerLemmas.{none-counts, cause-not-zero}
+use Rattle.ll_top.specs.forms.Words.{CheckWords, IsCheck}
+use Rattle.ll_top.proofs.wording.FirstWords.{bad-not-in-form, checked-in-form, checked-kind}
+use Rattle.ll_top.specs.declared.texts.judge.Role.TheVariants.{Program, Query, Proof}
+use Rattle.ll_top.specs.texts.Faults.{Cause, fault_text, cause_status}
+use Rattle.ll_top.specs.texts.Judging.{TextsAsk}
+use Rattle.ll_top.specs.texts.Outcome.{AnyName, NoName}
+use Rattle.ll_top.specs.checks.Verdicts.{yes_text, covered_text}
+use Rattle.ll_top.specs.checks.Outcome.{bound_in, CheckFails, texts_not_read, faulty_text, CheckGives, CheckComesTo, shown, refuted, covered}
+use Rattle.ll_top.specs.checks.Outcome.{too_long, counting}
+use Rattle.ll_top.specs.checks.Outcome.{check_failed}
+use Rattle.ll_top.proofs.verdicts.CountingLemmas.{none-counts}
+use Rattle.ll_top.proofs.verdicts.ProvedLemmas.{cause-not-zero}
 use Rattle.ll_top.specs.Calls.{ComesTo, checks, misused}
 use Rattle.ll_top.specs.Accepted.{NamesUpTo, PrintedIsCovered}
 use Rattle.ll_top.proofs.outcomes.CallLemmas.{comes-kind}

@@ -1,3 +1,7 @@
+pub mod wording
+pub mod judging
+pub mod verdicts
+pub mod writing
 pub mod outcomes
 pub mod calls
 pub mod made

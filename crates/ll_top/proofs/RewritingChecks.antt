@@ -27,16 +27,17 @@ use Rattle.ll_prooftext.specs.Sizes.{text_in}
 use Rattle.ll_prooftext.specs.Twins.{Numbers, moved_derivation, moved_line, moved_tree, AreAmong, HasTwin}
 use Rattle.ll_prooftext.specs.Versions.{HasVersion, HasFaultIn, IsTextIn, first_version, second_version, IsProofText}
 use Rattle.ll_prooftext.proofs.CallerLemmas.{trees-moved}
-use Rattle.ll_words.specs.Words.{CheckWords, IsCheck}
-use Rattle.ll_words.proofs.CallerLemmas.{bad-not-in-form, checked-in-form, checked-kind}
-use Rattle.ll_judge.specs.declared.judge.Role.{Role}
-use Rattle.ll_judge.specs.Converting.{own_names, IsConverted}
-use Rattle.ll_judge.specs.Faults.{Cause, Faulty}
-use Rattle.ll_judge.specs.Judging.{IsTextFault, of_program, of_query, TextsAsk, of_run_texts, of_proof}
-use Rattle.ll_judge.specs.Outcome.{AnyName, NoName, longest_text, IsRead, Reaches, first as next, later as behind, ReadFails, absent, unreadable, oversized}
-use Rattle.ll_check.specs.Outcome.{check_texts, name_in_check, CheckFails, texts_not_read, faulty_text, bound_in, CheckGives, IsRefuted, CheckComesTo, shown}
-use Rattle.ll_check.specs.Outcome.{refuted, covered, too_long, counting, check_failed}
-use Rattle.ll_check.specs.Verdicts.{yes_text}
+use Rattle.ll_top.specs.forms.Words.{CheckWords, IsCheck}
+use Rattle.ll_top.proofs.wording.FirstWords.{bad-not-in-form, checked-in-form, checked-kind}
+use Rattle.ll_top.specs.declared.texts.judge.Role.{Role}
+use Rattle.ll_top.specs.texts.Converting.{own_names, IsConverted}
+use Rattle.ll_top.specs.texts.Faults.{Cause, Faulty}
+use Rattle.ll_top.specs.texts.Judging.{IsTextFault, of_program, of_query, TextsAsk, of_run_texts, of_proof}
+use Rattle.ll_top.specs.texts.Outcome.{AnyName, NoName, longest_text, IsRead, Reaches, first as next, later as behind, ReadFails, absent, unreadable, oversized}
+use Rattle.ll_top.specs.checks.Outcome.{check_texts, name_in_check, CheckFails, texts_not_read, faulty_text, bound_in, CheckGives, IsRefuted}
+use Rattle.ll_top.specs.checks.Outcome.{CheckComesTo, shown}
+use Rattle.ll_top.specs.checks.Outcome.{refuted, covered, too_long, counting, check_failed}
+use Rattle.ll_top.specs.checks.Verdicts.{yes_text}
 use Rattle.ll_top.specs.Calls.{ComesTo, misused, checks}
 use Rattle.ll_top.specs.Rewriting.{ConvertedIsJudgedAlike}
 use Rattle.ll_top.proofs.Accepted.{few}

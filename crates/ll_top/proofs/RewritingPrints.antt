@@ -9,11 +9,11 @@ use Rattle.ll_parser.specs.Reads.{Reads, IsWhole}
 use Rattle.ll_parser.specs.Text.{programs}
 use Rattle.ll_parser.specs.Tokens.{toks_of}
 use Rattle.ll_parser.proofs.CallerLemmas.{whole-read}
-use Rattle.ll_words.specs.Words.{IsPrint}
-use Rattle.ll_words.proofs.CallerLemmas.{bad-not-in-form, print-in-form, print-kind}
-use Rattle.ll_judge.specs.Judging.{IsProgramText}
-use Rattle.ll_judge.specs.Outcome.{AnyName, NoName, IsPrintedAs, PrintComesTo, printed, print_failed}
-use Rattle.ll_check.proofs.CallerLemmas.{cause-not-zero}
+use Rattle.ll_top.specs.forms.Words.{IsPrint}
+use Rattle.ll_top.proofs.wording.FirstWords.{bad-not-in-form, print-in-form, print-kind}
+use Rattle.ll_top.specs.texts.Judging.{IsProgramText}
+use Rattle.ll_top.specs.texts.Outcome.{AnyName, NoName, IsPrintedAs, PrintComesTo, printed, print_failed}
+use Rattle.ll_top.proofs.verdicts.ProvedLemmas.{cause-not-zero}
 use Rattle.ll_top.specs.Calls.{ComesTo, misused, prints}
 use Rattle.ll_top.specs.Rewriting.{PrintedIsPrinted, PrintedIsAside}
 use Rattle.ll_top.proofs.Accepted.{few}

@@ -18,11 +18,11 @@ use Rattle.ll_prooftext.specs.Reading.{HasNoVersion, text_lines}
 use Rattle.ll_prooftext.specs.Sizes.{text_in}
 use Rattle.ll_prooftext.specs.Twins.{AreAmong, HasTwin}
 use Rattle.ll_prooftext.specs.Versions.{HasVersion, IsTextIn, first_version, second_version, IsProofText}
-use Rattle.ll_words.specs.Words.{ConvertWords, IsConvert}
-use Rattle.ll_words.proofs.CallerLemmas.{bad-not-in-form, convert-in-form, convert-kind}
-use Rattle.ll_judge.specs.Converting.{own_names, IsConverted, ConvertComesTo, converted, convert_failed}
-use Rattle.ll_judge.specs.Outcome.{AnyName, NoName, longest_text, IsRead}
-use Rattle.ll_check.proofs.CallerLemmas.{cause-not-zero}
+use Rattle.ll_top.specs.forms.Words.{ConvertWords, IsConvert}
+use Rattle.ll_top.proofs.wording.FirstWords.{bad-not-in-form, convert-in-form, convert-kind}
+use Rattle.ll_top.specs.texts.Converting.{own_names, IsConverted, ConvertComesTo, converted, convert_failed}
+use Rattle.ll_top.specs.texts.Outcome.{AnyName, NoName, longest_text, IsRead}
+use Rattle.ll_top.proofs.verdicts.ProvedLemmas.{cause-not-zero}
 use Rattle.ll_top.specs.Calls.{ComesTo, misused, converts}
 use Rattle.ll_top.specs.Rewriting.{TellsVersion, tells_first, tells_second, ComesBackTo, ConvertedComesBack}
 use Rattle.ll_top.proofs.calls.DistinctNames.{differ-names}

@@ -10,18 +10,18 @@ use Rattle.ll_lexer.specs.declared.Fault.{Fault}
 use Rattle.ll_parser.specs.Raw.{ProgramTree}
 use Rattle.ll_parser.specs.Printed.{program_text}
 use Rattle.ll_session.specs.Queries.{QueryLine, AreQueries}
-use Rattle.ll_words.specs.Words.{RunWords, SessionWords, DeepenWords, CheckWords, ConvertWords}
-use Rattle.ll_judge.specs.declared.judge.Role.{Role}
-use Rattle.ll_judge.specs.declared.judge.Role.TheVariants.{Program}
-use Rattle.ll_judge.specs.Faults.{Cause, Faulty}
-use Rattle.ll_judge.specs.Judging.{IsProgramText, IsFaultless, IsReadingFault, IsProgramFault, of_program_reading, IsTextFault}
-use Rattle.ll_judge.specs.Judging.{TextsAsk, IsCheckFault, TextsGive}
-use Rattle.ll_judge.specs.Outcome.{AnyName, NoName, longest_text, IsRead, Reaches, first, later, ReadFails, absent, unreadable, oversized, run_texts}
-use Rattle.ll_judge.specs.Outcome.{RunFails, not_read, faulty, RunAsks, source_not_read, faulty_source, PrintComesTo, printed}
-use Rattle.ll_judge.specs.Outcome.{print_failed}
-use Rattle.ll_judge.specs.Converting.{proof_not_read, faulty_proof, too_long_as, ConvertComesTo, converted, convert_failed}
-use Rattle.ll_check.specs.Outcome.{check_texts, name_in_check, texts_not_read, faulty_text, bound_in, CheckGives, CheckComesTo, shown, refuted}
-use Rattle.ll_check.specs.Outcome.{covered, too_long, counting, check_failed}
+use Rattle.ll_top.specs.forms.Words.{RunWords, SessionWords, DeepenWords, CheckWords, ConvertWords}
+use Rattle.ll_top.specs.declared.texts.judge.Role.{Role}
+use Rattle.ll_top.specs.declared.texts.judge.Role.TheVariants.{Program}
+use Rattle.ll_top.specs.texts.Faults.{Cause, Faulty}
+use Rattle.ll_top.specs.texts.Judging.{IsProgramText, IsFaultless, IsReadingFault, IsProgramFault, of_program_reading, IsTextFault}
+use Rattle.ll_top.specs.texts.Judging.{TextsAsk, IsCheckFault, TextsGive}
+use Rattle.ll_top.specs.texts.Outcome.{AnyName, NoName, longest_text, IsRead, Reaches, first, later, ReadFails, absent, unreadable, oversized, run_texts}
+use Rattle.ll_top.specs.texts.Outcome.{RunFails, not_read, faulty, RunAsks, source_not_read, faulty_source, PrintComesTo, printed}
+use Rattle.ll_top.specs.texts.Outcome.{print_failed}
+use Rattle.ll_top.specs.texts.Converting.{proof_not_read, faulty_proof, too_long_as, ConvertComesTo, converted, convert_failed}
+use Rattle.ll_top.specs.checks.Outcome.{check_texts, name_in_check, texts_not_read, faulty_text, bound_in, CheckGives, CheckComesTo, shown, refuted}
+use Rattle.ll_top.specs.checks.Outcome.{covered, too_long, counting, check_failed}
 use Rattle.ll_top.specs.Outcome.{RunComesTo, ran, failed}
 use Rattle.ll_top.specs.Sessions.{session_not_read, faulty_program, SessionComesTo, replied, session_failed}
 use Rattle.ll_top.specs.Deepening.{run_within, DeepenComesTo, deepened, deepen_failed}

@@ -12,10 +12,10 @@ use Rattle.ll_polarity.specs.Asks.{part_of, problem_with, Asks, HasQueryFault, I
 use Rattle.ll_session.specs.Reading as session
 use Rattle.ll_session.specs.Lines.{lines}
 use Rattle.ll_session.specs.Queries.{QueryLine, LineAsks, HaveQueries, no_line, passed, asked, AreQueries}
-use Rattle.ll_judge.specs.declared.judge.Role.{Role}
-use Rattle.ll_judge.specs.Judging.{IsProgramText, IsFaultless, IsProgramFault, IsQueryFault, of_query_reading, of_query_scope}
-use Rattle.ll_judge.specs.Judging.{IsTextFault, of_program, of_query}
-use Rattle.ll_judge.specs.Judging.{TextsAsk, IsCheckFault, of_run_texts, of_proof, TextsGive}
+use Rattle.ll_top.specs.declared.texts.judge.Role.{Role}
+use Rattle.ll_top.specs.texts.Judging.{IsProgramText, IsFaultless, IsProgramFault, IsQueryFault, of_query_reading, of_query_scope}
+use Rattle.ll_top.specs.texts.Judging.{IsTextFault, of_program, of_query}
+use Rattle.ll_top.specs.texts.Judging.{TextsAsk, IsCheckFault, of_run_texts, of_proof, TextsGive}
 use Rattle.ll_top.specs.Rewriting.{AreOfOneProgram}
 use Rattle.ll_top.proofs.made.Aside.{headings-bare, faultless-aside}
 use Rattle.ll_top.proofs.RewritingTrees.{printed-bare, part-bare}

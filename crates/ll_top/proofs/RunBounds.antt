@@ -2,10 +2,11 @@
 use Rattle.std.proofs.Common.{◌≡◌, ℕ, ◌<◌, ◌≤◌, ◌⊎◌, Bool, true, false, List, [], ◌∷◌, Some, refl, ap, sym, subst, ◌∙◌, inl, inr, if◌then◌else◌, arith}
 use Rattle.std.specs.Prelude.{codes}
 use Rattle.std.specs.Str.Parse.{digits_value}
-use Rattle.ll_words.specs.Words.{Part, ThisWord, AnyName, NumberFrom, is_word, is_name_word, is_number_word, is_part, OptionForm, Takes, here, behind, Fits}
-use Rattle.ll_words.specs.Words.{part, option, done}
-use Rattle.ll_words.specs.Words.{greatest_bound, greatest_workers, greatest_first, number_behind, run_form, RunWords, IsRun}
-use Rattle.ll_words.proofs.CallerLemmas.{part-first, other-word, part-number}
+use Rattle.ll_top.specs.forms.Words.{Part, ThisWord, AnyName, NumberFrom, is_word, is_name_word, is_number_word, is_part, OptionForm, Takes, here, behind, Fits}
+use Rattle.ll_top.specs.forms.Words.{part, option, done}
+use Rattle.ll_top.specs.forms.Words.{greatest_bound, greatest_workers, greatest_first, number_behind, run_form, RunWords, IsRun}
+use Rattle.ll_top.proofs.wording.Forms.{part-first}
+use Rattle.ll_top.proofs.wording.WordValues.{other-word, part-number}
 
 -- An option's word, which is no name, no number and no form's first word, and the limits of the number behind it.
 module _ (sought : List ℕ) (no_number : is_number_word sought ≡ false) (no_name : is_name_word sought ≡ false)

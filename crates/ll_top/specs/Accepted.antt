@@ -10,9 +10,9 @@ use Rattle.ll_laws.specs.Completeness.{answers_in}
 use Rattle.ll_laws.specs.Line.{DerivationLines, counts_numbers}
 use Rattle.ll_laws.specs.Dealt.{dealt}
 use Rattle.ll_laws.specs.ProofText.{proof_text}
-use Rattle.ll_words.specs.Words.{RunWords, CheckWords, IsRun, IsCheck}
-use Rattle.ll_judge.specs.Outcome.{AnyName, NoName, IsRead, RunAsks}
-use Rattle.ll_check.specs.Verdicts.{yes_text, covered_text}
+use Rattle.ll_top.specs.forms.Words.{RunWords, CheckWords, IsRun, IsCheck}
+use Rattle.ll_top.specs.texts.Outcome.{AnyName, NoName, IsRead, RunAsks}
+use Rattle.ll_top.specs.checks.Verdicts.{yes_text, covered_text}
 use Rattle.ll_top.specs.Calls.{ComesTo}
 
 -- A run's texts ask a problem, and `d` is the derivation of one of its answers, which the run prints with `--proofs`. A check of the same program

@@ -16,11 +16,11 @@ use Rattle.ll_laws.specs.ProofText.{proof_text}
 use Rattle.ll_textbook.specs.Kept.{bounded_by, answers_by, short_answers}
 use Rattle.ll_session.specs.Lines.{lines, is_query_line}
 use Rattle.ll_session.specs.Queries.{on_line}
-use Rattle.ll_outlet.specs.Running.{event_lines}
-use Rattle.ll_words.specs.Making.{MadeRunWords}
-use Rattle.ll_words.specs.Words.{RunWords, SessionWords, DeepenWords, IsRun, IsSession, IsDeepen, IsMadeRun}
-use Rattle.ll_judge.specs.Faults.{Faulty, fault_text}
-use Rattle.ll_judge.specs.Outcome.{AnyName, NoName, IsRead, RunAsks}
+use Rattle.ll_top.specs.lines.Running.{event_lines}
+use Rattle.ll_top.specs.forms.Making.{MadeRunWords}
+use Rattle.ll_top.specs.forms.Words.{RunWords, SessionWords, DeepenWords, IsRun, IsSession, IsDeepen, IsMadeRun}
+use Rattle.ll_top.specs.texts.Faults.{Faulty, fault_text}
+use Rattle.ll_top.specs.texts.Outcome.{AnyName, NoName, IsRead, RunAsks}
 use Rattle.ll_top.specs.Outcome.{stopped_text}
 use Rattle.ll_top.specs.MadeRuns.{last_line}
 use Rattle.ll_top.specs.Deepening.{bound_line}

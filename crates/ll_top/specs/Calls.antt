@@ -2,20 +2,20 @@
 use Rattle.std.specs.Prelude.{◌≡◌, ◌⊎◌, ℕ, List, Option, Some, None}
 use Rattle.std.specs.Io.KnownBytes.{append_known}
 use Rattle.ll_edge.specs.Texts.{Texts}
-use Rattle.ll_judge.specs.Faults.{Usage, fault_text}
+use Rattle.ll_top.specs.texts.Faults.{Usage, fault_text}
 use Rattle.ll_top.specs.Making.{MakeComesTo}
-use Rattle.ll_words.specs.Making.{MakeWords, MadeRunWords}
+use Rattle.ll_top.specs.forms.Making.{MakeWords, MadeRunWords}
 use Rattle.ll_top.specs.MadeRuns.{MadeRunComesTo}
-use Rattle.ll_words.specs.Words.{RunWords, SessionWords, DeepenWords, CheckWords, ConvertWords, IsBadWord, IsRun, IsSession, IsDeepen, IsPrint, IsCheck}
-use Rattle.ll_words.specs.Words.{IsConvert, IsMake, IsMadeRun}
+use Rattle.ll_top.specs.forms.Words.{RunWords, SessionWords, DeepenWords, CheckWords, ConvertWords, IsBadWord, IsRun, IsSession, IsDeepen, IsPrint, IsCheck}
+use Rattle.ll_top.specs.forms.Words.{IsConvert, IsMake, IsMadeRun}
 use Rattle.ll_laws.specs.Problem.{ProblemTree}
 use Rattle.ll_laws.specs.Output.{run_status}
 use Rattle.ll_top.specs.Outcome.{RunComesTo, whole_text}
-use Rattle.ll_judge.specs.Outcome.{AnyName, NoName, RunAsks, PrintComesTo}
-use Rattle.ll_check.specs.Outcome.{CheckComesTo}
+use Rattle.ll_top.specs.texts.Outcome.{AnyName, NoName, RunAsks, PrintComesTo}
+use Rattle.ll_top.specs.checks.Outcome.{CheckComesTo}
 use Rattle.ll_top.specs.Sessions.{SessionComesTo}
 use Rattle.ll_top.specs.Deepening.{DeepenComesTo}
-use Rattle.ll_judge.specs.Converting.{ConvertComesTo}
+use Rattle.ll_top.specs.texts.Converting.{ConvertComesTo}
 
 -- what a call with these words comes to: the status and the whole text, where memory does not run out and no write fails
 pub data ComesTo (words : List (List ℕ)) (told : Option Texts) (absence read_failed : List ℕ → Type 0) (status : ℕ) (text : List ℕ) : Type 0 where

@@ -5,13 +5,13 @@ use Rattle.ll_deepen.specs.Deciding.{IsDeciding}
 use Rattle.ll_edge.specs.Texts.{Texts}
 use Rattle.ll_laws.specs.Problem.{ProblemTree}
 use Rattle.ll_laws.specs.Output.{run_status}
-use Rattle.ll_judge.specs.declared.judge.Role.{Role}
-use Rattle.ll_judge.specs.declared.refusing.TextRefusal.{TextRefusal}
+use Rattle.ll_top.specs.declared.texts.judge.Role.{Role}
+use Rattle.ll_top.specs.declared.texts.refusing.TextRefusal.{TextRefusal}
 use Rattle.ll_top.specs.Deepening.{run_within, bound_line}
-use Rattle.ll_judge.specs.Endings.{cause_of}
-use Rattle.ll_judge.specs.Outcome.{name_of, RunFails}
+use Rattle.ll_top.specs.texts.Endings.{cause_of}
+use Rattle.ll_top.specs.texts.Outcome.{name_of, RunFails}
 use Rattle.ll_top.specs.Outcome.{whole_text}
-use Rattle.ll_words.specs.Words.{RunWords, DeepenWords}
+use Rattle.ll_top.specs.forms.Words.{RunWords, DeepenWords}
 
 -- the problem with another bound
 abbrev pub with_bound : ProblemTree → ℕ → ProblemTree

@@ -4,10 +4,10 @@ use Rattle.ll_edge.specs.Texts.{Texts}
 use Rattle.ll_deepen.specs.Deciding.{IsDeciding}
 use Rattle.ll_laws.specs.Output.{line, run_status}
 use Rattle.ll_laws.specs.Problem.{ProblemTree}
-use Rattle.ll_judge.specs.Faults.{Cause, fault_text, cause_status}
-use Rattle.ll_judge.specs.Outcome.{RunAsks, RunFails}
+use Rattle.ll_top.specs.texts.Faults.{Cause, fault_text, cause_status}
+use Rattle.ll_top.specs.texts.Outcome.{RunAsks, RunFails}
 use Rattle.ll_top.specs.Outcome.{whole_text}
-use Rattle.ll_words.specs.Words.{RunWords, DeepenWords}
+use Rattle.ll_top.specs.forms.Words.{RunWords, DeepenWords}
 
 -- the run with one of its bounds
 abbrev pub run_within : DeepenWords → ℕ → RunWords

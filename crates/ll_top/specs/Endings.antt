@@ -7,13 +7,13 @@ use Rattle.ll_laws.specs.Problem.{ProblemTree}
 use Rattle.ll_laws.specs.Valid.{IsValid}
 use Rattle.ll_top.specs.declared.run.Found.{Found}
 use Rattle.ll_top.specs.declared.run.Found.TheVariants.{Answer, Nothing, Bound}
-use Rattle.ll_judge.specs.declared.refusing.Refusal.{Refusal}
-use Rattle.ll_judge.specs.declared.refusing.Refusal.TheVariants.{Text, Unwritable, OutOfMemory}
-use Rattle.ll_words.specs.Words.{RunWords}
-use Rattle.ll_judge.specs.Outcome.{name_of, RunFails, RunAsks}
-use Rattle.ll_judge.specs.Endings.{cause_of}
+use Rattle.ll_top.specs.declared.texts.refusing.Refusal.{Refusal}
+use Rattle.ll_top.specs.declared.texts.refusing.Refusal.TheVariants.{Text, Unwritable, OutOfMemory}
+use Rattle.ll_top.specs.forms.Words.{RunWords}
+use Rattle.ll_top.specs.texts.Outcome.{name_of, RunFails, RunAsks}
+use Rattle.ll_top.specs.texts.Endings.{cause_of}
 use Rattle.ll_top.specs.Outcome.{status_of_run, text_of_run, RunComesTo}
-use Rattle.ll_judge.specs.CallEnds.{AppendsOwn}
+use Rattle.ll_top.specs.texts.CallEnds.{AppendsOwn}
 
 -- the status of what a run found
 abbrev pub status_of_found : Found → ℕ

@@ -1,3 +1,7 @@
+pub mod forms
+pub mod texts
+pub mod checks
+pub mod lines
 pub mod Faultless
 pub mod Making
 pub mod MadeRuns

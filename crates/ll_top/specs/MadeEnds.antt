@@ -5,11 +5,11 @@ use Rattle.ll_edge.specs.Pieces.{AppendsFront}
 use Rattle.ll_laws.specs.Problem.{ProblemTree}
 use Rattle.ll_laws.specs.Output.{run_status}
 use Rattle.ll_top.specs.declared.run.Found.{Found}
-use Rattle.ll_judge.specs.declared.refusing.Refusal.{Refusal}
-use Rattle.ll_judge.specs.declared.refusing.Refusal.TheVariants.{Text, Unwritable, OutOfMemory}
-use Rattle.ll_words.specs.Making.{MadeRunWords}
+use Rattle.ll_top.specs.declared.texts.refusing.Refusal.{Refusal}
+use Rattle.ll_top.specs.declared.texts.refusing.Refusal.TheVariants.{Text, Unwritable, OutOfMemory}
+use Rattle.ll_top.specs.forms.Making.{MadeRunWords}
 use Rattle.ll_top.specs.MadeRuns.{MadeAsks, last_line, MadeRunComesTo}
-use Rattle.ll_judge.specs.CallEnds.{AppendsOwn}
+use Rattle.ll_top.specs.texts.CallEnds.{AppendsOwn}
 use Rattle.ll_top.specs.Endings.{status_of_found}
 
 abbrev pub MadeRunEnds : Type 0 → MadeRunWords → Option (List ℕ) → Option (List ℕ) → Result Found Refusal → Type 0

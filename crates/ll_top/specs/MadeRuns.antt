@@ -5,8 +5,8 @@ use Rattle.ll_laws.specs.Search.{is_answer, is_reached}
 use Rattle.ll_laws.specs.Output.{run_status, summary_text}
 use Rattle.ll_make.specs.Kinds.{query_text}
 use Rattle.ll_top.specs.Making.{make_text}
-use Rattle.ll_words.specs.Making.{MadeRunWords}
-use Rattle.ll_judge.specs.Judging.{TextsAsk}
+use Rattle.ll_top.specs.forms.Making.{MadeRunWords}
+use Rattle.ll_top.specs.texts.Judging.{TextsAsk}
 
 -- the program that is made and the query of its kind ask this problem
 abbrev pub MadeAsks : MadeRunWords → ProblemTree → Type 0

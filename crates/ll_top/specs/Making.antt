@@ -1,7 +1,7 @@
 -- What the words that ask for a program of a kind come to.
 use Rattle.std.specs.Prelude.{◌≡◌, ℕ, List}
 use Rattle.ll_make.specs.Programs.{program_text}
-use Rattle.ll_words.specs.Making.{MakeWords}
+use Rattle.ll_top.specs.forms.Making.{MakeWords}
 
 -- the text of the program that is asked for
 abbrev pub make_text : MakeWords → List ℕ

@@ -4,8 +4,8 @@ use Rattle.ll_edge.specs.Texts.{Texts}
 use Rattle.ll_bank.specs.Term.{Term}
 use Rattle.ll_laws.specs.Problem.{ProblemTree}
 use Rattle.ll_textbook.specs.Follows.{IsFilling, Follows, reckons, IsNumberless}
-use Rattle.ll_words.specs.Words.{RunWords}
-use Rattle.ll_judge.specs.Outcome.{RunAsks}
+use Rattle.ll_top.specs.forms.Words.{RunWords}
+use Rattle.ll_top.specs.texts.Outcome.{RunAsks}
 
 -- The query of the problem follows from the program with no closed terms for its variables and by no number of nodes (derivability after Hodas
 -- and Miller 1994), but perhaps by derivations that have whole-number goals.

@@ -7,10 +7,10 @@ use Rattle.ll_laws.specs.declared.Event.{Event}
 use Rattle.ll_laws.specs.Problem.{ProblemTree, problem_events}
 use Rattle.ll_laws.specs.Output.{run_text, run_status}
 use Rattle.ll_laws.specs.ProofText.{proved_run_text}
-use Rattle.ll_words.specs.Words.{RunWords}
-use Rattle.ll_judge.specs.Faults.{Cause, fault_text, cause_status}
-use Rattle.ll_judge.specs.Outcome.{RunFails, RunAsks}
-use Rattle.ll_outlet.specs.Running.{all_lines}
+use Rattle.ll_top.specs.forms.Words.{RunWords}
+use Rattle.ll_top.specs.texts.Faults.{Cause, fault_text, cause_status}
+use Rattle.ll_top.specs.texts.Outcome.{RunFails, RunAsks}
+use Rattle.ll_top.specs.lines.Running.{all_lines}
 
 -- the text of a whole search of a problem, with proofs or without
 abbrev pub whole_text : Bool → ProblemTree → List ℕ

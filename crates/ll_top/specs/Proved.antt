@@ -16,8 +16,8 @@ use Rattle.ll_laws.specs.Instance.{IsInstance}
 use Rattle.ll_textbook.specs.Follows.{IsFilling, Follows, reckons, IsAnswered}
 use Rattle.ll_laws.specs.Output.{answer_text, summary_text}
 use Rattle.ll_laws.specs.ProofText.{proof_text}
-use Rattle.ll_words.specs.Words.{RunWords}
-use Rattle.ll_judge.specs.Outcome.{RunAsks}
+use Rattle.ll_top.specs.forms.Words.{RunWords}
+use Rattle.ll_top.specs.texts.Outcome.{RunAsks}
 use Rattle.ll_top.specs.Outcome.{front_events, stopped_text}
 
 -- The answer is right: it has a closed term for each variable of the query, and the query with these terms follows from the program, and so does

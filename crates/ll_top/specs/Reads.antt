@@ -2,8 +2,8 @@
 use Rattle.std.specs.Prelude.{◌≡◌, ℕ, List, ◌++◌}
 use Rattle.ll_edge.specs.Log.{Entry}
 use Rattle.ll_laws.specs.Problem.{ProblemTree}
-use Rattle.ll_words.specs.Words.{RunWords}
-use Rattle.ll_judge.specs.Outcome.{ReadsWhatAsks}
+use Rattle.ll_top.specs.forms.Words.{RunWords}
+use Rattle.ll_top.specs.texts.Outcome.{ReadsWhatAsks}
 use Rattle.ll_top.specs.Outcome.{text_of_run, status_of_run}
 
 -- The calls of the shelf read a run's program and then its query, each whole, and nothing else; the two ask a problem; and what the sink took

@@ -12,9 +12,9 @@ use Rattle.ll_prooftext.specs.Mentions.{text_names}
 use Rattle.ll_prooftext.specs.Reading.{HasNoVersion, text_lines}
 use Rattle.ll_prooftext.specs.Sizes.{text_in}
 use Rattle.ll_prooftext.specs.Versions.{HasVersion, IsProofText}
-use Rattle.ll_words.specs.Words.{RunWords, SessionWords, DeepenWords, CheckWords, ConvertWords, IsRun, IsSession, IsDeepen, IsPrint, IsCheck, IsConvert}
-use Rattle.ll_judge.specs.Judging.{IsProgramText, IsFaultless}
-use Rattle.ll_judge.specs.Outcome.{AnyName, NoName, longest_text, IsRead}
+use Rattle.ll_top.specs.forms.Words.{RunWords, SessionWords, DeepenWords, CheckWords, ConvertWords, IsRun, IsSession, IsDeepen, IsPrint, IsCheck, IsConvert}
+use Rattle.ll_top.specs.texts.Judging.{IsProgramText, IsFaultless}
+use Rattle.ll_top.specs.texts.Outcome.{AnyName, NoName, longest_text, IsRead}
 use Rattle.ll_top.specs.Calls.{ComesTo}
 
 -- ---- programs

@@ -5,8 +5,8 @@ use Rattle.ll_laws.specs.Output.{counts_text}
 use Rattle.ll_laws.specs.Problem.{ProblemTree, problem_events, problem_cost}
 use Rattle.ll_laws.specs.Search.{is_answer}
 use Rattle.ll_order.specs.Outlets.{CountsOf}
-use Rattle.ll_judge.specs.declared.refusing.Refusal.{Refusal}
-use Rattle.ll_judge.specs.declared.refusing.Refusal.TheVariants.{Text, Unwritable, OutOfMemory}
+use Rattle.ll_top.specs.declared.texts.refusing.Refusal.{Refusal}
+use Rattle.ll_top.specs.declared.texts.refusing.Refusal.TheVariants.{Text, Unwritable, OutOfMemory}
 use Rattle.ll_top.specs.declared.run.Ended.{Ended}
 use Rattle.ll_top.specs.declared.run.Ended.TheVariants.{Whole, Stopped}
 use Rattle.ll_top.specs.Outcome.{stopped_text}

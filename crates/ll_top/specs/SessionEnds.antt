@@ -6,13 +6,13 @@ use Rattle.ll_edge.specs.Texts.{Texts}
 use Rattle.ll_laws.specs.Valid.{IsValid}
 use Rattle.ll_parser.specs.Raw.{ProgramTree}
 use Rattle.ll_session.specs.Queries.{QueryLine, AreQueries}
-use Rattle.ll_judge.specs.declared.judge.Role.{Role}
-use Rattle.ll_judge.specs.declared.judge.Role.TheVariants.{Program, Query, Proof}
-use Rattle.ll_judge.specs.declared.refusing.TextRefusal.{TextRefusal}
-use Rattle.ll_judge.specs.declared.refusing.TextRefusal.TheVariants as text
-use Rattle.ll_words.specs.Words.{SessionWords}
-use Rattle.ll_judge.specs.Judging.{IsFaultless, IsProgramFault}
-use Rattle.ll_judge.specs.Endings.{cause_of}
+use Rattle.ll_top.specs.declared.texts.judge.Role.{Role}
+use Rattle.ll_top.specs.declared.texts.judge.Role.TheVariants.{Program, Query, Proof}
+use Rattle.ll_top.specs.declared.texts.refusing.TextRefusal.{TextRefusal}
+use Rattle.ll_top.specs.declared.texts.refusing.TextRefusal.TheVariants as text
+use Rattle.ll_top.specs.forms.Words.{SessionWords}
+use Rattle.ll_top.specs.texts.Judging.{IsFaultless, IsProgramFault}
+use Rattle.ll_top.specs.texts.Endings.{cause_of}
 use Rattle.ll_top.specs.Sessions.{reply_text, replies_text, SessionFails}
 
 -- the name of a session's text: the one with the queries is the query's; a session has no derivation's

@@ -6,11 +6,11 @@ use Rattle.ll_laws.specs.Problem.{ProblemTree}
 use Rattle.ll_lexer.specs.declared.Fault.{Fault}
 use Rattle.ll_parser.specs.Raw.{ProgramTree}
 use Rattle.ll_session.specs.Queries.{QueryLine, AreQueries}
-use Rattle.ll_judge.specs.Faults.{Cause, Faulty, fault_text, cause_status}
-use Rattle.ll_judge.specs.Judging.{IsFaultless, IsProgramFault}
-use Rattle.ll_judge.specs.Outcome.{IsRead, ReadFails}
+use Rattle.ll_top.specs.texts.Faults.{Cause, Faulty, fault_text, cause_status}
+use Rattle.ll_top.specs.texts.Judging.{IsFaultless, IsProgramFault}
+use Rattle.ll_top.specs.texts.Outcome.{IsRead, ReadFails}
 use Rattle.ll_top.specs.Outcome.{whole_text}
-use Rattle.ll_words.specs.Words.{SessionWords}
+use Rattle.ll_top.specs.forms.Words.{SessionWords}
 
 -- what a reply says behind its first line: the text of a run of the problem, or the line of the fault, with the name of the queries' text
 abbrev pub answer_to : Bool → List ℕ → Result ProblemTree Fault → List ℕ

@@ -11,8 +11,8 @@ use Rattle.ll_laws.specs.Valid.{IsValid}
 use Rattle.ll_textbook.specs.Follows.{IsFilling, Follows, reckons, IsAnswered, IsNumberless}
 use Rattle.ll_parser.specs.Raw.{ProgramTree}
 use Rattle.ll_session.specs.Queries.{QueryLine, AreQueries}
-use Rattle.ll_words.specs.Words.{SessionWords, DeepenWords}
-use Rattle.ll_judge.specs.Outcome.{RunAsks}
+use Rattle.ll_top.specs.forms.Words.{SessionWords, DeepenWords}
+use Rattle.ll_top.specs.texts.Outcome.{RunAsks}
 use Rattle.ll_top.specs.Outcome.{whole_text}
 use Rattle.ll_top.specs.Proved.{AreShown, end_of_run}
 use Rattle.ll_top.specs.Nothing.{NoneFollows}

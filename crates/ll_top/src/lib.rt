@@ -3,9 +3,12 @@
 
 mod accepting;
 mod agreeing;
+mod checks;
 mod deepening;
 mod faultless;
+mod forms;
 mod indexes;
+mod lines;
 mod made_runs;
 mod making;
 mod refused;
@@ -13,25 +16,29 @@ mod rewriting;
 mod run;
 mod session;
 mod team;
+mod texts;
 
 ghost use Rattle.std.specs.Prelude.{◌≡◌, ◌≤◌, ◌<◌, ◌↔◌, ◌⊎◌, ℕ, List, Option, None, Some, IfSome, IfOk};
 ghost use Rattle.ll_edge.specs.Counts.{Rose};
 ghost use Rattle.ll_edge.specs.Log.{ShelfKept, Agrees, Fits, Met, NoText, Unreadable};
 ghost use Rattle.ll_edge.specs.Texts.{Texts};
-ghost use Rattle.ll_words.specs.Words.{FitsForm, cover_form, IsInForm, IsInWorkersForm, RunWords, IsRun, SessionWords, IsSession, DeepenWords, IsDeepen};
-ghost use Rattle.ll_words.specs.Words.{CheckWords, IsCheck, shown_words, word_texts};
-ghost use Rattle.ll_judge.specs.Outcome.{AnyName, NoName};
-ghost use Rattle.ll_check.specs.Outcome.{IsProved, IsDenied, IsCoveredCall, IsUncoveredCall};
+ghost use Rattle.ll_top.specs.forms.Words.{FitsForm, cover_form, IsInForm, IsInWorkersForm, RunWords, IsRun, SessionWords, IsSession, DeepenWords, IsDeepen};
+ghost use Rattle.ll_top.specs.forms.Words.{CheckWords, IsCheck, shown_words, word_texts};
+ghost use Rattle.ll_top.specs.texts.Outcome.{AnyName, NoName};
+ghost use Rattle.ll_top.specs.checks.Outcome.{IsProved, IsDenied, IsCoveredCall, IsUncoveredCall};
 ghost use Rattle.ll_top.specs.Outcome.{RunComesTo};
 ghost use Rattle.ll_top.specs.Calls.{ComesTo, Completes, Headline};
-ghost use Rattle.ll_judge.specs.CallEnds.{Ends};
-ghost use Rattle.ll_judge.specs.Told.{ShelfTold, SinkTold, StatusTold};
+ghost use Rattle.ll_top.specs.texts.CallEnds.{Ends};
+ghost use Rattle.ll_top.specs.texts.Told.{ShelfTold, SinkTold, StatusTold};
 ghost use Rattle.ll_top.specs.Endings.{status_of_found, RunEnds};
 ghost use Rattle.ll_top.specs.Proved.{WritesShown};
 ghost use Rattle.ll_top.specs.Nothing.{AsksInVain};
 ghost use Rattle.ll_top.specs.Reads.{RunReads};
 ghost use Rattle.ll_top.specs.Shown.{SessionShown, DeepenShown};
 
+use crate::checks::serve_check;
+use crate::forms::{Command, RunCommand, read_command};
+use crate::texts::{Cause, Refusal, prepare, refuse, serve_convert, serve_print};
 pub use accepting::{printed_is_accepted, printed_is_covered};
 pub use agreeing::{
     deepening_is_run, derivation_is_printed, first_is_front, greater_bound_keeps, session_is_runs,
@@ -39,16 +46,13 @@ pub use agreeing::{
 };
 use deepening::serve_deepen;
 pub use faultless::made_texts;
-use ll_check::serve_check;
 use ll_edge::{FileShelf, Gate, OpenGate, Shelf, Sink, StdSink};
-use ll_judge::{Cause, Refusal, prepare, refuse, serve_convert, serve_print};
 use ll_laws::answers_are_shown;
 use ll_lexer::one_reading;
 use ll_parser::{one_program, one_query};
 use ll_prooftext::one_derivation_in_any;
 use ll_session::one_session;
 use ll_textbook::answers_are_what_follows;
-use ll_words::{Command, RunCommand, read_command};
 pub use made_runs::made_asks;
 use made_runs::serve_made_run;
 use making::serve_make;

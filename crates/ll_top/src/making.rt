@@ -2,13 +2,13 @@
 ghost use Rattle.std.specs.Prelude.{◌≡◌, ◌<◌, ◌≤◌, Some};
 ghost use Rattle.ll_edge.specs.Counts.{Rose};
 ghost use Rattle.ll_make.specs.Kinds.{Fits};
-ghost use Rattle.ll_words.specs.Words.{shown_make};
+ghost use Rattle.ll_top.specs.forms.Words.{shown_make};
 ghost use Rattle.ll_top.specs.Making.{MakeComesTo};
-ghost use Rattle.ll_judge.specs.CallEnds.{Ends};
+ghost use Rattle.ll_top.specs.texts.CallEnds.{Ends};
 
+use crate::forms::MakeCommand;
 use ll_edge::{Sink, WriteFailed, write_all};
 use ll_make::program;
-use ll_words::MakeCommand;
 use std::alloc::Global;
 
 /// Writes the program that is asked for, and answers the status: 0, or 6 where the sink failed, with a prefix written, or 10 where memory

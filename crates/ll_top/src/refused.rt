@@ -3,8 +3,8 @@ ghost use Rattle.std.specs.Prelude.{◌≡◌, ◌<◌, ◌≤◌, Some};
 ghost use Rattle.ll_edge.specs.Counts.{Rose};
 ghost use Rattle.ll_top.specs.Refused.{named, EndsRefused};
 
+use crate::texts::{Refusal, Role, refuse};
 use ll_edge::Sink;
-use ll_judge::{Refusal, Role, refuse};
 
 /// The names of the texts of a call that has no derivation.
 #[derive(Drop)]

@@ -1,5 +1,5 @@
 // Who searches.
-ghost use Rattle.ll_words.specs.Words.{IsWorkerCount};
+ghost use Rattle.ll_top.specs.forms.Words.{IsWorkerCount};
 
 use std::alloc::Global;
 

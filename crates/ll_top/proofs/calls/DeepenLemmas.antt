@@ -10,17 +10,17 @@ use Rattle.ll_edge.specs.Texts.{Texts}
 use Rattle.ll_laws.specs.Problem.{ProblemTree}
 use Rattle.ll_laws.specs.Output.{run_status}
 use Rattle.ll_laws.specs.Valid.{IsValid}
-use Rattle.ll_judge.specs.declared.refusing.Refusal.{Refusal}
-use Rattle.ll_judge.specs.declared.refusing.Refusal.TheVariants.{Text, Unwritable, OutOfMemory}
+use Rattle.ll_top.specs.declared.texts.refusing.Refusal.{Refusal}
+use Rattle.ll_top.specs.declared.texts.refusing.Refusal.TheVariants.{Text, Unwritable, OutOfMemory}
 use Rattle.ll_top.specs.declared.run.Found.{Found}
-use Rattle.ll_words.specs.Words.{DeepenWords}
-use Rattle.ll_judge.specs.Judging.{TextsAsk}
-use Rattle.ll_judge.specs.Outcome.{RunAsks}
+use Rattle.ll_top.specs.forms.Words.{DeepenWords}
+use Rattle.ll_top.specs.texts.Judging.{TextsAsk}
+use Rattle.ll_top.specs.texts.Outcome.{RunAsks}
 use Rattle.ll_top.specs.Outcome.{whole_text}
-use Rattle.ll_judge.specs.CallEnds.{nothing}
+use Rattle.ll_top.specs.texts.CallEnds.{nothing}
 use Rattle.ll_top.specs.Deepening.{run_within, bound_line, DeepenComesTo, deepened}
 use Rattle.ll_top.specs.DeepenEnds.{with_bound, first_run, DeepenRefuses, DeepensTo}
-use Rattle.ll_judge.specs.Endings.{Prepares}
+use Rattle.ll_top.specs.texts.Endings.{Prepares}
 use Rattle.ll_top.specs.Endings.{status_of_found}
 use Rattle.ll_top.specs.OwnEnds.{EndsOwn, NoneFails}
 use Rattle.ll_top.specs.Running.{IsRunRefusal}

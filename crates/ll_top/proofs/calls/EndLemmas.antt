@@ -10,7 +10,7 @@ use Rattle.ll_first.proofs.CallerLemmas.{upto_none, upto_some}
 use Rattle.ll_laws.specs.declared.Event.{Event}
 use Rattle.ll_laws.specs.Problem.{ProblemTree, problem_events}
 use Rattle.ll_laws.specs.Output.{run_status}
-use Rattle.ll_outlet.specs.Running.{all_lines}
+use Rattle.ll_top.specs.lines.Running.{all_lines}
 use Rattle.ll_top.specs.declared.run.Ended.{Ended}
 use Rattle.ll_top.specs.declared.run.Ended.TheVariants.{Whole, Stopped}
 use Rattle.ll_top.specs.Outcome.{status_of_run, text_of_run}

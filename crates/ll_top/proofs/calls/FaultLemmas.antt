@@ -1,9 +1,9 @@
 -- What an outlet tells of its sink's faults.
 use Rattle.std.proofs.Common.{◌≡◌, ◌∙◌, ℕ, Bool, true, false, inl, inr, subst, sym}
-use Rattle.ll_judge.specs.declared.refusing.Refusal.{Refusal}
-use Rattle.ll_judge.specs.declared.refusing.Refusal.TheVariants.{Unwritable, OutOfMemory}
-use Rattle.ll_judge.specs.Told.{WritesBy}
-use Rattle.ll_outlet.specs.Running.{TellsFaults}
+use Rattle.ll_top.specs.declared.texts.refusing.Refusal.{Refusal}
+use Rattle.ll_top.specs.declared.texts.refusing.Refusal.TheVariants.{Unwritable, OutOfMemory}
+use Rattle.ll_top.specs.texts.Told.{WritesBy}
+use Rattle.ll_top.specs.lines.Running.{TellsFaults}
 use Rattle.ll_top.specs.Running.{IsRunRefusal}
 
 -- A refusal says that the sink failed exactly where the outlet tells so, and then the count rose. Else the count stands still.

@@ -13,18 +13,18 @@ use Rattle.ll_order.specs.Outlets.{CountsOf}
 use Rattle.ll_polarity.specs.Faults.{heading}
 use Rattle.ll_polarity.specs.Asks.{part_of, problem_with}
 use Rattle.ll_make.specs.Kinds.{query_text}
-use Rattle.ll_judge.specs.declared.judge.Role.{Role}
+use Rattle.ll_top.specs.declared.texts.judge.Role.{Role}
 use Rattle.ll_top.specs.declared.run.Found.{Found}
-use Rattle.ll_judge.specs.declared.refusing.TextRefusal.TheVariants as text
-use Rattle.ll_judge.specs.declared.refusing.Refusal.{Refusal}
-use Rattle.ll_judge.specs.declared.refusing.Refusal.TheVariants.{Text, Unwritable, OutOfMemory}
+use Rattle.ll_top.specs.declared.texts.refusing.TextRefusal.TheVariants as text
+use Rattle.ll_top.specs.declared.texts.refusing.Refusal.{Refusal}
+use Rattle.ll_top.specs.declared.texts.refusing.Refusal.TheVariants.{Text, Unwritable, OutOfMemory}
 use Rattle.ll_top.specs.Making.{make_text}
-use Rattle.ll_words.specs.Making.{MadeRunWords}
+use Rattle.ll_top.specs.forms.Making.{MadeRunWords}
 use Rattle.ll_top.specs.MadeRuns.{MadeAsks, last_line, MadeRunComesTo}
 use Rattle.ll_top.specs.MadeEnds.{MadeRunEnds}
-use Rattle.ll_judge.specs.Judging.{IsTextFault, TextsAsk}
-use Rattle.ll_judge.specs.CallEnds.{nothing, front, Ends, whole}
-use Rattle.ll_judge.specs.Endings.{Judges}
+use Rattle.ll_top.specs.texts.Judging.{IsTextFault, TextsAsk}
+use Rattle.ll_top.specs.texts.CallEnds.{nothing, front, Ends, whole}
+use Rattle.ll_top.specs.texts.Endings.{Judges}
 use Rattle.ll_top.specs.Endings.{status_of_found}
 use Rattle.ll_top.specs.Running.{IsRunRefusal}
 use Rattle.ll_top.proofs.calls.RunLemmas.{last-line}

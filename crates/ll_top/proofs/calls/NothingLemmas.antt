@@ -7,8 +7,8 @@ use Rattle.ll_laws.specs.Output.{run_status}
 use Rattle.ll_laws.specs.Valid.{IsValid}
 use Rattle.ll_textbook.specs.Follows.{reckons}
 use Rattle.ll_textbook.specs.Laws.{NothingFollows, NumberlessFollows}
-use Rattle.ll_words.specs.Words.{RunWords, IsRun}
-use Rattle.ll_judge.specs.Outcome.{RunAsks}
+use Rattle.ll_top.specs.forms.Words.{RunWords, IsRun}
+use Rattle.ll_top.specs.texts.Outcome.{RunAsks}
 use Rattle.ll_top.specs.Outcome.{front_events, status_of_run}
 use Rattle.ll_top.specs.Nothing.{NoneFollows, AsksInVain}
 use Rattle.ll_top.proofs.outcomes.OneText.{one-run}

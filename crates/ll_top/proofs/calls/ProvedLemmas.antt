@@ -19,17 +19,17 @@ use Rattle.ll_laws.specs.Dealt.{dealt}
 use Rattle.ll_laws.specs.Output.{answer_text, answers_text}
 use Rattle.ll_laws.specs.ProofText.{derivation_text, proved_answers_text}
 use Rattle.ll_laws.specs.Valid.{IsValid}
-use Rattle.ll_words.specs.Words.{RunWords, IsRun, SessionWords, IsSession, DeepenWords, IsDeepen}
-use Rattle.ll_judge.specs.Faults.{Cause, Usage, Absent, Unreadable, Oversized, OversizedAs, Faulty, cause_status}
-use Rattle.ll_judge.specs.Outcome.{RunAsks}
+use Rattle.ll_top.specs.forms.Words.{RunWords, IsRun, SessionWords, IsSession, DeepenWords, IsDeepen}
+use Rattle.ll_top.specs.texts.Faults.{Cause, Usage, Absent, Unreadable, Oversized, OversizedAs, Faulty, cause_status}
+use Rattle.ll_top.specs.texts.Outcome.{RunAsks}
 use Rattle.ll_top.specs.Outcome.{stopped_or_whole, text_of_run}
-use Rattle.ll_judge.specs.Endings.{Refuses}
-use Rattle.ll_outlet.specs.Running.{all_lines}
+use Rattle.ll_top.specs.texts.Endings.{Refuses}
+use Rattle.ll_top.specs.lines.Running.{all_lines}
 use Rattle.ll_top.specs.Proved.{IsRight, ShowsAnswer, AreShown, all_shown, answer_shown, reached_shown, events_told, stop_or_summary, end_of_run, WritesShown}
 use Rattle.ll_top.specs.Reads.{RunReads}
 use Rattle.ll_top.specs.Shown.{SessionShown, DeepenShown}
 use Rattle.ll_top.proofs.calls.RunLemmas.{whole-lines}
-use Rattle.ll_judge.proofs.CallerLemmas.{refused-status}
+use Rattle.ll_top.proofs.judging.OutcomeLemmas.{refused-status}
 use Rattle.ll_top.proofs.outcomes.OneText.{one-run, one-session, one-deepen}
 
 module _ (shown : AnswersAreShown) (terms : AnswersFollow) (covered : InstancesFollow) (p : ProblemTree) (valid : IsValid p) where

@@ -4,25 +4,26 @@ use Rattle.std.specs.Prelude.{Option, Err}
 use Rattle.ll_edge.specs.Counts.{Rose}
 use Rattle.ll_edge.specs.Texts.{Texts}
 use Rattle.ll_edge.proofs.CallerLemmas.{Rose-later}
-use Rattle.ll_judge.specs.declared.judge.Role.{Role}
-use Rattle.ll_judge.specs.declared.judge.Role.TheVariants.{Program, Query, Proof}
-use Rattle.ll_judge.specs.declared.refusing.TextRefusal.{TextRefusal}
-use Rattle.ll_judge.specs.declared.refusing.Refusal.{Refusal}
-use Rattle.ll_judge.specs.declared.refusing.Refusal.TheVariants.{Text, Unwritable, OutOfMemory}
-use Rattle.ll_judge.specs.CallEnds.{Ends, unwritable, no_memory}
-use Rattle.ll_judge.specs.Endings.{cause_of}
-use Rattle.ll_judge.specs.Faults.{cause_status, fault_text}
-use Rattle.ll_judge.specs.Outcome.{name_of, RunFails}
-use Rattle.ll_judge.specs.Told.{ShelfTold, StatusTold, WritesBy}
-use Rattle.ll_judge.proofs.CallerLemmas.{refuses-later, refused-ends, status-unwritable, status-memory, status-refused}
-use Rattle.ll_words.specs.Words.{RunWords, SessionWords, DeepenWords}
+use Rattle.ll_top.specs.declared.texts.judge.Role.{Role}
+use Rattle.ll_top.specs.declared.texts.judge.Role.TheVariants.{Program, Query, Proof}
+use Rattle.ll_top.specs.declared.texts.refusing.TextRefusal.{TextRefusal}
+use Rattle.ll_top.specs.declared.texts.refusing.Refusal.{Refusal}
+use Rattle.ll_top.specs.declared.texts.refusing.Refusal.TheVariants.{Text, Unwritable, OutOfMemory}
+use Rattle.ll_top.specs.texts.CallEnds.{Ends, unwritable, no_memory}
+use Rattle.ll_top.specs.texts.Endings.{cause_of}
+use Rattle.ll_top.specs.texts.Faults.{cause_status, fault_text}
+use Rattle.ll_top.specs.texts.Outcome.{name_of, RunFails}
+use Rattle.ll_top.specs.texts.Told.{ShelfTold, StatusTold, WritesBy}
+use Rattle.ll_top.proofs.judging.OutcomeLemmas.{refuses-later, refused-ends}
+use Rattle.ll_top.proofs.judging.ToldLemmas.{status-unwritable, status-memory, status-refused}
+use Rattle.ll_top.specs.forms.Words.{RunWords, SessionWords, DeepenWords}
 use Rattle.ll_top.specs.declared.run.Found.{Found}
 use Rattle.ll_top.specs.Deepening.{DeepenComesTo, deepen_failed}
 use Rattle.ll_top.specs.DeepenEnds.{first_run, DeepenRefuses}
 use Rattle.ll_top.specs.Endings.{RunEnds, status_of_found}
 use Rattle.ll_top.specs.Outcome.{status_of_run, text_of_run, RunComesTo, ran, failed}
 use Rattle.ll_laws.specs.Output.{run_status}
-use Rattle.ll_words.specs.Making.{MadeRunWords}
+use Rattle.ll_top.specs.forms.Making.{MadeRunWords}
 use Rattle.ll_top.specs.MadeEnds.{MadeRunEnds}
 use Rattle.ll_top.specs.MadeRuns.{MadeRunComesTo, last_line}
 use Rattle.ll_top.specs.OwnEnds.{EndsOwn, NoneFails}

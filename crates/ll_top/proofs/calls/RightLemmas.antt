@@ -5,8 +5,8 @@ use Rattle.std.specs.Io.KnownBytes.{append_known}
 use Rattle.std.proofs.lemmas.List.{append-nil}
 use Rattle.ll_edge.specs.Log.{Entry, Fits}
 use Rattle.ll_edge.specs.Texts.{Texts}
-use Rattle.ll_judge.specs.declared.judge.Role.{Role}
-use Rattle.ll_judge.specs.declared.refusing.TextRefusal.{TextRefusal}
+use Rattle.ll_top.specs.declared.texts.judge.Role.{Role}
+use Rattle.ll_top.specs.declared.texts.refusing.TextRefusal.{TextRefusal}
 use Rattle.ll_top.specs.OwnEnds.{EndsOwn}
 use Rattle.ll_lexer.specs.declared.Fault.{Fault}
 use Rattle.ll_laws.specs.Laws.{AnswersAreShown}
@@ -17,12 +17,12 @@ use Rattle.ll_laws.specs.Valid.{IsValid}
 use Rattle.ll_textbook.specs.Follows.{reckons}
 use Rattle.ll_textbook.specs.Laws.{AnswersFollow, InstancesFollow, FollowsIsAnswered, NothingFollows, NumberlessFollows}
 use Rattle.ll_session.specs.Queries.{QueryLine}
-use Rattle.ll_words.specs.Words.{SessionWords, DeepenWords}
-use Rattle.ll_judge.specs.Judging.{IsFaultless}
-use Rattle.ll_judge.specs.Outcome.{IsRead, RunAsks}
-use Rattle.ll_judge.specs.declared.refusing.Refusal.{Refusal}
+use Rattle.ll_top.specs.forms.Words.{SessionWords, DeepenWords}
+use Rattle.ll_top.specs.texts.Judging.{IsFaultless}
+use Rattle.ll_top.specs.texts.Outcome.{IsRead, RunAsks}
+use Rattle.ll_top.specs.declared.texts.refusing.Refusal.{Refusal}
 use Rattle.ll_parser.specs.Raw.{ProgramTree}
-use Rattle.ll_outlet.specs.Running.{all_lines}
+use Rattle.ll_top.specs.lines.Running.{all_lines}
 use Rattle.ll_top.specs.declared.run.Found.{Found}
 use Rattle.ll_top.specs.Nothing.{NoneFollows}
 use Rattle.ll_top.specs.DeepenEnds.{with_bound, first_run, DeepensTo}

@@ -20,10 +20,10 @@ use Rattle.ll_laws.specs.Laws.{AnswersAreShown}
 use Rattle.ll_laws.specs.Valid.{IsValid}
 use Rattle.ll_laws.specs.Sound.{Every}
 use Rattle.ll_order.specs.Outlets.{GivesPrefix, CountsOf}
-use Rattle.ll_outlet.proofs.CallerLemmas.{events-same, refused-same, front-written, refused-lines}
+use Rattle.ll_top.proofs.writing.RunLemmas.{events-same, refused-same, front-written, refused-lines}
 use Rattle.ll_top.specs.MadeRuns.{last_line}
 use Rattle.ll_top.specs.Outcome.{whole_text}
-use Rattle.ll_outlet.specs.Running.{all_lines, AnswersAll, IsWelcome, OutletState, SameOutlet, Writes, BreaksOff}
+use Rattle.ll_top.specs.lines.Running.{all_lines, AnswersAll, IsWelcome, OutletState, SameOutlet, Writes, BreaksOff}
 use Rattle.ll_top.specs.Running.{status_of_counts}
 
 -- the whole text: the lines of the events, and the last line

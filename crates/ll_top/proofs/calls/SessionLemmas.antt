@@ -20,23 +20,23 @@ use Rattle.ll_polarity.specs.Asks.{ProgramPart}
 use Rattle.ll_session.specs.Queries.{QueryLine, IsProgramOf}
 use Rattle.ll_session.specs.Reading.{TextAsks}
 use Rattle.ll_session.specs.Replied.{Answers, StopsShort, refused, not_begun}
-use Rattle.ll_judge.specs.declared.judge.Role.{Role}
-use Rattle.ll_judge.specs.declared.judge.Role.TheVariants.{Program, Query}
-use Rattle.ll_judge.specs.declared.refusing.TextRefusal.{TextRefusal}
-use Rattle.ll_judge.specs.declared.refusing.TextRefusal.TheVariants as text
-use Rattle.ll_judge.specs.declared.refusing.Refusal.{Refusal}
-use Rattle.ll_judge.specs.declared.refusing.Refusal.TheVariants.{Text, Unwritable, OutOfMemory}
-use Rattle.ll_words.specs.Words.{SessionWords}
-use Rattle.ll_judge.specs.Judging.{IsPartOf, IsProgramCause}
-use Rattle.ll_judge.specs.Outcome.{IsRead, Reaches, first, later, ReadFails}
-use Rattle.ll_judge.specs.CallEnds.{nothing}
-use Rattle.ll_judge.specs.Endings.{refusal_of, cause_of, IsNotRead}
+use Rattle.ll_top.specs.declared.texts.judge.Role.{Role}
+use Rattle.ll_top.specs.declared.texts.judge.Role.TheVariants.{Program, Query}
+use Rattle.ll_top.specs.declared.texts.refusing.TextRefusal.{TextRefusal}
+use Rattle.ll_top.specs.declared.texts.refusing.TextRefusal.TheVariants as text
+use Rattle.ll_top.specs.declared.texts.refusing.Refusal.{Refusal}
+use Rattle.ll_top.specs.declared.texts.refusing.Refusal.TheVariants.{Text, Unwritable, OutOfMemory}
+use Rattle.ll_top.specs.forms.Words.{SessionWords}
+use Rattle.ll_top.specs.texts.Judging.{IsPartOf, IsProgramCause}
+use Rattle.ll_top.specs.texts.Outcome.{IsRead, Reaches, first, later, ReadFails}
+use Rattle.ll_top.specs.texts.CallEnds.{nothing}
+use Rattle.ll_top.specs.texts.Endings.{refusal_of, cause_of, IsNotRead}
 use Rattle.ll_top.specs.OwnEnds.{EndsOwn, NoneFails}
 use Rattle.ll_top.specs.Running.{IsRunRefusal}
 use Rattle.ll_top.specs.Sessions.{reply_text, replies_text, session_not_read, faulty_program, SessionComesTo, replied}
 use Rattle.ll_top.specs.SessionEnds.{name_in_session, RefusesText, WritesReply, CutsReply, RepliesTo, TextsComeTo, RefusesProgram}
-use Rattle.ll_outlet.proofs.CallerLemmas.{given-written, front-given, refused-written}
-use Rattle.ll_judge.proofs.CallerLemmas.{not-read}
+use Rattle.ll_top.proofs.writing.GivenLemmas.{given-written, front-given, refused-written}
+use Rattle.ll_top.proofs.judging.PrepareLemmas.{not-read}
 use Rattle.ll_top.proofs.outcomes.OwnLemmas.{ends-more, stopped}
 
 -- ---- replies that were written

@@ -9,7 +9,7 @@ use Rattle.ll_first.specs.Upto.{first_of}
 use Rattle.ll_order.specs.Outlets.{Gives, GivesPrefix}
 use Rattle.ll_laws.specs.Problem.{ProblemTree}
 use Rattle.ll_laws.specs.Sound.{Every}
-use Rattle.ll_outlet.specs.Running.{IsWelcome}
+use Rattle.ll_top.specs.lines.Running.{IsWelcome}
 
 -- what holds of each of a list, beside what holds anyway
 pub each_with : (N : Type 0) (A : Event → Type 0) (es : List Event) → N → Every A es → Every (λ e. A e × N) es

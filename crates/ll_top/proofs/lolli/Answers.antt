@@ -1,5 +1,5 @@
 use Rattle.std.proofs.Common.{None}
-use Rattle.ll_words.specs.Words.{word_texts}
+use Rattle.ll_top.specs.forms.Words.{word_texts}
 use Rattle.ll_top.proofs.outcomes.CallLemmas.{call-usage, call-absent, call-unreadable, call-unwritable, call-denied, call-covered, call-uncovered}
 use Rattle.ll_top.proofs.outcomes.CallLemmas.{completes, heads}
 use Rattle.ll_top.proofs.outcomes.OneText.{call-shown}

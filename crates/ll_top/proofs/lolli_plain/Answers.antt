@@ -1,5 +1,5 @@
 use Rattle.std.proofs.Common.{None}
-use Rattle.ll_words.specs.Words.{word_texts}
+use Rattle.ll_top.specs.forms.Words.{word_texts}
 use Rattle.ll_top.proofs.outcomes.CallLemmas.{plain-usage, plain-absent, plain-unreadable, plain-unwritable, plain-denied, plain-covered, plain-uncovered}
 use Rattle.ll_top.proofs.outcomes.CallLemmas.{plain-completes}
 use Rattle.ll_top.proofs.outcomes.OneText.{plain-shown}

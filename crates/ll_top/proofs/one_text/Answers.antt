@@ -1,4 +1,4 @@
-use Rattle.ll_judge.proofs.CallerLemmas.{one-grammar-fault, no-grammar-fault}
+use Rattle.ll_top.proofs.judging.GrammarLemmas.{one-grammar-fault, no-grammar-fault}
 use Rattle.ll_top.proofs.outcomes.LawLemmas.{Laws, run-once, session-once, deepen-once, print-once, check-once, converts-one, made-once}
 use Rattle.ll_top.proofs.outcomes.OneText.{one-text}
 use Rattle.ll_top.proofs.one_text.Goals as goal

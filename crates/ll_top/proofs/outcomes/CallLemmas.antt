@@ -7,28 +7,31 @@ use Rattle.ll_edge.specs.Texts.{Texts}
 use Rattle.ll_laws.specs.Problem.{ProblemTree, problem_events}
 use Rattle.ll_laws.specs.Search.{is_answer, is_reached}
 use Rattle.ll_laws.specs.Output.{run_status, status_by}
-use Rattle.ll_words.specs.Words.{RunWords, SessionWords, DeepenWords, CheckWords, ConvertWords, FitsForm, cover_form, IsCheckForm, IsInForm, IsRun, IsSession}
-use Rattle.ll_words.specs.Words.{IsDeepen, IsPrint, IsCheck, IsConvert, IsMake, IsMadeRun, IsBadWord}
-use Rattle.ll_check.proofs.CallerLemmas.{cause-not-zero}
+use Rattle.ll_top.specs.forms.Words.{RunWords, SessionWords, DeepenWords, CheckWords, ConvertWords, FitsForm, cover_form, IsCheckForm, IsInForm}
+use Rattle.ll_top.specs.forms.Words.{IsRun, IsSession}
+use Rattle.ll_top.specs.forms.Words.{IsDeepen, IsPrint, IsCheck, IsConvert, IsMake, IsMadeRun, IsBadWord}
+use Rattle.ll_top.proofs.verdicts.ProvedLemmas.{cause-not-zero}
 use Rattle.ll_top.specs.Making.{MakeComesTo}
-use Rattle.ll_words.specs.Making.{MakeWords, MadeRunWords}
+use Rattle.ll_top.specs.forms.Making.{MakeWords, MadeRunWords}
 use Rattle.ll_top.specs.MadeRuns.{MadeRunComesTo}
-use Rattle.ll_judge.specs.Faults.{Cause, Usage, Absent, Unreadable, Oversized, OversizedAs, Faulty, fault_text, cause_status}
-use Rattle.ll_judge.specs.Outcome.{AnyName, NoName, ReadFails, absent as is_absent, unreadable as is_unreadable, oversized as is_oversized, run_texts, RunFails}
-use Rattle.ll_judge.specs.Outcome.{not_read, faulty, PrintFails, source_not_read, faulty_source, PrintComesTo, printed, print_failed, RunAsks}
+use Rattle.ll_top.specs.texts.Faults.{Cause, Usage, Absent, Unreadable, Oversized, OversizedAs, Faulty, fault_text, cause_status}
+use Rattle.ll_top.specs.texts.Outcome.{AnyName, NoName, ReadFails, absent as is_absent, unreadable as is_unreadable, oversized as is_oversized}
+use Rattle.ll_top.specs.texts.Outcome.{run_texts, RunFails}
+use Rattle.ll_top.specs.texts.Outcome.{not_read, faulty, PrintFails, source_not_read, faulty_source, PrintComesTo, printed, print_failed, RunAsks}
 use Rattle.ll_top.specs.Outcome.{RunComesTo, ran, failed, front_events, status_of_run, text_of_run, whole_text}
-use Rattle.ll_check.specs.Outcome.{name_in_check, check_texts, CheckFails, texts_not_read, faulty_text, CheckComesTo, shown, refuted, covered, too_long}
-use Rattle.ll_check.specs.Outcome.{counting, check_failed, IsDenied, IsCoveredCall, IsUncoveredCall}
+use Rattle.ll_top.specs.checks.Outcome.{name_in_check, check_texts, CheckFails, texts_not_read, faulty_text, CheckComesTo, shown, refuted, covered, too_long}
+use Rattle.ll_top.specs.checks.Outcome.{counting, check_failed, IsDenied, IsCoveredCall, IsUncoveredCall}
 use Rattle.ll_top.specs.Sessions.{SessionFails, session_not_read, faulty_program, SessionComesTo, replied, session_failed}
 use Rattle.ll_top.specs.Deepening.{run_within, DeepenComesTo, deepened, deepen_failed}
-use Rattle.ll_judge.specs.Converting.{ConvertFails, proof_not_read, faulty_proof, too_long_as, ConvertComesTo, converted, convert_failed}
+use Rattle.ll_top.specs.texts.Converting.{ConvertFails, proof_not_read, faulty_proof, too_long_as, ConvertComesTo, converted, convert_failed}
 use Rattle.ll_top.specs.Calls.{ComesTo, misused, runs, sessions, deepens, prints, checks, converts, makes, runs_made, Completes, Headline}
-use Rattle.ll_judge.specs.CallEnds.{AppendsOwn, nothing, front, Ends, whole, unwritable, no_memory}
-use Rattle.ll_judge.specs.Endings.{Refuses, line, cut}
-use Rattle.ll_words.specs.CommandKinds.{Kind, nothing as no_kind, a_run, a_session, a_deepening, a_print, a_check, a_conversion, a_make, a_made_run, kind_of}
-use Rattle.ll_words.proofs.CallerLemmas.{run-kind, session-kind, deepen-kind, print-kind, cover-kind, checked-kind}
-use Rattle.ll_words.proofs.CallerLemmas.{convert-kind, make-kind, made-run-kind, checked-in-form, check-not-cover, bad-not-in-form}
-use Rattle.ll_words.proofs.CallerLemmas.{run-in-form, session-in-form, deepen-in-form, print-in-form, convert-in-form, make-in-form, made-run-in-form}
+use Rattle.ll_top.specs.texts.CallEnds.{AppendsOwn, nothing, front, Ends, whole, unwritable, no_memory}
+use Rattle.ll_top.specs.texts.Endings.{Refuses, line, cut}
+use Rattle.ll_top.specs.forms.CommandKinds.{Kind, nothing as no_kind, a_run, a_session, a_deepening, a_print, a_check, a_conversion, a_make}
+use Rattle.ll_top.specs.forms.CommandKinds.{a_made_run, kind_of}
+use Rattle.ll_top.proofs.wording.FirstWords.{run-kind, session-kind, deepen-kind, print-kind, cover-kind, checked-kind}
+use Rattle.ll_top.proofs.wording.FirstWords.{convert-kind, make-kind, made-run-kind, checked-in-form, check-not-cover, bad-not-in-form}
+use Rattle.ll_top.proofs.wording.FirstWords.{run-in-form, session-in-form, deepen-in-form, print-in-form, convert-in-form, make-in-form, made-run-in-form}
 
 -- what a call appends of its own, with more causes or another text
 pub own-more : (Comes Other : ℕ → List ℕ → Type 0) (before after : Option (List ℕ)) → ((s : ℕ) (t : List ℕ) → Comes s t → Other s t)

@@ -6,9 +6,9 @@ use Rattle.ll_deepen.proofs.CallerLemmas.{one_bound}
 use Rattle.ll_edge.specs.Texts.{Texts}
 use Rattle.ll_laws.specs.Problem.{ProblemTree}
 use Rattle.ll_laws.specs.Output.{run_status}
-use Rattle.ll_judge.specs.Faults.{Cause, fault_text, cause_status}
-use Rattle.ll_words.specs.Words.{RunWords, DeepenWords}
-use Rattle.ll_judge.specs.Outcome.{AnyName, NoName, RunAsks, RunFails}
+use Rattle.ll_top.specs.texts.Faults.{Cause, fault_text, cause_status}
+use Rattle.ll_top.specs.forms.Words.{RunWords, DeepenWords}
+use Rattle.ll_top.specs.texts.Outcome.{AnyName, NoName, RunAsks, RunFails}
 use Rattle.ll_top.specs.Outcome.{whole_text}
 use Rattle.ll_top.specs.Deepening.{run_within, bound_line, DeepenComesTo, deepened, deepen_failed}
 use Rattle.ll_top.specs.DeepenEnds.{with_bound, first_run}

@@ -11,7 +11,7 @@ use Rattle.ll_cover.proofs.CallerLemmas.{first_once}
 use Rattle.ll_laws.specs.Line.{DerivationLines, trees_of, counts_numbers}
 use Rattle.ll_laws.specs.Shows.{Tree}
 use Rattle.ll_laws.specs.Verdict.{DerivationShows, first_fault}
-use Rattle.ll_check.proofs.CallerLemmas.{none-counts}
+use Rattle.ll_top.proofs.verdicts.CountingLemmas.{none-counts}
 use Rattle.std.specs.Str.{bytes_eq}
 use Rattle.ll_bank.specs.Names.{with_names}
 use Rattle.ll_prooftext.specs.Mentions.{text_names}
@@ -24,25 +24,25 @@ use Rattle.ll_parser.specs.Reads.{Reads}
 use Rattle.ll_parser.specs.Printed.{program_text}
 use Rattle.ll_polarity.specs.Faults.{heading, program_faults, query_faults}
 use Rattle.ll_polarity.specs.Asks.{part_of, problem_with, HasProgramFault, HasQueryFault}
-use Rattle.ll_judge.specs.declared.judge.Role.{Role}
-use Rattle.ll_judge.specs.declared.judge.Role.TheVariants.{Program, Query}
-use Rattle.ll_words.specs.Words.{RunWords, SessionWords, DeepenWords, CheckWords, ConvertWords}
+use Rattle.ll_top.specs.declared.texts.judge.Role.{Role}
+use Rattle.ll_top.specs.declared.texts.judge.Role.TheVariants.{Program, Query}
+use Rattle.ll_top.specs.forms.Words.{RunWords, SessionWords, DeepenWords, CheckWords, ConvertWords}
 use Rattle.ll_make.specs.Kinds.{query_text}
 use Rattle.ll_top.specs.Making.{make_text}
-use Rattle.ll_words.specs.Making.{MadeRunWords}
+use Rattle.ll_top.specs.forms.Making.{MadeRunWords}
 use Rattle.ll_top.specs.MadeRuns.{MadeRunComesTo, last_line}
-use Rattle.ll_judge.specs.Faults.{Cause, Absent, Oversized, Faulty, fault_text, cause_status}
-use Rattle.ll_judge.specs.Judging.{HasGrammarFault, IsProgramText, IsQueryText, IsReadingFault, lexical, grammatical, IsFaultless, IsProgramFault}
-use Rattle.ll_judge.specs.Judging.{of_program_reading, of_program_scope, IsQueryFault, of_query_reading, of_query_scope, IsTextFault, of_program, of_query}
-use Rattle.ll_judge.specs.Judging.{TextsAsk, most_open, IsCheckFault, of_run_texts, of_proof, TextsGive}
-use Rattle.ll_check.specs.Verdicts.{yes_text, no_text, covered_text, too_long_text, counts_text}
-use Rattle.ll_judge.specs.Outcome.{AnyName, NoName, name_of, IsRead, Reaches, first, later, run_texts, ReadFails, absent, unreadable, oversized, RunFails}
-use Rattle.ll_judge.specs.Outcome.{not_read, faulty}
-use Rattle.ll_judge.specs.Outcome.{RunAsks, IsPrintedAs, PrintFails, source_not_read, faulty_source, PrintComesTo, printed, print_failed, longest_text}
+use Rattle.ll_top.specs.texts.Faults.{Cause, Absent, Oversized, Faulty, fault_text, cause_status}
+use Rattle.ll_top.specs.texts.Judging.{HasGrammarFault, IsProgramText, IsQueryText, IsReadingFault, lexical, grammatical, IsFaultless, IsProgramFault}
+use Rattle.ll_top.specs.texts.Judging.{of_program_reading, of_program_scope, IsQueryFault, of_query_reading, of_query_scope, IsTextFault, of_program, of_query}
+use Rattle.ll_top.specs.texts.Judging.{TextsAsk, most_open, IsCheckFault, of_run_texts, of_proof, TextsGive}
+use Rattle.ll_top.specs.checks.Verdicts.{yes_text, no_text, covered_text, too_long_text, counts_text}
+use Rattle.ll_top.specs.texts.Outcome.{AnyName, NoName, name_of, IsRead, Reaches, first, later, run_texts, ReadFails, absent, unreadable, oversized, RunFails}
+use Rattle.ll_top.specs.texts.Outcome.{not_read, faulty}
+use Rattle.ll_top.specs.texts.Outcome.{RunAsks, IsPrintedAs, PrintFails, source_not_read, faulty_source, PrintComesTo, printed, print_failed, longest_text}
 use Rattle.ll_top.specs.Outcome.{status_of_run, text_of_run, RunComesTo, ran, failed}
-use Rattle.ll_check.specs.Outcome.{name_in_check, check_texts, CheckFails, texts_not_read, faulty_text, CheckGives}
-use Rattle.ll_check.specs.Outcome.{bound_in, IsRefuted, IsCovered, CountsAt, CheckComesTo, shown, refuted, covered, too_long, counting, check_failed}
-use Rattle.ll_judge.proofs.CallerLemmas.{IsOfGrammar}
+use Rattle.ll_top.specs.checks.Outcome.{name_in_check, check_texts, CheckFails, texts_not_read, faulty_text, CheckGives}
+use Rattle.ll_top.specs.checks.Outcome.{bound_in, IsRefuted, IsCovered, CountsAt, CheckComesTo, shown, refuted, covered, too_long, counting, check_failed}
+use Rattle.ll_top.proofs.judging.GrammarLemmas.{IsOfGrammar}
 use Rattle.ll_top.proofs.calls.DistinctNames.{none-differ, differ-names, differ-problem}
 use Rattle.ll_prooftext.specs.Versions.{IsTextIn, IsProofText, HasFaultIn}
 use Rattle.ll_prooftext.specs.Sizes.{text_in}
@@ -50,8 +50,8 @@ use Rattle.ll_session.specs.Queries.{QueryLine, HaveQueries}
 use Rattle.ll_session.proofs.CallerLemmas.{one-first, none-first, query-once}
 use Rattle.ll_top.specs.Sessions.{SessionComesTo}
 use Rattle.ll_top.specs.Deepening.{DeepenComesTo}
-use Rattle.ll_judge.specs.Converting.{own_names, IsConverted, ConvertFails, proof_not_read}
-use Rattle.ll_judge.specs.Converting.{faulty_proof, too_long_as, ConvertComesTo, converted, convert_failed}
+use Rattle.ll_top.specs.texts.Converting.{own_names, IsConverted, ConvertFails, proof_not_read}
+use Rattle.ll_top.specs.texts.Converting.{faulty_proof, too_long_as, ConvertComesTo, converted, convert_failed}
 use Rattle.ll_top.proofs.outcomes.SessionLaws.{sessions-one}
 use Rattle.ll_top.proofs.outcomes.DeepenLaws.{deepens-one}
 use Rattle.ll_top.proofs.outcomes.OneText.{some-same}

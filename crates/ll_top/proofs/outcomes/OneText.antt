@@ -3,23 +3,26 @@ use Rattle.std.proofs.Common.{◌≡◌, ◌+◌, ℕ, List, Option, Some, None,
 use Rattle.std.specs.Prelude.{slice_get, codes, option_map}
 use Rattle.std.specs.Str.Parse.{digits_value}
 use Rattle.ll_edge.specs.Texts.{Texts}
-use Rattle.ll_words.specs.Words.{RunWords, SessionWords, DeepenWords, CheckWords, ConvertWords, HasFirst, IsInForm, IsRun, IsSession, IsDeepen, IsCheckForm}
-use Rattle.ll_words.specs.Words.{IsCheck, IsConvert, IsMake, IsMadeRun, IsBadWord, number_behind}
+use Rattle.ll_top.specs.forms.Words.{RunWords, SessionWords, DeepenWords, CheckWords, ConvertWords, HasFirst, IsInForm, IsRun, IsSession, IsDeepen, IsCheckForm}
+use Rattle.ll_top.specs.forms.Words.{IsCheck, IsConvert, IsMake, IsMadeRun, IsBadWord, number_behind}
 use Rattle.ll_top.specs.Making.{make_text}
-use Rattle.ll_words.specs.Making.{MakeWords, MadeRunWords}
+use Rattle.ll_top.specs.forms.Making.{MakeWords, MadeRunWords}
 use Rattle.ll_top.specs.MadeRuns.{MadeRunComesTo}
-use Rattle.ll_judge.specs.Faults.{Usage, fault_text}
+use Rattle.ll_top.specs.texts.Faults.{Usage, fault_text}
 use Rattle.ll_top.specs.Outcome.{RunComesTo}
-use Rattle.ll_judge.specs.Outcome.{AnyName, NoName, PrintComesTo}
+use Rattle.ll_top.specs.texts.Outcome.{AnyName, NoName, PrintComesTo}
 use Rattle.ll_textbook.specs.Laws.{ShownFollows}
-use Rattle.ll_judge.specs.CallEnds.{Ends, whole, unwritable, no_memory}
-use Rattle.ll_check.specs.Outcome.{CheckComesTo, IsProved}
-use Rattle.ll_check.proofs.CallerLemmas.{comes-proved}
+use Rattle.ll_top.specs.texts.CallEnds.{Ends, whole, unwritable, no_memory}
+use Rattle.ll_top.specs.checks.Outcome.{CheckComesTo, IsProved}
+use Rattle.ll_top.proofs.verdicts.ProvedLemmas.{comes-proved}
 use Rattle.ll_top.specs.Sessions.{SessionComesTo}
 use Rattle.ll_top.specs.Deepening.{DeepenComesTo}
-use Rattle.ll_judge.specs.Converting.{ConvertComesTo}
+use Rattle.ll_top.specs.texts.Converting.{ConvertComesTo}
 use Rattle.ll_top.specs.Calls.{ComesTo, misused, runs, sessions, deepens, prints, checks, converts, makes, runs_made}
-use Rattle.ll_words.proofs.CallerLemmas.{one-bad, word-behind, check-not-cover, bad-not-in-form, same-kind, checked-kind}
+use Rattle.ll_top.proofs.wording.FirstBad.{one-bad}
+use Rattle.ll_top.proofs.wording.WordValues.{word-behind}
+use Rattle.ll_top.proofs.wording.FirstWords.{check-not-cover, bad-not-in-form, checked-kind}
+use Rattle.ll_top.proofs.wording.MakeLemmas.{same-kind}
 use Rattle.ll_top.proofs.outcomes.CallLemmas.{comes-kind, comes-in-form}
 
 -- ---- words

@@ -10,15 +10,15 @@ use Rattle.ll_edge.specs.Texts.{Texts}
 use Rattle.ll_laws.specs.Problem.{ProblemTree}
 use Rattle.ll_laws.specs.Valid.{IsValid}
 use Rattle.ll_top.specs.declared.run.Found.{Found}
-use Rattle.ll_judge.specs.declared.refusing.Refusal.{Refusal}
-use Rattle.ll_judge.specs.declared.refusing.Refusal.TheVariants.{Text, Unwritable, OutOfMemory}
-use Rattle.ll_words.specs.Words.{RunWords}
+use Rattle.ll_top.specs.declared.texts.refusing.Refusal.{Refusal}
+use Rattle.ll_top.specs.declared.texts.refusing.Refusal.TheVariants.{Text, Unwritable, OutOfMemory}
+use Rattle.ll_top.specs.forms.Words.{RunWords}
 use Rattle.ll_top.specs.Making.{make_text, MakeComesTo}
-use Rattle.ll_words.specs.Making.{MakeWords}
-use Rattle.ll_judge.specs.Outcome.{RunAsks, ReadsWhatAsks}
+use Rattle.ll_top.specs.forms.Making.{MakeWords}
+use Rattle.ll_top.specs.texts.Outcome.{RunAsks, ReadsWhatAsks}
 use Rattle.ll_top.specs.Outcome.{status_of_run, text_of_run, RunComesTo, ran}
-use Rattle.ll_judge.specs.CallEnds.{nothing, front, Ends, unwritable, whole}
-use Rattle.ll_judge.specs.Endings.{Prepares}
+use Rattle.ll_top.specs.texts.CallEnds.{nothing, front, Ends, unwritable, whole}
+use Rattle.ll_top.specs.texts.Endings.{Prepares}
 use Rattle.ll_top.specs.Endings.{RunEnds, status_of_found}
 use Rattle.ll_top.specs.Reads.{RunReads}
 use Rattle.ll_top.specs.Running.{IsRunRefusal}

@@ -5,11 +5,11 @@ use Rattle.std.specs.Io.KnownBytes.{append_known}
 use Rattle.ll_edge.proofs.CallerLemmas.{Rose-later, both-written, second-cut}
 use Rattle.ll_edge.specs.Counts.{Rose}
 use Rattle.ll_edge.specs.Pieces.{AppendsFront}
-use Rattle.ll_judge.specs.declared.judge.Role.{Role}
-use Rattle.ll_judge.specs.declared.refusing.TextRefusal.{TextRefusal}
-use Rattle.ll_judge.specs.declared.refusing.Refusal.{Refusal}
-use Rattle.ll_judge.specs.declared.refusing.Refusal.TheVariants.{Text, Unwritable, OutOfMemory}
-use Rattle.ll_judge.specs.CallEnds.{front, Ends, whole}
+use Rattle.ll_top.specs.declared.texts.judge.Role.{Role}
+use Rattle.ll_top.specs.declared.texts.refusing.TextRefusal.{TextRefusal}
+use Rattle.ll_top.specs.declared.texts.refusing.Refusal.{Refusal}
+use Rattle.ll_top.specs.declared.texts.refusing.Refusal.TheVariants.{Text, Unwritable, OutOfMemory}
+use Rattle.ll_top.specs.texts.CallEnds.{front, Ends, whole}
 use Rattle.ll_top.specs.OwnEnds.{EndsOwn}
 use Rattle.ll_top.specs.Running.{IsRunRefusal}
 use Rattle.ll_top.proofs.outcomes.CallLemmas.{own-more}

@@ -6,10 +6,10 @@ use Rattle.ll_lexer.specs.declared.Fault.{Fault}
 use Rattle.ll_parser.specs.Raw.{ProgramTree}
 use Rattle.ll_session.specs.Lines.{lines}
 use Rattle.ll_session.specs.Queries.{QueryLine, AreQueries, HaveQueries}
-use Rattle.ll_judge.specs.Faults.{Cause, Faulty, fault_text, cause_status}
-use Rattle.ll_words.specs.Words.{SessionWords}
-use Rattle.ll_judge.specs.Judging.{IsProgramText, IsFaultless, IsProgramFault}
-use Rattle.ll_judge.specs.Outcome.{AnyName, NoName, IsRead, ReadFails}
+use Rattle.ll_top.specs.texts.Faults.{Cause, Faulty, fault_text, cause_status}
+use Rattle.ll_top.specs.forms.Words.{SessionWords}
+use Rattle.ll_top.specs.texts.Judging.{IsProgramText, IsFaultless, IsProgramFault}
+use Rattle.ll_top.specs.texts.Outcome.{AnyName, NoName, IsRead, ReadFails}
 use Rattle.ll_top.specs.Sessions.{replies_text, SessionAsks, SessionFails, session_not_read, faulty_program, SessionComesTo, replied, session_failed}
 
 -- what is known of texts: one is read of a name, or one of two is not; it is one program, or has one fault, and not both; and the lines of one

@@ -7,8 +7,8 @@ use Rattle.ll_edge.specs.Pieces.{AppendsFront}
 use Rattle.ll_edge.specs.Texts.{Texts}
 use Rattle.ll_edge.specs.Log.{Entry, ShelfKept, Agrees, Fits}
 use Rattle.ll_edge.proofs.CallerLemmas.{append_known-nil, fits_told}
-use Rattle.ll_words.specs.Words.{RunWords}
-use Rattle.ll_judge.specs.CallEnds.{AppendsOwn, nothing, front, Ends, whole, unwritable, no_memory}
+use Rattle.ll_top.specs.forms.Words.{RunWords}
+use Rattle.ll_top.specs.texts.CallEnds.{AppendsOwn, nothing, front, Ends, whole, unwritable, no_memory}
 use Rattle.ll_top.specs.Proved.{WritesShown}
 
 -- the texts that a shelf tells fit its log

@@ -1,8 +1,8 @@
 use Rattle.std.proofs.Common.{refl, le_refl}
 use Rattle.std.proofs.lemmas.Result.{IfOk-from_err, err_from_is_err_and}
-use Rattle.ll_words.specs.Words.{shown_words}
+use Rattle.ll_top.specs.forms.Words.{shown_words}
 use Rattle.ll_top.proofs.outcomes.OutcomeLemmas.{run-ended-as, not-prepared, run-reads}
-use Rattle.ll_judge.proofs.CallerLemmas.{shelf-read, shelf-refused, sink-still}
+use Rattle.ll_top.proofs.judging.ToldLemmas.{shelf-read, shelf-refused, sink-still}
 use Rattle.ll_top.proofs.run_texts.Goals as goal
 
 pub returns-clause-ends : goal.returns-clause-ends

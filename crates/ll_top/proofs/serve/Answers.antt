@@ -1,16 +1,16 @@
 use Rattle.std.proofs.Common.{◌≡◌, ◌∙◌, ℕ, List, false, refl, sym, ap, subst, inl, inr}
-use Rattle.ll_words.specs.declared.words.Command.{Command}
-use Rattle.ll_words.specs.Words.{IsCommand, IsBounded, IsInWorkersForm, word_texts}
-use Rattle.ll_words.specs.Words.{shown_words, shown_session, shown_deepen, shown_made_run, shown_check, shown_convert, shown_make}
-use Rattle.ll_words.specs.CommandKinds.{command_kind, has_team}
-use Rattle.ll_words.proofs.CallerLemmas.{run-kind, session-kind, deepen-kind, made-run-kind, asked-alone, asked-run, asked-in-form}
-use Rattle.ll_words.proofs.CallerLemmas.{workers-in-form, bad-not-in-form}
+use Rattle.ll_top.specs.declared.forms.words.Command.{Command}
+use Rattle.ll_top.specs.forms.Words.{IsCommand, IsBounded, IsInWorkersForm, word_texts}
+use Rattle.ll_top.specs.forms.Words.{shown_words, shown_session, shown_deepen, shown_made_run, shown_check, shown_convert, shown_make}
+use Rattle.ll_top.specs.forms.CommandKinds.{command_kind, has_team}
+use Rattle.ll_top.proofs.wording.FirstWords.{run-kind, session-kind, deepen-kind, made-run-kind, asked-alone, asked-run, asked-in-form}
+use Rattle.ll_top.proofs.wording.FirstWords.{workers-in-form, bad-not-in-form}
 use Rattle.ll_edge.proofs.CallerLemmas.{kept_none}
 use Rattle.ll_top.proofs.outcomes.CallLemmas.{run-call, session-call, deepen-call, made-run-call, print-call, check-call, convert-call, make-call}
 use Rattle.ll_top.proofs.outcomes.CallLemmas.{usage-call, usage-misused, plain-misused}
 use Rattle.ll_top.proofs.calls.ProvedLemmas.{shown-run, same-reads, shown-session, shown-deepen}
 use Rattle.ll_top.proofs.calls.NothingLemmas.{vain-run}
-use Rattle.ll_judge.proofs.CallerLemmas.{status-shelfless}
+use Rattle.ll_top.proofs.judging.ToldLemmas.{status-shelfless}
 use Rattle.ll_top.proofs.serve.Goals as goal
 
 -- words of a form with workers ask for no other command

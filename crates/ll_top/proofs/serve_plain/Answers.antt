@@ -1,17 +1,17 @@
 use Rattle.std.proofs.Common.{◌≡◌, List, ℕ, true, refl, ap, sym, subst, le_refl}
 use Rattle.std.specs.Borrow.{Bor}
-use Rattle.ll_words.specs.declared.words.CheckCommand.{CheckCommand}
-use Rattle.ll_words.specs.declared.words.ConvertCommand.{ConvertCommand}
-use Rattle.ll_words.specs.declared.making.MakeCommand.{MakeCommand}
-use Rattle.ll_words.specs.declared.words.Command.{Command}
-use Rattle.ll_words.specs.declared.words.Command.TheVariants as command
-use Rattle.ll_words.specs.Words.{IsCommand, IsBounded, shown_check, shown_convert, shown_make, word_texts}
-use Rattle.ll_words.specs.CommandKinds.{command_kind, has_team}
+use Rattle.ll_top.specs.declared.forms.words.CheckCommand.{CheckCommand}
+use Rattle.ll_top.specs.declared.forms.words.ConvertCommand.{ConvertCommand}
+use Rattle.ll_top.specs.declared.forms.making.MakeCommand.{MakeCommand}
+use Rattle.ll_top.specs.declared.forms.words.Command.{Command}
+use Rattle.ll_top.specs.declared.forms.words.Command.TheVariants as command
+use Rattle.ll_top.specs.forms.Words.{IsCommand, IsBounded, shown_check, shown_convert, shown_make, word_texts}
+use Rattle.ll_top.specs.forms.CommandKinds.{command_kind, has_team}
 use Rattle.ll_lists.proofs.CallerLemmas.{none_not_some}
-use Rattle.ll_words.proofs.CallerLemmas.{asked-workers, asked-alone, asked-in-form, workers-in-form, bad-not-in-form}
+use Rattle.ll_top.proofs.wording.FirstWords.{asked-workers, asked-alone, asked-in-form, workers-in-form, bad-not-in-form}
 use Rattle.ll_edge.proofs.CallerLemmas.{kept_none}
 use Rattle.ll_top.proofs.outcomes.CallLemmas.{print-call, check-call, convert-call, make-call, usage-call, usage-misused}
-use Rattle.ll_judge.proofs.CallerLemmas.{status-shelfless}
+use Rattle.ll_top.proofs.judging.ToldLemmas.{status-shelfless}
 use Rattle.ll_top.proofs.serve_plain.Goals as goal
 
 -- what is none of these says how many search

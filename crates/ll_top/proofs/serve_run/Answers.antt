@@ -1,9 +1,9 @@
 use Rattle.std.proofs.Common.{◌∙◌, arith, le_trans}
-use Rattle.ll_words.specs.Words.{shown_words}
+use Rattle.ll_top.specs.forms.Words.{shown_words}
 use Rattle.ll_top.proofs.outcomes.OutcomeLemmas.{found-ends}
 use Rattle.ll_top.proofs.calls.ProvedLemmas.{run-shown}
 use Rattle.ll_top.proofs.calls.NothingLemmas.{asks-in-vain}
-use Rattle.ll_judge.proofs.CallerLemmas.{status-done}
+use Rattle.ll_top.proofs.judging.ToldLemmas.{status-done}
 use Rattle.std.specs.Prelude.{Some}
 use Rattle.ll_top.proofs.calls.RefusedLemmas.{run-refused, refusal-past, refusal-told}
 use Rattle.ll_top.proofs.serve_run.Goals as goal

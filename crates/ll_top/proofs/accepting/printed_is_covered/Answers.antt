@@ -1,4 +1,4 @@
-use Rattle.ll_judge.proofs.CallerLemmas.{one-grammar-fault, no-grammar-fault}
+use Rattle.ll_top.proofs.judging.GrammarLemmas.{one-grammar-fault, no-grammar-fault}
 use Rattle.ll_top.proofs.outcomes.LawLemmas.{Laws}
 use Rattle.ll_top.proofs.Covered.{printed-covered}
 use Rattle.ll_top.proofs.accepting.printed_is_covered.Goals as goal

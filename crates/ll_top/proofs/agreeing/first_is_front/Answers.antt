@@ -1,4 +1,4 @@
-use Rattle.ll_judge.proofs.CallerLemmas.{one-grammar-fault, no-grammar-fault}
+use Rattle.ll_top.proofs.judging.GrammarLemmas.{one-grammar-fault, no-grammar-fault}
 use Rattle.ll_top.proofs.outcomes.LawLemmas.{Laws}
 use Rattle.ll_top.proofs.AgreeingRuns.{first-front}
 use Rattle.ll_top.proofs.agreeing.first_is_front.Goals as goal

@@ -1,4 +1,4 @@
-use Rattle.ll_judge.proofs.CallerLemmas.{one-grammar-fault, no-grammar-fault}
+use Rattle.ll_top.proofs.judging.GrammarLemmas.{one-grammar-fault, no-grammar-fault}
 use Rattle.ll_top.proofs.outcomes.LawLemmas.{Laws}
 use Rattle.ll_top.proofs.AgreeingRuns.{bound-keeps}
 use Rattle.ll_top.proofs.agreeing.greater_bound_keeps.Goals as goal

@@ -2,10 +2,10 @@ use Rattle.ll_edge.specs.Counts.{Rose}
 use Rattle.std.specs.Prelude.{Some}
 use Rattle.std.proofs.Common.{refl, le_refl}
 use Rattle.std.proofs.lemmas.Result.{IfOk-from_err, err_from_is_err_and}
-use Rattle.ll_words.specs.Words.{shown_deepen}
+use Rattle.ll_top.specs.forms.Words.{shown_deepen}
 use Rattle.ll_top.proofs.calls.DeepenLemmas.{not-deepened, texts-deepened}
 use Rattle.ll_top.proofs.calls.RightLemmas.{FollowingLaws, texts-shown}
-use Rattle.ll_judge.proofs.CallerLemmas.{shelf-read, shelf-refused, sink-still}
+use Rattle.ll_top.proofs.judging.ToldLemmas.{shelf-read, shelf-refused, sink-still}
 use Rattle.ll_top.proofs.deepening.deepen_texts.Goals as goal
 
 pub returns-in_err-problem-clause-ends : goal.returns-in_err-problem-clause-ends

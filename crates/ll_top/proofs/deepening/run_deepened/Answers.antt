@@ -1,9 +1,9 @@
 use Rattle.std.specs.Prelude.{Some}
 use Rattle.std.proofs.Common.{refl, le_refl, le_trans}
 use Rattle.std.proofs.lemmas.Result.{err_from_is_err_and}
-use Rattle.ll_judge.specs.CallEnds.{nothing}
+use Rattle.ll_top.specs.texts.CallEnds.{nothing}
 use Rattle.ll_top.proofs.calls.DeepenLemmas.{line-cut, run-deepened}
-use Rattle.ll_judge.proofs.CallerLemmas.{sink-still, sink-later}
+use Rattle.ll_top.proofs.judging.ToldLemmas.{sink-still, sink-later}
 use Rattle.ll_top.proofs.deepening.run_deepened.Goals as goal
 
 pub returns-in_err-write_heading-clause-ends : goal.returns-in_err-write_heading-clause-ends

@@ -1,9 +1,9 @@
 use Rattle.std.proofs.Common.{le_trans}
 use Rattle.ll_top.specs.Endings.{status_of_found}
 use Rattle.ll_top.specs.OwnEnds.{NoneFails}
-use Rattle.ll_words.specs.Words.{shown_deepen}
+use Rattle.ll_top.specs.forms.Words.{shown_deepen}
 use Rattle.ll_top.proofs.outcomes.OwnLemmas.{done-ends}
-use Rattle.ll_judge.proofs.CallerLemmas.{status-done}
+use Rattle.ll_top.proofs.judging.ToldLemmas.{status-done}
 use Rattle.std.specs.Prelude.{Some}
 use Rattle.ll_top.proofs.calls.RefusedLemmas.{deepen-refused, refusal-past, refusal-told}
 use Rattle.ll_top.proofs.deepening.serve_deepen.Goals as goal

@@ -1,6 +1,6 @@
 use Rattle.ll_make.specs.Kinds.{query_text}
 use Rattle.ll_make.specs.Programs.{program_text}
-use Rattle.ll_judge.proofs.CallerLemmas.{one-grammar-fault, no-grammar-fault}
+use Rattle.ll_top.proofs.judging.GrammarLemmas.{one-grammar-fault, no-grammar-fault}
 use Rattle.ll_top.proofs.outcomes.LawLemmas.{Laws, asks-no-fault}
 use Rattle.ll_top.proofs.calls.MadeRunLemmas.{made-asked}
 use Rattle.ll_top.proofs.made_runs.made_asks.Goals as goal

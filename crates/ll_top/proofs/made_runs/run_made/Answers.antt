@@ -1,8 +1,8 @@
 use Rattle.std.proofs.Common.{refl, ◌∙◌}
 use Rattle.ll_make.proofs.CallerLemmas.{program_short, query_short}
-use Rattle.ll_words.specs.Words.{shown_made_run}
+use Rattle.ll_top.specs.forms.Words.{shown_made_run}
 use Rattle.ll_top.proofs.calls.MadeRunLemmas.{unjudged, counted-ends}
-use Rattle.ll_judge.proofs.CallerLemmas.{sink-still}
+use Rattle.ll_top.proofs.judging.ToldLemmas.{sink-still}
 use Rattle.ll_top.proofs.made_runs.run_made.Goals as goal
 
 pub problem_of-requires-clause-program : goal.problem_of-requires-clause-program

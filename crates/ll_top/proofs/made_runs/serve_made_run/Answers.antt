@@ -1,6 +1,6 @@
 use Rattle.std.specs.Prelude.{Some}
 use Rattle.std.proofs.Common.{arith, le_trans}
-use Rattle.ll_words.specs.Words.{shown_made_run}
+use Rattle.ll_top.specs.forms.Words.{shown_made_run}
 use Rattle.ll_top.proofs.calls.MadeRunLemmas.{made-found-ends}
 use Rattle.ll_top.proofs.calls.RefusedLemmas.{made-refused, refusal-write}
 use Rattle.ll_top.proofs.made_runs.serve_made_run.Goals as goal

@@ -3,10 +3,10 @@ use Rattle.ll_lists.proofs.CallerLemmas.{OnErr-always as on_err}
 use Rattle.ll_top.specs.Endings.{status_of_found}
 use Rattle.ll_top.specs.MadeRuns.{last_line}
 use Rattle.ll_edge.proofs.CallerLemmas.{no_front}
-use Rattle.ll_outlet.proofs.CallerLemmas.{on_ok_map, on_err_map}
+use Rattle.ll_top.proofs.writing.RunLemmas.{on_ok_map, on_err_map}
 use Rattle.ll_top.proofs.calls.RunLemmas.{run-status}
 use Rattle.ll_top.proofs.calls.MadeRunLemmas.{line-written, line-cut}
-use Rattle.ll_judge.proofs.CallerLemmas.{sink-still}
+use Rattle.ll_top.proofs.judging.ToldLemmas.{sink-still}
 use Rattle.ll_top.proofs.made_runs.write_counts.Goals as goal
 
 pub returns-in_err-counts-clause-prefix : goal.returns-in_err-counts-clause-prefix

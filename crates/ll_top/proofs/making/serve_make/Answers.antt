@@ -1,6 +1,6 @@
 use Rattle.std.proofs.Common.{ap, Some}
 use Rattle.ll_edge.proofs.CallerLemmas.{taken_front}
-use Rattle.ll_words.specs.Words.{shown_make}
+use Rattle.ll_top.specs.forms.Words.{shown_make}
 use Rattle.ll_top.proofs.outcomes.OutcomeLemmas.{made-ends, made-cut}
 use Rattle.ll_top.proofs.making.serve_make.Goals as goal
 

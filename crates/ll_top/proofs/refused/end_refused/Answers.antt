@@ -1,5 +1,5 @@
 use Rattle.std.proofs.Common.{ap, ◌∙◌}
-use Rattle.ll_judge.specs.Endings.{cause_of}
+use Rattle.ll_top.specs.texts.Endings.{cause_of}
 use Rattle.ll_top.proofs.refused.end_refused.Goals as goal
 
 pub returns-in-Text-clause-ends : goal.returns-in-Text-clause-ends

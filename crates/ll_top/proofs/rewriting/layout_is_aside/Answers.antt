@@ -1,4 +1,4 @@
-use Rattle.ll_judge.proofs.CallerLemmas.{one-grammar-fault, no-grammar-fault}
+use Rattle.ll_top.proofs.judging.GrammarLemmas.{one-grammar-fault, no-grammar-fault}
 use Rattle.ll_top.proofs.outcomes.LawLemmas.{Laws}
 use Rattle.ll_top.proofs.RewritingShelves.{layout-aside}
 use Rattle.ll_top.proofs.rewriting.layout_is_aside.Goals as goal

@@ -1,4 +1,4 @@
-use Rattle.ll_judge.proofs.CallerLemmas.{one-grammar-fault, no-grammar-fault}
+use Rattle.ll_top.proofs.judging.GrammarLemmas.{one-grammar-fault, no-grammar-fault}
 use Rattle.ll_top.proofs.outcomes.LawLemmas.{Laws}
 use Rattle.ll_top.proofs.RewritingPrints.{printed-again, printed-aside}
 use Rattle.ll_top.proofs.rewriting.printed_is_aside.Goals as goal

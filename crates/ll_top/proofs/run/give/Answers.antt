@@ -2,10 +2,10 @@ use Rattle.std.proofs.Common.{◌∙◌, subst, sym, ap, None, Some}
 use Rattle.ll_laws.specs.Sound.{Every}
 use Rattle.ll_laws.specs.Problem.{problem_events}
 use Rattle.ll_first.specs.Upto.{first_of}
-use Rattle.ll_outlet.specs.Running.{IsWelcome, IsReady, told_with}
+use Rattle.ll_top.specs.lines.Running.{IsWelcome, IsReady, told_with}
 use Rattle.ll_top.specs.Outcome.{text_of_run}
 use Rattle.ll_top.specs.Proved.{events_told, end_of_run}
-use Rattle.ll_outlet.proofs.CallerLemmas.{events-same, events-quiet, lines-written}
+use Rattle.ll_top.proofs.writing.RunLemmas.{events-same, events-quiet, lines-written}
 use Rattle.ll_top.proofs.calls.RunLemmas.{welcome-all, prefix-same, lines-begun}
 use Rattle.ll_top.proofs.calls.FaultLemmas.{told-refusal}
 use Rattle.ll_top.proofs.calls.ProvedLemmas.{told-text}

@@ -1,7 +1,7 @@
 use Rattle.std.proofs.Common.{refl}
 use Rattle.ll_edge.proofs.CallerLemmas.{no_front}
 use Rattle.ll_lists.proofs.CallerLemmas.{OnErr-always as on_err}
-use Rattle.ll_judge.proofs.CallerLemmas.{sink-still}
+use Rattle.ll_top.proofs.judging.ToldLemmas.{sink-still}
 use Rattle.ll_top.proofs.run.run.Goals as goal
 
 pub returns-in_err-index-clause-prefix : goal.returns-in_err-index-clause-prefix

@@ -3,10 +3,10 @@ use Rattle.std.proofs.Common.{◌≡◌, subst, IfOk, le_trans}
 use Rattle.std.proofs.lemmas.Result.{IfOk-from_err, err_from_is_err_and}
 use Rattle.ll_lists.proofs.CallerLemmas.{OnErr-always as on_err}
 use Rattle.ll_top.specs.Endings.{status_of_found}
-use Rattle.ll_outlet.proofs.CallerLemmas.{on_ok_map, on_err_map}
+use Rattle.ll_top.proofs.writing.RunLemmas.{on_ok_map, on_err_map}
 use Rattle.ll_top.proofs.calls.EndLemmas.{end-status, text-ended, text-cut}
 use Rattle.ll_top.proofs.outcomes.OwnLemmas.{refused-later}
-use Rattle.ll_judge.proofs.CallerLemmas.{sink-later}
+use Rattle.ll_top.proofs.judging.ToldLemmas.{sink-later}
 use Rattle.ll_top.proofs.run.run_with.Goals as goal
 
 pub returns-clause-found : goal.returns-clause-found

@@ -1,6 +1,6 @@
 use Rattle.std.proofs.Common.{refl, ap, Some}
 use Rattle.ll_edge.proofs.CallerLemmas.{no_front, taken_front}
-use Rattle.ll_judge.proofs.CallerLemmas.{sink-still}
+use Rattle.ll_top.proofs.judging.ToldLemmas.{sink-still}
 use Rattle.ll_top.proofs.run.write_summary.Goals as goal
 use Rattle.ll_lists.proofs.CallerLemmas.{OnErr-always as on_err}
 

@@ -1,7 +1,7 @@
 use Rattle.std.proofs.Common.{refl}
 use Rattle.std.proofs.lemmas.Result.{IfOk-from_err, err_from_is_err_and}
-use Rattle.ll_judge.specs.CallEnds.{nothing}
-use Rattle.ll_judge.proofs.CallerLemmas.{sink-still}
+use Rattle.ll_top.specs.texts.CallEnds.{nothing}
+use Rattle.ll_top.proofs.judging.ToldLemmas.{sink-still}
 use Rattle.ll_top.proofs.session.reply_over.Goals as goal
 
 pub returns-in_err-index-clause-ends : goal.returns-in_err-index-clause-ends

@@ -7,7 +7,7 @@ use Rattle.ll_session.specs.Queries.{IsProgramOf, on_line}
 use Rattle.ll_session.specs.Replied.{Replies, RefusesLine, line_refused}
 use Rattle.ll_top.specs.SessionEnds.{WritesReply, CutsReply}
 use Rattle.ll_top.proofs.calls.SessionLemmas.{query-indexed}
-use Rattle.ll_judge.proofs.CallerLemmas.{sink-still}
+use Rattle.ll_top.proofs.judging.ToldLemmas.{sink-still}
 use Rattle.ll_top.proofs.session.reply_to_line.Goals as goal
 
 pub reply_with_run-reply-requires-clause-valid : goal.reply_with_run-reply-requires-clause-valid

@@ -7,7 +7,7 @@ use Rattle.ll_session.proofs.CallerLemmas.{none-answered, line-passed, line-answ
 use Rattle.ll_top.specs.SessionEnds.{WritesReply, CutsReply}
 use Rattle.ll_top.proofs.outcomes.OwnLemmas.{refusal-later}
 use Rattle.ll_top.proofs.calls.SessionLemmas.{replies-written, replies-valid, lines-stopped}
-use Rattle.ll_judge.proofs.CallerLemmas.{sink-later}
+use Rattle.ll_top.proofs.judging.ToldLemmas.{sink-later}
 use Rattle.ll_top.proofs.session.reply_to_lines.Goals as goal
 
 pub loop-rest-init : goal.loop-rest-init

@@ -4,10 +4,10 @@ use Rattle.std.specs.Prelude.{Some, Err}
 use Rattle.std.proofs.Common.{refl}
 use Rattle.ll_lists.proofs.CallerLemmas.{OnOk-weaker as on-ok}
 use Rattle.ll_parser.specs.Raw.{ProgramTree}
-use Rattle.ll_judge.specs.Judging.{IsFaultless}
+use Rattle.ll_top.specs.texts.Judging.{IsFaultless}
 use Rattle.ll_top.specs.Shown.{WritesReplies}
 use Rattle.ll_top.proofs.calls.SessionLemmas.{loaded-program, lines-ended, not-loaded}
-use Rattle.ll_judge.proofs.CallerLemmas.{sink-still}
+use Rattle.ll_top.proofs.judging.ToldLemmas.{sink-still}
 use Rattle.ll_top.proofs.session.reply_to_text.Goals as goal
 
 pub reply_over-requires-clause-loaded : goal.reply_over-requires-clause-loaded

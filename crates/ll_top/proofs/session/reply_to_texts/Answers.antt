@@ -2,8 +2,8 @@ use Rattle.ll_edge.specs.Counts.{Rose}
 use denote.Builtin.{unit}
 use Rattle.std.proofs.Common.{None, refl, le_refl}
 use Rattle.std.proofs.lemmas.Result.{IfOk-from_err, err_from_is_err_and}
-use Rattle.ll_words.specs.Words.{shown_session}
-use Rattle.ll_judge.proofs.CallerLemmas.{not-read-after}
+use Rattle.ll_top.specs.forms.Words.{shown_session}
+use Rattle.ll_top.proofs.judging.PrepareLemmas.{not-read-after}
 use Rattle.ll_edge.proofs.CallerLemmas.{kept_trans, fits_first, fits_second}
 use Rattle.ll_top.proofs.calls.SessionLemmas.{program-not-read, queries-not-read, texts-ended}
 use Rattle.ll_top.proofs.calls.RightLemmas.{FollowingLaws, session-shown}
@@ -12,7 +12,7 @@ use Rattle.std.specs.Prelude.{Option, Some}
 use Rattle.ll_edge.specs.Log.{Fits}
 use Rattle.ll_edge.specs.Texts.{Texts}
 use Rattle.ll_lists.proofs.CallerLemmas.{OnOk-weaker as on-ok}
-use Rattle.ll_judge.proofs.CallerLemmas.{shelf-read, shelf-later, shelf-refused, sink-still}
+use Rattle.ll_top.proofs.judging.ToldLemmas.{shelf-read, shelf-later, shelf-refused, sink-still}
 use Rattle.ll_top.proofs.session.reply_to_texts.Goals as goal
 
 pub returns-in_err-program-clause-ends : goal.returns-in_err-program-clause-ends

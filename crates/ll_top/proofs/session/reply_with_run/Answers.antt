@@ -8,7 +8,7 @@ use Rattle.ll_laws.specs.Output.{line}
 use Rattle.ll_top.specs.Outcome.{whole_text}
 use Rattle.ll_edge.proofs.CallerLemmas.{both-written, first-cut, second-cut}
 use Rattle.ll_top.proofs.outcomes.OwnLemmas.{refusal-later}
-use Rattle.ll_judge.proofs.CallerLemmas.{sink-later}
+use Rattle.ll_top.proofs.judging.ToldLemmas.{sink-later}
 use Rattle.ll_top.proofs.session.reply_with_run.Goals as goal
 
 pub returns-in_err-write_heading-clause-prefix : goal.returns-in_err-write_heading-clause-prefix

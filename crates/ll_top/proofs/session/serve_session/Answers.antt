@@ -1,9 +1,9 @@
 use denote.Builtin.{unit}
 use Rattle.std.proofs.Common.{refl, le_trans, arith}
 use Rattle.ll_top.specs.OwnEnds.{NoneFails}
-use Rattle.ll_words.specs.Words.{shown_session}
+use Rattle.ll_top.specs.forms.Words.{shown_session}
 use Rattle.ll_top.proofs.outcomes.OwnLemmas.{done-ends}
-use Rattle.ll_judge.proofs.CallerLemmas.{status-done}
+use Rattle.ll_top.proofs.judging.ToldLemmas.{status-done}
 use Rattle.std.specs.Prelude.{Some}
 use Rattle.ll_top.proofs.calls.RefusedLemmas.{session-refused, refusal-past, refusal-told}
 use Rattle.ll_top.proofs.session.serve_session.Goals as goal

@@ -1,8 +1,0 @@
-pub mod PartsLemmas
-pub mod FaultExamples
-pub mod GrammarLemmas
-pub mod PrepareLemmas
-pub mod OutcomeLemmas
-pub mod ToldLemmas
-pub mod ConvertLemmas
-pub mod CallerLemmas

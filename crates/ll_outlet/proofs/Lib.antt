@@ -1,4 +1,0 @@
-pub mod GivenLemmas
-pub mod RunLemmas
-pub mod WaitingLemmas
-pub mod CallerLemmas

@@ -1,4 +1,0 @@
-use Rattle.ll_outlet.proofs.ghost_event.ghost_by_terms.Given as goal
-
-abbrev pub ghost-ghost_event : goal.ghost-ghost_event
-ghost-ghost_event g a = g.event

@@ -1,4 +1,0 @@
-use Rattle.ll_outlet.proofs.silent.KindNotice.make.Given as goal
-
-abbrev pub ghost-ghost_by : goal.ghost-ghost_by
-ghost-ghost_by a = a._event.now

@@ -1,0 +1,4 @@
+use Rattle.ll_top.proofs.lines.ghost_event.ghost_by.Given as goal
+
+abbrev pub ghost-ghost_event : goal.ghost-ghost_event
+ghost-ghost_event g a = g.event

@@ -1,0 +1,3 @@
+pub mod GivenLemmas
+pub mod RunLemmas
+pub mod WaitingLemmas

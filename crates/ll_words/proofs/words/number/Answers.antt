@@ -1,6 +1,0 @@
-use Rattle.std.proofs.Common.{sym}
-use Rattle.ll_words.proofs.WordsLemmas.{read_number}
-use Rattle.ll_words.proofs.words.number.Goals as goal
-
-pub returns-in-Err : goal.returns-in-Err
-returns-in-Err c = let e = read_number c.args.word.now c.parse.result (sym c.if-not-is_number.ensures) c.parse.ensures.value.0 in let f = c.in-Err.is in cc

@@ -13,7 +13,7 @@ use Rattle.ll_order.specs.Outlets.{Gives, GivesPrefix, Refuses}
 use Rattle.ll_order.proofs.CallerLemmas.{gives_more, refuses_more, no_count, counts_more}
 use Rattle.ll_engine.specs.Seen.{Owing}
 use Rattle.ll_engine.specs.Steps.{fresh}
-use Rattle.ll_job.specs.Leading.{Kept}
+use Rattle.ll_crew.specs.Leading.{Kept}
 use Rattle.ll_crew.specs.Alone.{IsAlone}
 use Rattle.ll_crew.specs.Pieces.{Stretched}
 

@@ -7,11 +7,11 @@ use Rattle.ll_laws.specs.declared.Event.{Event}
 use Rattle.ll_laws.specs.Problem.{ProblemTree}
 use Rattle.ll_freeze.specs.Frozen.{FrozenSight}
 use Rattle.ll_engine.specs.Seen.{Owing}
-use Rattle.ll_job.specs.Seats.{Sat}
-use Rattle.ll_job.specs.Offers.{IfTaken, IfBack}
-use Rattle.ll_job.specs.declared.sharing.Offered.{Offered}
-use Rattle.ll_job.specs.declared.sharing.Offered.TheVariants.{Taken}
-use Rattle.ll_job.specs.declared.sharing.Offered.TheVariants as came
+use Rattle.ll_crew.specs.Seats.{Sat}
+use Rattle.ll_crew.specs.Offers.{IfTaken, IfBack}
+use Rattle.ll_crew.specs.declared.sharing.Offered.{Offered}
+use Rattle.ll_crew.specs.declared.sharing.Offered.TheVariants.{Taken}
+use Rattle.ll_crew.specs.declared.sharing.Offered.TheVariants as came
 use Rattle.ll_crew.specs.Runs.{RunsTo, EndsTo, WentTo, TakesTurn}
 use Rattle.ll_crew.specs.declared.piece.Ending.{Ending}
 use Rattle.ll_crew.specs.declared.piece.Ending.TheVariants as ending

@@ -20,13 +20,13 @@ use Rattle.ll_laws.specs.Problem.{ProblemTree}
 use Rattle.ll_freeze.specs.Frozen.{FrozenSight, alternatives_in}
 use Rattle.ll_engine.specs.Seen.{Owing}
 use Rattle.ll_engine.specs.Resumes.{Resumes}
-use Rattle.ll_job.specs.Seats.{Sat}
-use Rattle.ll_job.specs.Alternatives.{events_in, cost_in}
+use Rattle.ll_crew.specs.Seats.{Sat}
+use Rattle.ll_crew.specs.Alternatives.{events_in, cost_in}
 use Rattle.ll_crew.specs.Pieces.{IsKeptOf, Owes, OwesAll, Lacks}
 use Rattle.ll_crew.specs.Runs.{RunsAlone, RunsOne, RunsAll, RunsFirst, EndsTo, Reports}
 use Rattle.ll_crew.specs.declared.piece.Ending.{Ending}
 use Rattle.ll_crew.specs.declared.piece.Ending.TheVariants as ending
-use Rattle.ll_job.proofs.CallerLemmas.{same_on}
+use Rattle.ll_crew.proofs.Calms.{same_on}
 use Rattle.ll_crew.proofs.Arms.{ended_partly, some_on}
 
 one_more : (os : List (Owed Event)) (k : ℕ) (o : Owed Event) → slice_get os k ≡ Some o → take (k + 1) os ≡ take k os ++ o ∷ []

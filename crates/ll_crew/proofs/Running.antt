@@ -8,7 +8,7 @@ use Rattle.ll_core.proofs.CallerLemmas.{cut_sum}
 use Rattle.ll_pool.specs.declared.data.OpenPiece.{OpenPiece}
 use Rattle.ll_freeze.specs.Frozen.{FrozenSight}
 use Rattle.ll_engine.specs.Seen.{Owing}
-use Rattle.ll_job.specs.Alternatives.{cost_in}
+use Rattle.ll_crew.specs.Alternatives.{cost_in}
 use Rattle.ll_crew.specs.Pieces.{Stretched, Stretching, Owes, OwesAll, OwesAfter}
 
 -- the counts of two stretches

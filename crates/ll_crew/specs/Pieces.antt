@@ -10,7 +10,7 @@ use Rattle.ll_laws.specs.Problem.{ProblemTree}
 use Rattle.ll_pool.specs.declared.data.OpenPiece.{OpenPiece}
 use Rattle.ll_freeze.specs.Frozen.{FrozenSight, alternatives_in}
 use Rattle.ll_engine.specs.Seen.{Owing}
-use Rattle.ll_job.specs.Alternatives.{events_in, cost_in}
+use Rattle.ll_crew.specs.Alternatives.{events_in, cost_in}
 
 -- a worker has kept no engine, or one of this problem
 abbrev pub IsKeptOf : ProblemTree → Option Owing → Type 0

@@ -9,10 +9,10 @@ use Rattle.ll_pool.specs.declared.data.OpenPiece.{OpenPiece}
 use Rattle.ll_laws.specs.Problem.{ProblemTree}
 use Rattle.ll_freeze.specs.Frozen.{alternatives_in}
 use Rattle.ll_engine.specs.Seen.{Owing}
-use Rattle.ll_job.specs.Seats.{Sat}
-use Rattle.ll_job.specs.Alternatives.{events_in, cost_in}
+use Rattle.ll_crew.specs.Seats.{Sat}
+use Rattle.ll_crew.specs.Alternatives.{events_in, cost_in}
 use Rattle.ll_crew.specs.Pieces.{OwesAll, OwesAfter, Lacks}
-use Rattle.ll_job.specs.Turns.{Stays, Goes, Leaves, Ended}
+use Rattle.ll_crew.specs.Turns.{Stays, Goes, Leaves, Ended}
 use Rattle.ll_crew.specs.declared.piece.Shared.{Shared}
 use Rattle.ll_crew.specs.declared.piece.Shared.TheVariants.{Nothing, Published}
 use Rattle.ll_crew.specs.declared.piece.Shared.TheVariants as share

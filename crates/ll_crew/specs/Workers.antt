@@ -4,10 +4,10 @@ use Rattle.ll_laws.specs.declared.Event.{Event}
 use Rattle.ll_laws.specs.Pool.{Owed}
 use Rattle.ll_order.specs.declared.outlet.Outlet.{Ghosts}
 use Rattle.ll_engine.specs.Seen.{Owing}
-use Rattle.ll_job.specs.Alternatives.{events_in, cost_in}
-use Rattle.ll_job.specs.Leading.{Stands, Stopped, WasRefused}
-use Rattle.ll_job.specs.Turns as turns
-use Rattle.ll_job.specs.declared.job.Job.{Job}
+use Rattle.ll_crew.specs.Alternatives.{events_in, cost_in}
+use Rattle.ll_crew.specs.Leading.{Stands, Stopped, WasRefused}
+use Rattle.ll_crew.specs.Turns as turns
+use Rattle.ll_crew.specs.declared.job.Job.{Job}
 use Rattle.ll_crew.specs.Runs as runs
 use Rattle.ll_crew.specs.declared.piece.Ending.{Ending}
 use Rattle.ll_crew.specs.declared.piece.Ran.{Ran}

@@ -7,13 +7,14 @@ ghost use Rattle.ll_laws.specs.Valid.{IsValid};
 ghost use Rattle.ll_engine.specs.Steps.{fresh};
 ghost use Rattle.ll_freeze.specs.Indexed.{IsIndexOf};
 ghost use Rattle.ll_order.specs.Outlets.{Rose, Gives, GivesPrefix, CountsOf};
-ghost use Rattle.ll_job.specs.declared.fault.CrewFault.{CrewFault};
-ghost use Rattle.ll_job.specs.Leading.{Kept};
+ghost use Rattle.ll_crew.specs.declared.fault.CrewFault.{CrewFault};
+ghost use Rattle.ll_crew.specs.Leading.{Kept};
 
+use crate::fault::CrewFault;
+use crate::giving::give_some;
 use crate::piece::stretch;
 use ll_engine::Engine;
 use ll_index::Index;
-use ll_job::{CrewFault, give_some};
 use ll_laws::{Counts, Problem};
 use ll_order::Outlet;
 use std::alloc::Global;

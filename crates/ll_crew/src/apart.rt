@@ -5,11 +5,13 @@ ghost use Rattle.ll_laws.specs.Problem.{problem_events, problem_cost};
 ghost use Rattle.ll_laws.specs.Sound.{Every};
 ghost use Rattle.ll_laws.specs.Valid.{IsValid};
 ghost use Rattle.ll_order.specs.Outlets.{Rose, Gives, GivesPrefix, CountsOf};
-ghost use Rattle.ll_job.specs.declared.fault.CrewFault.{CrewFault};
+ghost use Rattle.ll_crew.specs.declared.fault.CrewFault.{CrewFault};
 
+use crate::fault::CrewFault;
+use crate::job::Sharing;
+use crate::pool::index_of;
 use crate::whole::crew_by;
 use ll_edge::Gate;
-use ll_job::{CrewFault, Sharing, index_of};
 use ll_laws::{Counts, Problem};
 use ll_order::Outlet;
 use std::alloc::Global;

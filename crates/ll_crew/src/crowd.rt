@@ -3,14 +3,18 @@ ghost use Rattle.std.specs.Prelude.{◌≡◌, ◌≤◌, IfOk, OnErr, true, fal
 ghost use Rattle.std.specs.Vec.{vec_capacity};
 ghost use Rattle.std.specs.Thread.{IsSync};
 ghost use Rattle.ll_laws.specs.Sound.{Every};
-ghost use Rattle.ll_job.specs.Crews.{EachWorked};
-ghost use Rattle.ll_job.specs.Leading.{Stands, Stopped, WasRefused};
-ghost use Rattle.ll_job.specs.Turns.{Ended, Leaves, Fails, CanWork, Worked};
+ghost use Rattle.ll_crew.specs.Crews.{EachWorked};
+ghost use Rattle.ll_crew.specs.Leading.{Stands, Stopped, WasRefused};
+ghost use Rattle.ll_crew.specs.Turns.{Ended, Leaves, Fails, CanWork, Worked};
 
+use crate::bell::Bell;
+use crate::beside::join_beside;
+use crate::job::{Job, Sharing};
+use crate::lead::{Mute, Told};
+use crate::offer::Offer;
 use crate::worker::work_as;
 use ll_bank::OutOfMemory;
 use ll_edge::Gate;
-use ll_job::{Bell, Job, Mute, Offer, Sharing, Told, join_beside};
 use ll_laws::{Notice, Problem};
 use ll_order::Outlet;
 use ll_pool::{Seat, SharedPool};

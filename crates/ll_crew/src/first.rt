@@ -9,13 +9,15 @@ ghost use Rattle.ll_laws.specs.Valid.{IsValid};
 ghost use Rattle.ll_freeze.specs.Indexed.{IsIndexOf};
 ghost use Rattle.ll_order.specs.Outlets.{Rose, Gives, GivesPrefix, CountsOf};
 ghost use Rattle.ll_first.specs.Upto.{first_of};
-ghost use Rattle.ll_job.specs.declared.fault.CrewFault.{CrewFault};
+ghost use Rattle.ll_crew.specs.declared.fault.CrewFault.{CrewFault};
 
+use crate::fault::CrewFault;
+use crate::job::Sharing;
+use crate::pool::index_of;
 use crate::whole::crew_by;
 use ll_edge::Gate;
 use ll_first::{Enough, Until};
 use ll_index::Index;
-use ll_job::{CrewFault, Sharing, index_of};
 use ll_laws::{Counts, Problem};
 use std::alloc::Global;
 use std::sync::atomic::AtomicU64;

@@ -3,13 +3,26 @@
 
 mod alone;
 mod apart;
+mod bell;
+mod beside;
 mod crowd;
+mod fault;
 mod first;
+mod giving;
+mod heard;
+mod job;
+mod lead;
+mod offer;
 mod piece;
+mod pool;
+mod sharing;
 mod whole;
 mod worker;
 
 pub use apart::crew_apart;
+pub use bell::Bell;
+pub use fault::CrewFault;
 pub use first::crew_first;
+pub use pool::{crew_of, index_of};
 pub use whole::{crew, crew_with};
 pub use worker::work;

@@ -1,19 +1,23 @@
 //! The work of one worker.
 ghost use Rattle.std.specs.Prelude.{◌≡◌, ◌⊎◌, None, IfOk, OnOk, OnErr, true, false};
-ghost use Rattle.ll_job.specs.Seats.{IsSeat, Same, HasLeft, IsOver};
-ghost use Rattle.ll_job.specs.Leading.{Stands, Stopped, WasRefused};
-ghost use Rattle.ll_job.specs.Turns.{Stays, Ended, Leaves, Fails, CanWork};
+ghost use Rattle.ll_crew.specs.Seats.{IsSeat, Same, HasLeft, IsOver};
+ghost use Rattle.ll_crew.specs.Leading.{Stands, Stopped, WasRefused};
+ghost use Rattle.ll_crew.specs.Turns.{Stays, Ended, Leaves, Fails, CanWork};
 ghost use Rattle.ll_crew.specs.Pieces.{IsKeptOf};
 ghost use Rattle.ll_crew.specs.Runs.{TakesTurn};
 ghost use Rattle.ll_crew.specs.Workers as workers;
 ghost use Rattle.ll_crew.specs.Workers.{Holds, Standing, WentTo};
 
+use crate::bell::Bell;
+use crate::heard::AllWoken;
+use crate::job::{Job, Sharing};
+use crate::lead::{Mute, Told, tell};
+use crate::offer::Offer;
 use crate::piece::work_piece;
 use ll_bank::OutOfMemory;
 use ll_core::Claimed;
 use ll_edge::Gate;
 use ll_engine::Engine;
-use ll_job::{AllWoken, Bell, Job, Mute, Offer, Sharing, Told, tell};
 use ll_laws::{Notice, Problem};
 use ll_order::Outlet;
 use ll_pool::{Seat, SharedPool};

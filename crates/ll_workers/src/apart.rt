@@ -6,9 +6,8 @@ ghost use Rattle.ll_laws.specs.Valid.{IsValid};
 ghost use Rattle.ll_make.specs.Kinds.{Fits};
 
 use ll_bank::OutOfMemory;
-use ll_crew::crew_apart;
+use ll_crew::{CrewFault, crew_apart};
 use ll_edge::OpenGate;
-use ll_job::CrewFault;
 use ll_laws::{Counts, Event, Problem};
 use ll_lexer::{TextFault, tokens};
 use ll_make::MakeKind;

@@ -1,6 +1,6 @@
 //! That a worker that heard a bell before it rang does not wait for it.
 use crate::apart::made;
-use ll_job::{Bell, crew_of, index_of};
+use ll_crew::{Bell, crew_of, index_of};
 use ll_laws::Event;
 use ll_make::MakeKind;
 use std::test::Fail;

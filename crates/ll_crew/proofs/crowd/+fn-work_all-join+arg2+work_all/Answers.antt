@@ -2,9 +2,9 @@ use Rattle.std.proofs.Common.{◌≡◌, ◌∙◌, ◌∷◌, ◌++◌, [], ap,
 use Rattle.std.specs.Prelude.{option_to_list}
 use Rattle.ll_laws.specs.Sound.{Every}
 use Rattle.ll_core.proofs.CallerLemmas.{every_back, every_front}
-use Rattle.ll_job.specs.Turns.{CanWork, Worked}
-use Rattle.ll_job.specs.Crews.{EachWorked}
-use Rattle.ll_job.proofs.CallerLemmas.{each_append}
+use Rattle.ll_crew.specs.Turns.{CanWork, Worked}
+use Rattle.ll_crew.specs.Crews.{EachWorked}
+use Rattle.ll_crew.proofs.Gathering.{each_append}
 use Rattle.ll_crew.proofs.crowd.+fn-work_all-join+arg2+work_all.Goals as goal
 
 pub returns-clause-each : goal.returns-clause-each

@@ -3,8 +3,10 @@ use Rattle.std.proofs.Common.{◌∙◌, refl, sym, arith, rules, subst}
 use Rattle.std.proofs.lemmas.Bool.{true≢false}
 use Rattle.std.proofs.lemmas.Result.{IfOk-from_err}
 use Rattle.ll_lists.proofs.CallerLemmas.{OnErr-always}
-use Rattle.ll_job.specs.Leading.{WasRefused}
-use Rattle.ll_job.proofs.CallerLemmas.{same_itself, seat_on, goes_stays, stays_out, goes_on}
+use Rattle.ll_crew.specs.Leading.{WasRefused}
+use Rattle.ll_crew.proofs.Calms.{same_itself, seat_on}
+use Rattle.ll_crew.proofs.Claiming.{goes_stays, stays_out}
+use Rattle.ll_crew.proofs.Goings.{goes_on}
 use Rattle.ll_crew.proofs.Holding.{holds_itself}
 use Rattle.ll_crew.proofs.Running.{stretching_starts, stretch_on, stretch_last}
 use Rattle.ll_crew.proofs.piece.run_alone.Goals as goal

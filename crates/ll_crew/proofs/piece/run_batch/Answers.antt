@@ -4,7 +4,8 @@ use Rattle.std.specs.Arc.{arc_value}
 use Rattle.std.proofs.lemmas.Result.{IfOk-from_err}
 use Rattle.ll_lists.proofs.CallerLemmas.{OnErr-always}
 use Rattle.ll_freeze.specs.Frozen.{FrozenSight, alternatives_in}
-use Rattle.ll_job.proofs.CallerLemmas.{seat_on, stays_on, stays_out, goes_stays}
+use Rattle.ll_crew.proofs.Calms.{seat_on}
+use Rattle.ll_crew.proofs.Claiming.{stays_on, stays_out, goes_stays}
 use Rattle.ll_crew.specs.Workers.{Standing}
 use Rattle.ll_crew.proofs.Arms.{none_of}
 use Rattle.ll_crew.proofs.Holding.{holds_on}

@@ -6,11 +6,11 @@ use Rattle.ll_lists.proofs.CallerLemmas.{OnOk-weaker, OnErr-always}
 use Rattle.ll_laws.specs.declared.Event.{Event}
 use Rattle.ll_laws.specs.Pool.{Owed}
 use Rattle.ll_freeze.specs.Frozen.{alternatives_in}
-use Rattle.ll_job.specs.Leading.{WasRefused}
-use Rattle.ll_job.specs.Turns.{Leaves}
+use Rattle.ll_crew.specs.Leading.{WasRefused}
+use Rattle.ll_crew.specs.Turns.{Leaves}
 use Rattle.ll_crew.specs.Pieces.{IsKeptOf}
 use Rattle.ll_crew.specs.Runs.{RunsOne}
-use Rattle.ll_job.proofs.CallerLemmas.{stays_here}
+use Rattle.ll_crew.proofs.Claiming.{stays_here}
 use Rattle.ll_crew.specs.Workers.{Standing, Stopping}
 use Rattle.ll_crew.proofs.Finishing.{one_run, chosen_holds, chosen_on, chosen_fails, done_of}
 use Rattle.ll_crew.proofs.piece.run_one.Goals as goal

@@ -5,12 +5,13 @@ use Rattle.std.specs.Arc.{arc_value}
 use Rattle.ll_lists.proofs.CallerLemmas.{OnOk-weaker, OnErr-weaker}
 use Rattle.ll_laws.specs.Search.{cut_count}
 use Rattle.ll_freeze.specs.Frozen.{alternatives_in}
-use Rattle.ll_job.specs.Leading.{WasRefused}
+use Rattle.ll_crew.specs.Leading.{WasRefused}
 use Rattle.ll_crew.specs.Runs.{RunsTo, EndsTo}
 use Rattle.ll_crew.specs.declared.piece.Ran.TheVariants.{Back}
 use Rattle.ll_crew.specs.declared.piece.Ending.{Ending}
 use Rattle.ll_crew.specs.declared.piece.Ending.TheVariants as ending
-use Rattle.ll_job.proofs.CallerLemmas.{stays_goes, stays_on, stays_out}
+use Rattle.ll_crew.proofs.Goings.{stays_goes}
+use Rattle.ll_crew.proofs.Claiming.{stays_on, stays_out}
 use Rattle.ll_crew.specs.Workers.{Standing, Stopping}
 use Rattle.ll_crew.proofs.Arms.{ran_back}
 use Rattle.ll_crew.proofs.Finishing.{all_lacks, chosen_holds, chosen_on, chosen_fails, done_of}

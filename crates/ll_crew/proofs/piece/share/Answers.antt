@@ -1,10 +1,10 @@
 use Rattle.std.specs.Prelude.{map}
 use Rattle.std.proofs.Common.{◌∙◌, refl, sym, subst, le_refl, le_trans, Some, None}
 use Rattle.std.proofs.lemmas.Result.{IfOk-from_err}
-use Rattle.ll_job.specs.Seats.{IsSeat}
+use Rattle.ll_crew.specs.Seats.{IsSeat}
 use Rattle.ll_crew.specs.declared.piece.Shared.TheVariants as shared
-use Rattle.ll_job.proofs.CallerLemmas.{calm_itself, calm_on, seat_on}
-use Rattle.ll_crew.proofs.Sharing.{published, shares_as, after_on}
+use Rattle.ll_crew.proofs.Calms.{calm_itself, calm_on, seat_on}
+use Rattle.ll_crew.proofs.SharingLemmas.{published, shares_as, after_on}
 use Rattle.ll_crew.proofs.piece.share.Goals as goal
 
 pub points-init : goal.points-init

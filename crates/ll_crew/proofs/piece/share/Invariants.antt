@@ -1,6 +1,6 @@
 use Rattle.std.specs.Prelude.{map}
 use Rattle.std.proofs.Common.{◌≡◌, ◌≤◌, []}
-use Rattle.ll_job.specs.Seats.{Calm}
+use Rattle.ll_crew.specs.Seats.{Calm}
 use Rattle.ll_crew.specs.Pieces.{OwesAll}
 use Rattle.ll_crew.proofs.piece.share.Given as goal
 

@@ -2,10 +2,10 @@ use Rattle.std.proofs.lemmas.Result.{IfOk-from_err}
 use Rattle.std.specs.Prelude.{map}
 use Rattle.std.proofs.Common.{sym, subst, arith}
 use Rattle.ll_engine.specs.Splits.{SplitsTo}
-use Rattle.ll_job.specs.Seats.{IsSeat}
-use Rattle.ll_job.proofs.CallerLemmas.{calm_itself}
+use Rattle.ll_crew.specs.Seats.{IsSeat}
+use Rattle.ll_crew.proofs.Calms.{calm_itself}
 use Rattle.ll_crew.proofs.Arms.{taken_of, back_of}
-use Rattle.ll_crew.proofs.Sharing.{split_some, ends_for, shared_after, back_after}
+use Rattle.ll_crew.proofs.SharingLemmas.{split_some, ends_for, shared_after, back_after}
 use Rattle.ll_crew.proofs.piece.share_oldest.Goals as goal
 use Rattle.ll_crew.proofs.piece.share_oldest.Goals.{In-Some}
 

@@ -2,8 +2,8 @@ use Rattle.std.proofs.Common.{◌∙◌, sym}
 use Rattle.std.proofs.lemmas.Bool.{true≢false}
 use Rattle.std.proofs.lemmas.Result.{IfOk-from_err}
 use Rattle.ll_lists.proofs.CallerLemmas.{OnErr-always}
-use Rattle.ll_job.specs.Leading.{WasRefused}
-use Rattle.ll_job.proofs.CallerLemmas.{stays_here, stays_on, stays_out}
+use Rattle.ll_crew.specs.Leading.{WasRefused}
+use Rattle.ll_crew.proofs.Claiming.{stays_here, stays_on, stays_out}
 use Rattle.ll_crew.proofs.Holding.{holds_itself}
 use Rattle.ll_crew.proofs.Arms.{some_of, none_of}
 use Rattle.ll_crew.proofs.piece.work_piece.Goals as goal

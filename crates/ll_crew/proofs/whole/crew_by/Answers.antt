@@ -1,7 +1,7 @@
 use Rattle.std.proofs.Common.{sym, subst, refl}
 use Rattle.ll_freeze.specs.Frozen.{opening}
-use Rattle.ll_job.specs.Leading.{Leads}
-use Rattle.ll_job.proofs.CallerLemmas.{leads_first}
+use Rattle.ll_crew.specs.Leading.{Leads}
+use Rattle.ll_crew.proofs.Endings.{leads_first}
 use Rattle.ll_crew.proofs.whole.crew_by.Goals as goal
 
 pub search-requires-clause-leads : goal.search-requires-clause-leads

@@ -2,11 +2,13 @@ use Rattle.std.proofs.Common.{◌∙◌, refl, arith}
 use Rattle.std.proofs.lemmas.Result.{IfOk-from_err}
 use Rattle.ll_lists.proofs.CallerLemmas.{OnErr-always}
 use Rattle.ll_core.specs.declared.answers.Claimed.TheVariants as claims
-use Rattle.ll_job.specs.Leading.{Stands, Stopped, WasRefused}
+use Rattle.ll_crew.specs.Leading.{Stands, Stopped, WasRefused}
 use Rattle.ll_freeze.specs.Frozen.{alternatives_in}
-use Rattle.ll_job.specs.Seats.{of_batch}
-use Rattle.ll_job.proofs.CallerLemmas.{turn_counted, seat_on, calm_claim, stays_goes, stays_on, stays_out}
-use Rattle.ll_job.proofs.CallerLemmas.{claim_stands, claim_stays, claim_ended, claim_starved, claim_stopped}
+use Rattle.ll_crew.specs.Seats.{of_batch}
+use Rattle.ll_crew.proofs.Calms.{turn_counted, seat_on, calm_claim}
+use Rattle.ll_crew.proofs.Goings.{stays_goes}
+use Rattle.ll_crew.proofs.Claiming.{stays_on, stays_out}
+use Rattle.ll_crew.proofs.Claiming.{claim_stands, claim_stays, claim_ended, claim_starved, claim_stopped}
 use Rattle.ll_crew.specs.Workers.{Standing, Stopping}
 use Rattle.ll_crew.proofs.worker.claim_one.Goals as goal
 

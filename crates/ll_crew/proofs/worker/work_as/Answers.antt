@@ -1,4 +1,4 @@
-use Rattle.ll_job.proofs.CallerLemmas.{starve_fails}
+use Rattle.ll_crew.proofs.Claiming.{starve_fails}
 use Rattle.ll_crew.proofs.worker.work_as.Goals as goal
 
 pub returns-in-Err-clause-failed : goal.returns-in-Err-clause-failed

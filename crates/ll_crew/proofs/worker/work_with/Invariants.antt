@@ -1,5 +1,5 @@
 use Rattle.std.proofs.Common.{◌≡◌, None}
-use Rattle.ll_job.specs.Turns.{Stays}
+use Rattle.ll_crew.specs.Turns.{Stays}
 use Rattle.ll_crew.specs.Pieces.{IsKeptOf}
 use Rattle.ll_crew.specs.Workers.{Holds, Standing}
 use Rattle.ll_crew.proofs.worker.work_with.Given as goal

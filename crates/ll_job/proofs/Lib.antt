@@ -1,7 +1,0 @@
-pub mod Calms
-pub mod Leadings
-pub mod Goings
-pub mod Gathering
-pub mod Endings
-pub mod Claiming
-pub mod CallerLemmas

@@ -1,6 +1,0 @@
-pub mod Seats
-pub mod Alternatives
-pub mod Leading
-pub mod Turns
-pub mod Crews
-pub mod Offers

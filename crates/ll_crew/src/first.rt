@@ -63,6 +63,41 @@ pub fn crew_first<'p, R: Threads + Wait + Sync, G: Gate, E: Enough>(
     )
 }
 
+/// The same, with an index of the problem's clauses that was made before: problems of the same clauses may share it.
+pub fn crew_first_with<'p, R: Threads + Wait + Sync, G: Gate, E: Enough>(
+    rt: &R,
+    alloc: Global,
+    problem: &'p Problem,
+    index: &Arc<Index>,
+    workers: u32,
+    gate: &G,
+    out: &mut E,
+) -> Result<Option<Counts>, CrewFault>
+    requires workers { (0 < workers) × (workers ≤ 64) }
+    requires valid { IsValid problem.now }
+    requires suits { E.Found.suits problem.now }
+    requires index { IsIndexOf problem.now (arc_value index.now) }
+    requires none_yet { E.answers out.old ≡ 0 }
+    requires welcome { Every (E.welcome out.old) (problem_events problem.now) }
+    ensures enough { IfOk result (λ o. (o ≡ None) ↔ (E.limit out.old ≤ count_by is_answer (problem_events problem.entry.now))) }
+    ensures given { OnOk result (Gives E.takes out.old (first_of (problem_events problem.entry.now) (E.limit out.old)) out.new) }
+    ensures counts { IfOk result (λ o. IfSome o (λ counts. CountsOf counts (problem_events problem.entry.now) (problem_cost problem.entry.now))) }
+    ensures refused { OnErr result (GivesPrefix E.takes E.breaks out.old (first_of (problem_events problem.entry.now) (E.limit out.old)) out.new) }
+    ensures fewer { OnErr result (E.answers out.new < E.limit out.old) }
+    ensures write { result ≡ Err CrewFault.Write → Rose (E.faults out.old) (E.faults out.new) }
+    ensures faults_kept { E.faults out.old ≤ E.faults out.new }
+    ensures welcome_kept { (e : Event) → E.welcome out.old e ↔ E.welcome out.new e }
+{
+    let Ok(index) = Arc::try_clone(index) else {
+        return Err(CrewFault::OutOfMemory);
+    };
+    let mut until = Until { out, ended: false };
+    let came_back = AtomicU64::new(0);
+    give_until(
+        rt, alloc, problem, index, workers, gate, &came_back, &mut until,
+    )
+}
+
 // The same, with an outlet that hands on what it is given.
 fn give_until<'p, 's, R: Threads + Wait + Sync, G: Gate, E: Enough>(
     rt: &R,

@@ -21,7 +21,7 @@ use crate::lines::{Asked, Line, Lined, Writing};
 use crate::team::Team;
 use crate::texts::{Refusal, write_parts};
 use itoa::Buffer;
-use ll_crew::{crew_first, crew_with};
+use ll_crew::{crew_first_with, crew_with};
 use ll_edge::{Gate, Sink, WriteFailed, write_all};
 use ll_first::First;
 use ll_index::Index;
@@ -305,10 +305,11 @@ fn give<'p, 's, E: Lined, R: Threads + Wait + Sync, O: Sink, G: Gate>(
             Ok(counts) => Ok(Ended::Whole(counts)),
             Err(_) => Err(refusal_of(out.out.failed)),
         },
-        Some(limit) => match crew_first(
+        Some(limit) => match crew_first_with(
             team.rt,
             team.alloc,
             wanted.problem,
+            wanted.index,
             team.workers,
             team.gate,
             out,

@@ -98,15 +98,15 @@ returns-in-Err-clause-prefix g c =
     (end_of_run None p) (text_of_run None c.args.out.now.out.proofs p)
     c.requires.problem c.requires.answers.1 (told-text None c.args.out.now.out.proofs p) c.in-Err.ensures.refused))
 
-pub crew_first-requires-clause-welcome : goal.crew_first-requires-clause-welcome
-crew_first-requires-clause-welcome g c κs within =
+pub crew_first_with-requires-clause-welcome : goal.crew_first_with-requires-clause-welcome
+crew_first_with-requires-clause-welcome g c κs within =
     let p = c.args.wanted.now.problem.now in
     each_with _ (IsWelcome c.args.out.now.out.problem.now) (problem_events p) c.requires.ready
     (subst (λ q. Every (IsWelcome q) (problem_events p)) (sym c.requires.problem)
     (welcome-all c.answers_are_shown.ensures _ c.requires.valid))
 
-pub returns-in-Ok-crew_first-clause-none : goal.returns-in-Ok-crew_first-clause-none
-returns-in-Ok-crew_first-clause-none g c =
+pub returns-in-Ok-crew_first_with-clause-none : goal.returns-in-Ok-crew_first_with-clause-none
+returns-in-Ok-crew_first_with-clause-none g c =
     let p = c.args.wanted.now.problem.now in
     none_taken (λ w. w.out.problem.now) (λ w. w.out.waiting.now.items)
     (λ w. IsReady g.E.Lined.makes w.out.proofs w.out.problem.now w.out.waiting.now.items) (λ w r. r.none) _ _ _
@@ -114,32 +114,32 @@ returns-in-Ok-crew_first-clause-none g c =
     (subst (λ q. Every (IsWelcome q) (problem_events p)) (sym c.requires.problem)
     (welcome-all c.answers_are_shown.ensures _ c.requires.valid))
     (λ e. ap (λ l. first_of l c.args.out.now.limit) e ∙ first-none c.args.out.now.limit)
-    c.in-Ok-crew_first.ensures.welcome_kept c.in-Ok-crew_first.ensures.given
+    c.in-Ok-crew_first_with.ensures.welcome_kept c.in-Ok-crew_first_with.ensures.given
 
-pub returns-in-Ok-crew_first-clause-same_reference : goal.returns-in-Ok-crew_first-clause-same_reference
-returns-in-Ok-crew_first-clause-same_reference g c =
+pub returns-in-Ok-crew_first_with-clause-same_reference : goal.returns-in-Ok-crew_first_with-clause-same_reference
+returns-in-Ok-crew_first_with-clause-same_reference g c =
     (events-same _ (λ x e y. ⊥)
     (λ w. told_with w.out.problem.now w.out.proofs w.out.answers (Some (g.O.Sink.taken w.out.sink.now)) (g.O.Sink.faults w.out.sink.now)
     w.out.failed w.out.sink.ghost_name w.out.waiting.now.items)
-    (λ x e y h. h.0) (λ x e y h. absurd h) _ _ _ c.in-Ok-crew_first.ensures.given).lent
+    (λ x e y h. h.0) (λ x e y h. absurd h) _ _ _ c.in-Ok-crew_first_with.ensures.given).lent
 
-pub returns-in-Ok-crew_first-clause-sink_told : goal.returns-in-Ok-crew_first-clause-sink_told
-returns-in-Ok-crew_first-clause-sink_told g c =
+pub returns-in-Ok-crew_first_with-clause-sink_told : goal.returns-in-Ok-crew_first_with-clause-sink_told
+returns-in-Ok-crew_first_with-clause-sink_told g c =
     events-quiet _ (λ x e y. ⊥)
     (λ w. told_with w.out.problem.now w.out.proofs w.out.answers (Some (g.O.Sink.taken w.out.sink.now)) (g.O.Sink.faults w.out.sink.now)
     w.out.failed w.out.sink.ghost_name w.out.waiting.now.items)
-    (λ x e y h. h.0) (λ x e y h. absurd h) _ _ _ c.in-Ok-crew_first.ensures.given
+    (λ x e y h. h.0) (λ x e y h. absurd h) _ _ _ c.in-Ok-crew_first_with.ensures.given
 
-pub returns-in-Ok-crew_first-clause-lines : goal.returns-in-Ok-crew_first-clause-lines
-returns-in-Ok-crew_first-clause-lines g c = rw (c.in-Some.is ∙ ap Some (sym (rw c.in-Some.is at c.requires.limit)))
-    (shown_all (Some (g.O.Sink.taken c.args.out.now.out.sink.now)) _ _ _ _ c.requires.ready.none (returns-in-Ok-crew_first-clause-none g c)
+pub returns-in-Ok-crew_first_with-clause-lines : goal.returns-in-Ok-crew_first_with-clause-lines
+returns-in-Ok-crew_first_with-clause-lines g c = rw (c.in-Some.is ∙ ap Some (sym (rw c.in-Some.is at c.requires.limit)))
+    (shown_all (Some (g.O.Sink.taken c.args.out.now.out.sink.now)) _ _ _ _ c.requires.ready.none (returns-in-Ok-crew_first_with-clause-none g c)
     (lines-written _ (λ x e y. ⊥)
     (λ w. told_with w.out.problem.now w.out.proofs w.out.answers (Some (g.O.Sink.taken w.out.sink.now)) (g.O.Sink.faults w.out.sink.now)
     w.out.failed w.out.sink.ghost_name w.out.waiting.now.items)
-    (λ x e y h. h.0) (λ x e y h. absurd h) _ _ _ _ c.requires.problem c.requires.answers.1 c.in-Ok-crew_first.ensures.given))
+    (λ x e y h. h.0) (λ x e y h. absurd h) _ _ _ _ c.requires.problem c.requires.answers.1 c.in-Ok-crew_first_with.ensures.given))
 
-pub returns-in-Err-crew_first-clause-none : goal.returns-in-Err-crew_first-clause-none
-returns-in-Err-crew_first-clause-none g c =
+pub returns-in-Err-crew_first_with-clause-none : goal.returns-in-Err-crew_first_with-clause-none
+returns-in-Err-crew_first_with-clause-none g c =
     let p = c.args.wanted.now.problem.now in
     none_given (λ w. w.out.problem.now) (λ w. w.out.waiting.now.items)
     (λ w. IsReady g.E.Lined.makes w.out.proofs w.out.problem.now w.out.waiting.now.items) (λ w r. r.none) _ _ _ _
@@ -147,41 +147,41 @@ returns-in-Err-crew_first-clause-none g c =
     (subst (λ q. Every (IsWelcome q) (problem_events p)) (sym c.requires.problem)
     (welcome-all c.answers_are_shown.ensures _ c.requires.valid))
     (λ e. ap (λ l. first_of l c.args.out.now.limit) e ∙ first-none c.args.out.now.limit)
-    c.in-Err-crew_first.ensures.welcome_kept c.in-Err-crew_first.ensures.refused
+    c.in-Err-crew_first_with.ensures.welcome_kept c.in-Err-crew_first_with.ensures.refused
 
-pub returns-in-Err-crew_first-clause-same_reference : goal.returns-in-Err-crew_first-clause-same_reference
-returns-in-Err-crew_first-clause-same_reference g c =
+pub returns-in-Err-crew_first_with-clause-same_reference : goal.returns-in-Err-crew_first_with-clause-same_reference
+returns-in-Err-crew_first_with-clause-same_reference g c =
     (prefix-same _ _
     (λ w. told_with w.out.problem.now w.out.proofs w.out.answers (Some (g.O.Sink.taken w.out.sink.now)) (g.O.Sink.faults w.out.sink.now)
     w.out.failed w.out.sink.ghost_name w.out.waiting.now.items)
-    (λ x e y h. h.0) (λ x e y h. h.0) _ _ _ c.in-Err-crew_first.ensures.refused).lent
+    (λ x e y h. h.0) (λ x e y h. h.0) _ _ _ c.in-Err-crew_first_with.ensures.refused).lent
 
-pub returns-in-Err-crew_first-clause-refused : goal.returns-in-Err-crew_first-clause-refused
-returns-in-Err-crew_first-clause-refused g c =
+pub returns-in-Err-crew_first_with-clause-refused : goal.returns-in-Err-crew_first_with-clause-refused
+returns-in-Err-crew_first_with-clause-refused g c =
     (told-refusal _ _ _ _ _
     (prefix-same _ _
     (λ w. told_with w.out.problem.now w.out.proofs w.out.answers (Some (g.O.Sink.taken w.out.sink.now)) (g.O.Sink.faults w.out.sink.now)
     w.out.failed w.out.sink.ghost_name w.out.waiting.now.items)
-    (λ x e y h. h.0) (λ x e y h. h.0) _ _ _ c.in-Err-crew_first.ensures.refused).tells c.requires.unfailed
-    c.refusal_of-in-Err-crew_first.ensures.unwritable c.refusal_of-in-Err-crew_first.ensures.memory).0
+    (λ x e y h. h.0) (λ x e y h. h.0) _ _ _ c.in-Err-crew_first_with.ensures.refused).tells c.requires.unfailed
+    c.refusal_of-in-Err-crew_first_with.ensures.unwritable c.refusal_of-in-Err-crew_first_with.ensures.memory).0
 
-pub returns-in-Err-crew_first-clause-sink_told : goal.returns-in-Err-crew_first-clause-sink_told
-returns-in-Err-crew_first-clause-sink_told g c =
+pub returns-in-Err-crew_first_with-clause-sink_told : goal.returns-in-Err-crew_first_with-clause-sink_told
+returns-in-Err-crew_first_with-clause-sink_told g c =
     (told-refusal _ _ _ _ _
     (prefix-same _ _
     (λ w. told_with w.out.problem.now w.out.proofs w.out.answers (Some (g.O.Sink.taken w.out.sink.now)) (g.O.Sink.faults w.out.sink.now)
     w.out.failed w.out.sink.ghost_name w.out.waiting.now.items)
-    (λ x e y h. h.0) (λ x e y h. h.0) _ _ _ c.in-Err-crew_first.ensures.refused).tells c.requires.unfailed
-    c.refusal_of-in-Err-crew_first.ensures.unwritable c.refusal_of-in-Err-crew_first.ensures.memory).1
+    (λ x e y h. h.0) (λ x e y h. h.0) _ _ _ c.in-Err-crew_first_with.ensures.refused).tells c.requires.unfailed
+    c.refusal_of-in-Err-crew_first_with.ensures.unwritable c.refusal_of-in-Err-crew_first_with.ensures.memory).1
 
-pub returns-in-Err-crew_first-clause-prefix : goal.returns-in-Err-crew_first-clause-prefix
-returns-in-Err-crew_first-clause-prefix g c =
+pub returns-in-Err-crew_first_with-clause-prefix : goal.returns-in-Err-crew_first_with-clause-prefix
+returns-in-Err-crew_first_with-clause-prefix g c =
     let p = c.args.wanted.now.problem.now in
     rw (c.in-Some.is ∙ ap Some (sym (rw c.in-Some.is at c.requires.limit)))
-    (shown_front _ _ _ _ _ c.requires.ready.none (returns-in-Err-crew_first-clause-none g c)
+    (shown_front _ _ _ _ _ c.requires.ready.none (returns-in-Err-crew_first_with-clause-none g c)
     (lines-begun _ _
     (λ w. told_with w.out.problem.now w.out.proofs w.out.answers (Some (g.O.Sink.taken w.out.sink.now)) (g.O.Sink.faults w.out.sink.now)
     w.out.failed w.out.sink.ghost_name w.out.waiting.now.items)
     (λ x e y h. h.0) (λ x e y h. h.0) _ _ p (events_told (Some c.args.out.now.limit) p)
     (end_of_run (Some c.args.out.now.limit) p) (text_of_run (Some c.args.out.now.limit) c.args.out.now.out.proofs p)
-    c.requires.problem c.requires.answers.1 (told-text (Some c.args.out.now.limit) c.args.out.now.out.proofs p) c.in-Err-crew_first.ensures.refused))
+    c.requires.problem c.requires.answers.1 (told-text (Some c.args.out.now.limit) c.args.out.now.out.proofs p) c.in-Err-crew_first_with.ensures.refused))

@@ -12,7 +12,7 @@ use Rattle.std.proofs.lemmas.List.{append-nil, length-map, map-append, take-appe
 use Rattle.std.proofs.lemmas.List.{take_at, get_or_default}
 use Rattle.std.proofs.lemmas.List.Elements.{All-head, All-tail, All-cons}
 use Rattle.std.proofs.lemmas.Option.{get_or_from_slice_get}
-use Rattle.ll_lists.proofs.CallerLemmas.{each-push as push_all, map_map, same_front}
+use Rattle.ll_list_laws.proofs.CallerLemmas.{each-push as push_all, map_map, same_front}
 use Rattle.ll_bank.specs.declared.At.{At}
 use Rattle.ll_bank.specs.declared.Head.{Head}
 use Rattle.ll_bank.specs.declared.BankSize.{BankSize}
@@ -84,10 +84,6 @@ HasSize-append old ts fs size h =
 -- all nodes on lower ones have their size
 take_whole : {A : Type 0} (xs : List A) → take (length xs) xs ≡ xs
 take_whole xs = ap (take (length xs)) (sym (append-nil xs)) ∙ take_at xs [] (length xs) refl
-
-pub HasSize-all : (nodes : Nodes) → IsWellFounded nodes → HasSize nodes (size_of nodes)
-HasSize-all nodes low = let e : front nodes (size_of nodes) ≡ nodes = (λ i. record { terms = take_whole nodes.terms i; forms = take_whole nodes.forms i }) in
-    record { counts = ap size_of e; whole = subst IsWellFounded (sym e) low }
 
 -- and a bank that has its own size stands on lower nodes
 pub whole_of_size : (nodes : Nodes) (size : BankSize) → size ≡ size_of nodes → HasSize nodes size → IsWellFounded nodes

@@ -158,3 +158,45 @@ pub use Rattle.ll_bank.proofs.NameLaws.{length-with_name}
 pub use Rattle.ll_bank.proofs.NameLaws.{number_of-with_name}
 -- a number keeps its text as another text is added
 pub use Rattle.ll_bank.proofs.NameLaws.{slice_get-with_name}
+-- ---- walks over the terms under some terms
+
+-- one more than the greatest number of a list, or 0
+pub use Rattle.ll_bank.proofs.Ceiling.{ceiling}
+-- the ceiling is at most a number that is above all
+pub use Rattle.ll_bank.proofs.Ceiling.{ceiling-le}
+-- a number that stands last is below the ceiling
+pub use Rattle.ll_bank.proofs.Ceiling.{last_below}
+-- a step that takes the last place, and puts in places below it, lowers the ceiling
+pub use Rattle.ll_bank.proofs.WalkLemmas.{ceiling_falls}
+-- two numbers compare as equal where they are
+pub use Rattle.ll_bank.proofs.Ceiling.{is_at-nat}
+-- a test of keys after a key was put in
+pub use Rattle.ll_bank.proofs.WalkLemmas.{inserted}
+-- a key that was taken out changes nothing at other places
+pub use Rattle.ll_bank.proofs.WalkLemmas.{removed_other}
+-- after a key was taken out, what is a key was one before
+pub use Rattle.ll_bank.proofs.WalkLemmas.{removed_less}
+-- nothing is in a set without keys
+pub use Rattle.ll_bank.proofs.WalkLemmas.{none_in}
+-- a place that was put in is one more of the places of a list
+pub use Rattle.ll_bank.proofs.WalkLemmas.{more_any}
+-- one more place of a list
+pub use Rattle.ll_bank.proofs.WalkLemmas.{places_more}
+-- a number that is not above 0 is 0
+pub use Rattle.ll_bank.proofs.WalkLemmas.{zero_unless}
+-- a place that was entered into a map has its image
+pub use Rattle.ll_bank.proofs.ImageLemmas.{image_here}
+-- an entry into a map leaves the images of other places
+pub use Rattle.ll_bank.proofs.ImageLemmas.{image_there}
+-- ---- signs
+
+-- signs that compare as equal are the same
+pub use Rattle.ll_bank.proofs.SignLemmas.{same_sign}
+-- a sign compares as equal to itself
+pub use Rattle.ll_bank.proofs.SignLemmas.{sign_refl}
+-- ---- closing
+
+-- values show the same environment as their bank grows
+pub use Rattle.ll_bank.proofs.closes.Values.{env_extends}
+-- what stands for a bound place that one of the values closes
+pub use Rattle.ll_bank.proofs.closes.Values.{head_value}

@@ -11,7 +11,7 @@ use Rattle.std.proofs.lemmas.List.{append-nil, length-map, map-append, drop-appe
 use Rattle.std.proofs.lemmas.List.{drop_at}
 use Rattle.std.proofs.lemmas.List.Elements.{All-head, All-tail, All-push, All-take, All-cons}
 use Rattle.std.proofs.lemmas.List.Sums.{sum_by-cons}
-use Rattle.ll_lists.proofs.CallerLemmas.{map_same_on as same_nodes}
+use Rattle.ll_list_laws.proofs.CallerLemmas.{map_same_on as same_nodes}
 use Rattle.ll_bank.specs.declared.At.{At}
 use Rattle.ll_bank.specs.declared.Head.{Head}
 use Rattle.ll_bank.specs.declared.BankSize.{BankSize}

@@ -13,8 +13,8 @@ use Rattle.std.proofs.lemmas.Map.Made.{AllPairs-from_IsDistinct}
 use Rattle.std.proofs.lemmas.Option.{slice_get-get_or, get_or_from_slice_get, slice_get_within}
 use Rattle.std.proofs.lemmas.Slice.Eq.{bytes_eq-Decides}
 use Rattle.std.proofs.Math.ListN.{get_or-append}
-use Rattle.ll_lists.proofs.CallerLemmas.{position_within}
-use Rattle.ll_bank.specs.Names.{number_of, with_name, with_names}
+use Rattle.ll_list_laws.proofs.CallerLemmas.{position_within}
+use Rattle.ll_bank.specs.Names.{number_of, with_name}
 
 -- ---- the first place at which a test passes
 
@@ -200,19 +200,6 @@ slice_get-with_name texts text old n e = let b = behind texts text (list_any (by
 -- and a text its number
 pub number_of-with_name_old : (texts : List (List ℕ)) (text old : List ℕ) (n : ℕ) → number_of texts old ≡ Some n → number_of (with_name texts text) old ≡ Some n
 number_of-with_name_old texts text old n e = let b = behind texts text (list_any (bytes_eq text) texts) in rw b.1.0 (number_of-front texts b.0 old n e)
-
--- the same of several texts added in turn
-pub length-with_names : (texts more : List (List ℕ)) → length (with_names texts more) ≤ length texts + length more
-length-with_names texts [] = omega arith
-length-with_names texts (t ∷ more) = let a = length-with_names (with_name texts t) more in let b = length-with_name texts t in omega arith
-
-pub slice_get-with_names : (texts more : List (List ℕ)) (old : List ℕ) (n : ℕ) → slice_get texts n ≡ Some old → slice_get (with_names texts more) n ≡ Some old
-slice_get-with_names texts [] old n e = e
-slice_get-with_names texts (t ∷ more) old n e = slice_get-with_names (with_name texts t) more old n (slice_get-with_name texts t old n e)
-
-pub number_of-with_names : (texts more : List (List ℕ)) (old : List ℕ) (n : ℕ) → number_of texts old ≡ Some n → number_of (with_names texts more) old ≡ Some n
-number_of-with_names texts [] old n e = e
-number_of-with_names texts (t ∷ more) old n e = number_of-with_names (with_name texts t) more old n (number_of-with_name_old texts t old n e)
 
 -- ---- texts that are the bytes of keys, in a table of their places
 

@@ -245,7 +245,7 @@ fn are_same_children(children: &[At], others: &[At]) -> bool
     children == others
 }
 
-/// A number as 32 bits hold it. What they do not hold is want of memory.
+/// A number as 32 bits hold it. A number that they do not hold is refused as out of memory.
 pub(crate) fn in_32_bits(number: usize) -> Result<u32, OutOfMemory>
     ensures { IfOk result (λ same. same ≡ number) }
 {
@@ -275,7 +275,8 @@ fn store_app(
     args: &[At],
     depth: u32,
 ) -> Result<(), OutOfMemory>
-    ensures stored { OnOk result (terms.new.items ≡ terms.old.items ++ StoredApp depth head (span_from (length arguments.old.items) (length args.now)) ∷ []) }
+    ensures stored { OnOk result (terms.new.items
+        ≡ terms.old.items ++ StoredApp depth head (span_from (length arguments.old.items) (length args.now)) ∷ []) }
     ensures behind { OnOk result (arguments.new.items ≡ arguments.old.items ++ args.now) }
     ensures refused_terms { OnErr result (terms.new.items ≡ terms.old.items) }
     ensures refused_arguments { OnErr result (arguments.new.items ≡ arguments.old.items) }
@@ -296,7 +297,8 @@ fn store_form(
     arguments: &mut Vec<At>,
     node: FormNode<'_>,
 ) -> Result<(), OutOfMemory>
-    ensures stored { OnOk result (forms.new.items ≡ forms.old.items ++ stored_as (length arguments.old.items) node.entry ∷ []) }
+    ensures stored { OnOk result (forms.new.items
+        ≡ forms.old.items ++ stored_as (length arguments.old.items) node.entry ∷ []) }
     ensures behind { OnOk result (arguments.new.items ≡ arguments.old.items ++ load_arguments_of node.entry) }
     ensures refused_forms { OnErr result (forms.new.items ≡ forms.old.items) }
     ensures refused_arguments { OnErr result (arguments.new.items ≡ arguments.old.items) }

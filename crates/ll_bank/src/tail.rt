@@ -78,7 +78,8 @@ impl Bank {
         ensures size { OnOk result (size_of self.new ≡ tail.now.to) }
         ensures built { OnOk result (IsBuilt self.new) }
         // Where the old places show the trees of the tail's bank, the new ones do too.
-        ensures same { OnOk result ((bank : Nodes) → IsTailOf bank tail.now → SameTrees tail.now.from bank self.old → SameTrees tail.now.to bank self.new) }
+        ensures same { OnOk result ((bank : Nodes) → IsTailOf bank tail.now → SameTrees tail.now.from bank self.old
+            → SameTrees tail.now.to bank self.new) }
     {
         let flat = &tail.flat;
         add_terms(self, flat)?;
@@ -114,7 +115,8 @@ fn copy_forms(bank: &Bank, from: usize, to: usize, flat: &mut Flat) -> Result<()
 
 /// Puts the terms behind those of the bank. After a refusal the bank may have some of them.
 fn add_terms(bank: &mut Bank, flat: &Flat) -> Result<(), OutOfMemory>
-    requires { (i : ℕ) (d : TermNode) → i < length flat.now.nodes.terms → IsTermBelow (length bank.old.terms + i) (slice_index_or flat.now.nodes.terms i d) }
+    requires { (i : ℕ) (d : TermNode) → i < length flat.now.nodes.terms
+        → IsTermBelow (length bank.old.terms + i) (slice_index_or flat.now.nodes.terms i d) }
     ensures keeps { Extends bank.old bank.new }
     ensures added { OnOk result (bank.new ≡ with_terms bank.old flat.now.nodes.terms) }
 {

@@ -11,25 +11,25 @@ use Rattle.std.proofs.Math.Seq.{drop-cons}
 use Rattle.ll_bank.specs.declared.At.{At}
 use Rattle.ll_bank.specs.declared.Head.{Head}
 use Rattle.ll_bank.specs.declared.Head.TheVariants.{Name, Eigen, Bound}
-use Rattle.ll_bank.specs.Term.{Term, Var, Int, Con, Ap, Env, sub, app, apply, close, close_head, place, applies_heads, not_bound, occurs, same_predicate}
+use Rattle.ll_bank.specs.Term.{Term, Var, Int, Con, Ap, Env, sub, app, apply, close, place, applies_heads, not_bound, occurs, same_predicate}
 use Rattle.ll_bank.specs.Term.{head_eq}
 use Rattle.ll_bank.specs.Nodes.{Nodes, HasTerm, AllInTerms, ShowsTerm, Extends, term_tree, term_trees}
 use Rattle.ll_bank.proofs.CallerLemmas.{Extends-refl, Extends-trans, HasTerm-extends, term_tree-extends, AllInTerms-extends, close-apply, heads_args}
 use Rattle.ll_bank.proofs.CallerLemmas.{length-term_trees}
 use Rattle.ll_laws.specs.Unify.{and_then, diff, diff_lists, Solved, solve}
 use Rattle.ll_laws.proofs.CallerLemmas.{head_eq-refl}
-use Rattle.ll_close.specs.Closing.{env_of}
-use Rattle.ll_close.proofs.CallerLemmas.{env_extends, head_value}
-use Rattle.ll_equate.specs.declared.fresh.Fresh.{Fresh}
-use Rattle.ll_bindings.specs.Bindings.{Table, count, found, unbound, Reaches, stands, through, HasCells, KeepsCells, IsPlaceOf, IsTable, IsEnd, AreSame}
-use Rattle.ll_bindings.specs.Spines.{args_in, weight}
-use Rattle.ll_equate.specs.Pairs.{Alike}
-use Rattle.ll_equate.specs.Scanned.{is_bad}
-use Rattle.ll_equate.specs.Fresh.{AreClear, AreFresh, LeavesFresh}
-use Rattle.ll_equate.specs.Solving.{along, Solves, Settled, Settles, IsAnswer, wanted, spare}
-use Rattle.ll_bindings.proofs.CallerLemmas.{found-bound, found-extends, place-extends, args_in-app, weight-two}
-use Rattle.ll_equate.proofs.CallerLemmas.{diff-spine, diff-clash, diff-append, shape-app, spine-place, clash-int-app, solves-alike, solves-none, solves-clash}
-use Rattle.ll_equate.proofs.CallerLemmas.{solves-start, fresh-keeps, clear-args, clear-join, clear-same}
+use Rattle.ll_bank.specs.Closing.{env_of}
+use Rattle.ll_bank.proofs.CallerLemmas.{env_extends, head_value}
+use Rattle.ll_unify.specs.declared.fresh.Fresh.{Fresh}
+use Rattle.ll_unify.specs.Bindings.{Table, count, found, unbound, Reaches, stands, through, HasCells, KeepsCells, IsPlaceOf, IsTable, IsEnd, AreSame}
+use Rattle.ll_unify.specs.Spines.{args_in, weight}
+use Rattle.ll_unify.specs.Pairs.{Alike}
+use Rattle.ll_unify.specs.Scanned.{is_bad}
+use Rattle.ll_unify.specs.Fresh.{AreClear, AreFresh, LeavesFresh}
+use Rattle.ll_unify.specs.Solving.{along, Solves, Settled, Settles, IsAnswer, wanted, spare}
+use Rattle.ll_unify.proofs.CallerLemmas.{found-bound, found-extends, place-extends, args_in-app, weight-two}
+use Rattle.ll_unify.proofs.CallerLemmas.{diff-spine, diff-clash, diff-append, shape-app, spine-place, clash-int-app, solves-alike, solves-none, solves-clash}
+use Rattle.ll_unify.proofs.CallerLemmas.{solves-start, fresh-keeps, clear-args, clear-join, clear-same}
 use Rattle.ll_store.specs.declared.store.Store.{Store}
 use Rattle.ll_store.specs.Stored.{Stored, stored, KeepsMarks}
 use Rattle.ll_store.specs.Trails.{Grows}
@@ -151,12 +151,6 @@ value_shows nodes values k i d h l e = record {
   tree =
       sym (head_value nodes values 0 k i d (omega arith) (omega arith) (omega arith));
 }
-
--- a head without arguments
-pub shows_bare : (nodes : Nodes) (values : List At) (at : ℕ) (u : Term) (h : Head) (ats : List At) → u ≡ app h (term_trees nodes ats) → length ats ≡ 0
-    → ShowsTerm nodes at (close_head (env_of nodes values) h) → ShowsTerm nodes at (close (env_of nodes values) u)
-shows_bare nodes values at u h [] e n s = subst (λ w. ShowsTerm nodes at (close (env_of nodes values) w)) (sym e) s
-shows_bare nodes values at u h (a ∷ ats) e n s = absurd (omega arith)
 
 -- a place that is still an end where the bank grew
 pub end_more : (old new : Nodes) (t : Table) (at : ℕ) → IsTable old t → Extends old new → IsEnd old t at → IsEnd new t at

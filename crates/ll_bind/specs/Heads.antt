@@ -5,7 +5,7 @@ use Rattle.ll_bank.specs.declared.Head.{Head}
 use Rattle.ll_bank.specs.Term.{Term, Env, sub, app, close, applies_heads, not_bound}
 use Rattle.ll_bank.specs.Nodes.{Nodes, HasTerm, ShowsTerm, term_tree, term_trees}
 use Rattle.ll_laws.specs.Unify.{Clash as Differ, diff}
-use Rattle.ll_bindings.specs.Bindings.{Table, HasCells, IsPlaceOf}
+use Rattle.ll_unify.specs.Bindings.{Table, HasCells, IsPlaceOf}
 use Rattle.ll_bind.specs.declared.head.Equation.{Equation}
 use Rattle.ll_bind.specs.declared.head.Opened.{Opened}
 use Rattle.ll_bind.specs.declared.head.Opened.TheVariants.{Open, Clash, Shut}

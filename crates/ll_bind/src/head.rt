@@ -3,19 +3,17 @@ ghost use Rattle.std.specs.Prelude.{not, ◌≡◌, ◌≤◌, ◌<◌, ◌++◌
 ghost use Rattle.ll_bank.specs.declared.At.{At as AtView};
 ghost use Rattle.ll_bank.specs.Term.{head_eq, app, close, close_head, applies_heads, not_bound};
 ghost use Rattle.ll_bank.specs.Nodes.{term_tree, term_trees, HasTerm, AllInTerms, ShowsTerm, Extends};
-ghost use Rattle.ll_close.specs.Closing.{env_of};
-ghost use Rattle.ll_bindings.specs.Bindings.{IsTable, IsPlaceOf, IsEnd, HasCells, count};
-ghost use Rattle.ll_equate.specs.Fresh.{AreFresh, LeavesFresh, StandsNowhere};
-ghost use Rattle.ll_equate.specs.Solving.{IsSolved, Settles, wanted};
+ghost use Rattle.ll_bank.specs.Closing.{env_of};
+ghost use Rattle.ll_unify.specs.Bindings.{IsTable, IsPlaceOf, IsEnd, HasCells, count};
+ghost use Rattle.ll_unify.specs.Fresh.{AreFresh, LeavesFresh, StandsNowhere};
+ghost use Rattle.ll_unify.specs.Solving.{IsSolved, Settles, wanted};
 ghost use Rattle.ll_store.specs.Stored.{stored, KeepsMarks};
 ghost use Rattle.ll_store.specs.Tables.{table_of};
 ghost use Rattle.ll_bind.specs.Heads.{equate, pending, IsOpened};
 
-use ll_bank::{At, Bank, Head, OutOfMemory, TermView};
-use ll_bindings::walk;
-use ll_close::close_term;
-use ll_equate::{Fresh, unify_end};
+use ll_bank::{At, Bank, Head, OutOfMemory, TermView, close_term};
 use ll_store::Store;
+use ll_unify::{Fresh, unify_end, walk};
 use smallvec::SmallVec;
 use std::alloc::Global;
 
@@ -75,7 +73,8 @@ fn push_arguments(
     equations: &mut Equations,
 ) -> Result<Option<Equation>, OutOfMemory>
     requires { length places.now ≡ length patterns.now }
-    ensures { IfOk result (λ next. pending next equations.new.items ≡ equate places.now patterns.now ++ reverse equations.old.items) }
+    ensures { IfOk result (λ next. pending next equations.new.items ≡ equate places.now patterns.now
+        ++ reverse equations.old.items) }
 {
     let mut left = patterns.len();
     if left == 0 {
@@ -116,7 +115,8 @@ fn value(bank: &Bank, head: Head, values: &[At]) -> Option<At>
 /// The place that shows a pattern with its bound places closed, where it is a bound place without arguments that has a value.
 fn value_of(bank: &Bank, head: Head, args: &[At], values: &[At]) -> Option<At>
     requires { AllInTerms bank.now values.now }
-    ensures { IfSome result (λ at. ShowsTerm bank.now at.0 (close (env_of bank.now values.now) (app head (term_trees bank.now args.now)))) }
+    ensures { IfSome result (λ at. ShowsTerm bank.now at.0
+        (close (env_of bank.now values.now) (app head (term_trees bank.now args.now)))) }
 {
     if args.is_empty() {
         value(bank, head, values)
@@ -130,7 +130,8 @@ fn bare(bank: &Bank, pattern: At, head: Head, args: &[At], values: &[At]) -> Opt
     requires pattern { HasTerm bank.now pattern.0 }
     requires shape { term_tree bank.now pattern.0 ≡ app head (term_trees bank.now args.now) }
     requires fixed { not_bound head ≡ true }
-    ensures { IfSome result (λ at. ShowsTerm bank.now at.0 (close (env_of bank.now values.now) (term_tree bank.now pattern.0))) }
+    ensures { IfSome result (λ at. ShowsTerm bank.now at.0
+        (close (env_of bank.now values.now) (term_tree bank.now pattern.0))) }
 {
     if args.is_empty() { Some(pattern) } else { None }
 }
@@ -146,7 +147,8 @@ fn open(
     requires place { HasTerm bank.now place.0 }
     requires pattern { HasTerm bank.now pattern.0 }
     requires values { AllInTerms bank.now values.now }
-    ensures { IfOk result (IsOpened bank.now (env_of bank.now values.now) place.0 pattern.0 equations.old.items equations.new.items) }
+    ensures { IfOk result (IsOpened bank.now
+        (env_of bank.now values.now) place.0 pattern.0 equations.old.items equations.new.items) }
 {
     match bank.term_at(pattern) {
         TermView::Var(_) => Ok(Opened::Shut(Some(pattern))),
@@ -182,10 +184,12 @@ fn closed(
     values: &[At],
 ) -> Result<At, OutOfMemory>
     requires pattern { HasTerm bank.old pattern.0 }
-    requires value { IfSome value (λ at. ShowsTerm bank.old at.0 (close (env_of bank.old values.now) (term_tree bank.old pattern.0))) }
+    requires value { IfSome value
+        (λ at. ShowsTerm bank.old at.0 (close (env_of bank.old values.now) (term_tree bank.old pattern.0))) }
     requires values { AllInTerms bank.old values.now }
     requires heads { applies_heads (close (env_of bank.old values.now) (term_tree bank.old pattern.0)) ≡ true }
-    ensures shows { IfOk result (λ made. ShowsTerm bank.new made.0 (close (env_of bank.old values.now) (term_tree bank.old pattern.0))) }
+    ensures shows { IfOk result (λ made. ShowsTerm bank.new made.0
+        (close (env_of bank.old values.now) (term_tree bank.old pattern.0))) }
     ensures keeps { Extends bank.old bank.new }
 {
     match value {
@@ -207,15 +211,23 @@ fn meet(
     requires store { IsTable store.old.bank (table_of store.old.cells.cells) }
     requires place { IsEnd store.old.bank (table_of store.old.cells.cells) place.0 }
     requires pattern { HasTerm store.old.bank pattern.0 }
-    requires value { IfSome value (λ at. ShowsTerm store.old.bank at.0 (close (env_of store.old.bank values.now) (term_tree store.old.bank pattern.0))) }
+    requires value { IfSome value
+        (λ at. ShowsTerm store.old.bank at.0
+        (close (env_of store.old.bank values.now) (term_tree store.old.bank pattern.0))) }
     requires values { AllInTerms store.old.bank values.now }
-    requires heads { applies_heads (close (env_of store.old.bank values.now) (term_tree store.old.bank pattern.0)) ≡ true }
-    requires vars { HasCells store.old.bank (table_of store.old.cells.cells) (close (env_of store.old.bank values.now) (term_tree store.old.bank pattern.0)) }
-    requires fresh { AreFresh store.old.bank (table_of store.old.cells.cells) fresh.old (term_tree store.old.bank place.0 ∷ []) }
-    ensures settles { IfOk result (Settles store.new.bank (table_of store.old.cells.cells) (table_of store.new.cells.cells)
-        (term_tree store.old.bank place.0 ∷ []) (close (env_of store.old.bank values.now) (term_tree store.old.bank pattern.0) ∷ [])) }
-    ensures fresh { IfOk result (λ good. good ≡ true → LeavesFresh store.new.bank (table_of store.old.cells.cells) (table_of store.new.cells.cells) fresh.old
-        fresh.new (term_tree store.old.bank place.0 ∷ []) []) }
+    requires heads { applies_heads (close (env_of store.old.bank values.now) (term_tree store.old.bank pattern.0))
+        ≡ true }
+    requires vars { HasCells store.old.bank (table_of store.old.cells.cells)
+        (close (env_of store.old.bank values.now) (term_tree store.old.bank pattern.0)) }
+    requires fresh { AreFresh store.old.bank (table_of store.old.cells.cells) fresh.old
+        (term_tree store.old.bank place.0 ∷ []) }
+    ensures settles { IfOk result
+        (Settles store.new.bank (table_of store.old.cells.cells) (table_of store.new.cells.cells)
+        (term_tree store.old.bank place.0 ∷ [])
+        (close (env_of store.old.bank values.now) (term_tree store.old.bank pattern.0) ∷ [])) }
+    ensures fresh { IfOk result (λ good. good ≡ true
+        → LeavesFresh store.new.bank (table_of store.old.cells.cells)
+        (table_of store.new.cells.cells) fresh.old fresh.new (term_tree store.old.bank place.0 ∷ []) []) }
     ensures keeps { Extends store.old.bank store.new.bank }
     ensures marks { KeepsMarks (stored store.old) (stored store.new) }
 {
@@ -227,7 +239,7 @@ fn meet(
 ///
 /// The bound places of the head stand for values, the outermost first. Of the head only what a variable of the atom is bound to is built.
 /// The variables from `first` on are those of the clause, made just before: none of them stands in the atom or in what another variable
-/// stands for, none has a lower level than another variable, and the eigenconstants in the atom and in what variables stand for are below
+/// stands for, none has a lower level than another variable, and the eigenvariables in the atom and in what variables stand for are below
 /// their level. Where one is met in the head for the first time it takes the end of what stands against it, without a look through that:
 /// it can't stand there, and no level falls. The first 64 of them are told apart; those past them are looked for each time.
 ///
@@ -247,11 +259,13 @@ pub fn unify_head(
     requires head { HasTerm store.old.bank head.0 }
     requires values { AllInTerms store.old.bank values.now }
     requires heads { applies_heads (close (env_of store.old.bank values.now) (term_tree store.old.bank head.0)) ≡ true }
-    requires vars { HasCells store.old.bank (table_of store.old.cells.cells) (close (env_of store.old.bank values.now) (term_tree store.old.bank head.0)) }
+    requires vars { HasCells store.old.bank (table_of store.old.cells.cells)
+        (close (env_of store.old.bank values.now) (term_tree store.old.bank head.0)) }
     requires new { (x : ℕ) → first ≤ x → x < count (table_of store.old.cells.cells)
         → StandsNowhere store.old.bank (table_of store.old.cells.cells) (term_tree store.old.bank atom.0 ∷ []) x }
-    ensures solved { IfOk result (IsSolved store.new.bank (table_of store.old.cells.cells) (table_of store.new.cells.cells)
-        (wanted store.old.bank (table_of store.old.cells.cells) (term_tree store.old.bank atom.0 ∷ [])
+    ensures solved { IfOk result (IsSolved store.new.bank (table_of store.old.cells.cells)
+        (table_of store.new.cells.cells) (wanted store.old.bank (table_of store.old.cells.cells)
+        (term_tree store.old.bank atom.0 ∷ [])
         (close (env_of store.old.bank values.now) (term_tree store.old.bank head.0) ∷ []))) }
     ensures keeps { Extends store.old.bank store.new.bank }
     ensures marks { KeepsMarks (stored store.old) (stored store.new) }

@@ -6,8 +6,8 @@ mod head;
 ghost use Rattle.std.specs.Prelude.{◌≡◌, true, length, All, IfOk};
 ghost use Rattle.ll_bank.specs.declared.At.{At as AtView};
 ghost use Rattle.ll_bank.specs.Nodes.{term_trees};
-ghost use Rattle.ll_bindings.specs.Bindings.{IsTable, IsPlaceOf, KeepsCells};
-ghost use Rattle.ll_equate.specs.Solving.{IsSolved, wanted};
+ghost use Rattle.ll_unify.specs.Bindings.{IsTable, IsPlaceOf, KeepsCells};
+ghost use Rattle.ll_unify.specs.Solving.{IsSolved, wanted};
 ghost use Rattle.ll_store.specs.Stored.{stored, KeepsMarks};
 ghost use Rattle.ll_store.specs.Tables.{table_of};
 
@@ -35,11 +35,13 @@ pub fn unify(
     requires pairs { length left.now ≡ length right.now }
     requires left { All (λ (at : AtView). IsPlaceOf store.old.bank (table_of store.old.cells.cells) at.0) left.now }
     requires right { All (λ (at : AtView). IsPlaceOf store.old.bank (table_of store.old.cells.cells) at.0) right.now }
-    ensures cells { IfOk result (λ good. good ≡ true → KeepsCells store.old.bank (table_of store.old.cells.cells) (table_of store.new.cells.cells)) }
-    ensures solved { IfOk result (IsSolved store.old.bank (table_of store.old.cells.cells) (table_of store.new.cells.cells)
-        (wanted store.old.bank (table_of store.old.cells.cells) (term_trees store.old.bank left.now) (term_trees store.old.bank right.now))) }
+    ensures cells { IfOk result (λ good. good ≡ true
+        → KeepsCells store.old.bank (table_of store.old.cells.cells) (table_of store.new.cells.cells)) }
+    ensures solved { IfOk result (IsSolved store.old.bank (table_of store.old.cells.cells)
+        (table_of store.new.cells.cells) (wanted store.old.bank (table_of store.old.cells.cells)
+        (term_trees store.old.bank left.now) (term_trees store.old.bank right.now))) }
     ensures bank { store.new.bank ≡ store.old.bank }
     ensures marks { KeepsMarks (stored store.old) (stored store.new) }
 {
-    ll_equate::unify(alloc, &store.bank, &mut store.cells, left, right)
+    ll_unify::unify(alloc, &store.bank, &mut store.cells, left, right)
 }

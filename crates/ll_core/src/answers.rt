@@ -22,7 +22,7 @@ pub enum Claimed<N: Drop> {
 pub enum PublishFault<N: Drop> {
     /// With this batch the pool, which has `total` alternatives, would have more than 4,294,967,295.
     Full { total: u32, batch: Arc<N> },
-    /// Memory was wanting.
+    /// Memory ran out.
     OutOfMemory { batch: Arc<N> },
 }
 

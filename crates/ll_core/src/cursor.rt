@@ -34,9 +34,9 @@ pub(crate) fn advance(stack: &mut Vec<Stop>, published: &Vec<u32>, stop: Stop, l
     requires top { 0 < length stack.old.items }
     requires inside { stop.k < len }
     requires room { length stack.old.items + length published.now.items ≤ vec_capacity stack.old }
-    ensures items { (base : List Stop) → stack.old.items ≡ base ++ stop ∷ []
-        → map stop_in stack.new.items ≡ (map stop_in base ++ (if nat_lt (stop.k + 1) len then record { batch = stop.batch; k = stop.k + 1 } ∷ [] else []))
-        ++ map begin published.now.items }
+    ensures items { (base : List Stop) → stack.old.items ≡ base ++ stop ∷ [] → map stop_in stack.new.items
+        ≡ (map stop_in base ++ (if nat_lt (stop.k + 1) len then record { batch = stop.batch; k = stop.k + 1 } ∷ []
+        else [])) ++ map begin published.now.items }
     ensures capacity { vec_capacity stack.new ≡ vec_capacity stack.old }
 {
     let _done = stack.take_last();

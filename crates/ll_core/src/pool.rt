@@ -149,7 +149,7 @@ impl<N: Batch> Pool<N> {
     /// Publishes a batch, which is not empty, of an open piece.
     ///
     /// `Full` exactly where the pool would have more than 4,294,967,295 alternatives, which is judged before memory is asked for;
-    /// otherwise `OutOfMemory` where memory is wanting. Either hands the batch back and leaves the pool as it is. After `Ok` there is
+    /// otherwise `OutOfMemory` where memory runs out. Either hands the batch back and leaves the pool as it is. After `Ok` there is
     /// room for all that its pieces will need.
     pub fn publish(&mut self, piece: u32, batch: Arc<N>) -> Result<(), PublishFault<N>>
         requires open { IsOpenAt self.old piece }

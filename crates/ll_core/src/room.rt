@@ -70,7 +70,8 @@ pub(crate) fn take_room<N: Batch>(
     ensures batches { batches.new.items ≡ batches.old.items }
     ensures pieces { map piece_in pieces.new.items ≡ map piece_in pieces.old.items }
     ensures capacity { vec_capacity pieces.old ≤ vec_capacity pieces.new }
-    ensures ok { OnOk result ((waiting.new.items ≡ waiting.old.items ++ copies.old.items) × (vec_len batches.new < vec_capacity batches.new)
+    ensures ok { OnOk result ((waiting.new.items ≡ waiting.old.items ++ copies.old.items)
+        × (vec_len batches.new < vec_capacity batches.new)
         × (length pieces.new.items + length waiting.new.items ≤ vec_capacity pieces.new)
         × HoldsAt (λ s. vec_len s.published < vec_capacity s.published) pieces.new.items at) }
     ensures err { OnErr result (waiting.new.items ≡ waiting.old.items) }

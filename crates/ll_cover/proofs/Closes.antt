@@ -68,7 +68,3 @@ closing-stops bank at waits p w member e = by (is_closed (term_tree bank at)) re
     by : (b : Bool) → is_closed (term_tree bank at) ≡ b → false ≡ b
     by true h = absurd (true≢false (sym (w.needed h p member) ∙ e))
     by false h = refl
-
--- at its end nothing waits
-pub closing-ends : (bank : Nodes) (at : ℕ) (waits : ℕ → Bool) → IsClosedBy bank at waits → ((k : ℕ) → waits k ≢ true) → true ≡ is_closed (term_tree bank at)
-closing-ends bank at waits w none = sym (w.enough (λ k h. absurd (none k h)))

@@ -10,7 +10,7 @@ use Rattle.std.proofs.lemmas.Bool.{cases_eq, cases_lt, eq-eqb, ne_eqb, cond-true
 use Rattle.ll_bank.specs.declared.At.{At}
 use Rattle.ll_bank.specs.Term.{Term, Var, sub, is_closed}
 use Rattle.ll_bank.specs.Nodes.{Nodes, term_tree, term_trees}
-use Rattle.ll_terms.proofs.CallerLemmas.{ceiling, ceiling-le, last_below, is_at-nat}
+use Rattle.ll_bank.proofs.CallerLemmas.{ceiling, ceiling-le, last_below, is_at-nat}
 use Rattle.ll_laws.specs.Instance.{IsInstance}
 use Rattle.ll_cover.specs.declared.matching.Found.{Found}
 use Rattle.ll_cover.specs.Matching.{HasPlaces, AreBelow, AllBelow, Meets, Makes, Looks, IsMatching}

@@ -53,7 +53,7 @@ pub record Makes (bank other : Nodes) (found : Found) (g : ℕ → Term) : Type 
   pub values : Agrees other (get nat_cmp found.values) g
 
 -- a place was looked at: what was found after it says what it said before, and that the place becomes its image
-pub record Goes (bank : Nodes) (place : ℕ) (other : Nodes) (image : ℕ) (old new : Found) : Type 0 where
+pub record Matched (bank : Nodes) (place : ℕ) (other : Nodes) (image : ℕ) (old new : Found) : Type 0 where
   pub keeps : (g : ℕ → Term) → Makes bank other new g → Makes bank other old g
   pub asks : (g : ℕ → Term) → Makes bank other new g → sub g (term_tree bank place) ≡ term_tree other image
   pub enough : (g : ℕ → Term) → Makes bank other old g → sub g (term_tree bank place) ≡ term_tree other image → Makes bank other new g
@@ -64,7 +64,7 @@ pub record Goes (bank : Nodes) (place : ℕ) (other : Nodes) (image : ℕ) (old 
 
 -- the place can become its image, or it can't beside what was found, with closed terms for the variables
 abbrev pub Looks : Nodes → ℕ → Nodes → ℕ → Found → Found → Bool → Type 0
-Looks bank place other image old new true = Goes bank place other image old new
+Looks bank place other image old new true = Matched bank place other image old new
 Looks bank place other image old new false = (g : ℕ → Term) → IsClosing g → Makes bank other old g → sub g (term_tree bank place) ≡ term_tree other image → ⊥
 
 -- a match is on its way: what was found says exactly that the substitution makes these terms of those

@@ -31,7 +31,8 @@ pub fn is_closed(alloc: Global, bank: &Bank, at: At) -> Result<bool, OutOfMemory
 // The arguments of a term, which is closed exactly where these are; none where its head is a bound place.
 fn parts(bank: &Bank, at: At) -> Option<&[At]>
     requires { HasTerm bank.now at.0 }
-    ensures { MatchOption result (closed_term (term_tree bank.now at.0) ≡ false) (λ args. ArePartsOf bank.now at.0 args.now) }
+    ensures { MatchOption result (closed_term (term_tree bank.now at.0) ≡ false)
+        (λ args. ArePartsOf bank.now at.0 args.now) }
 {
     match bank.term_at(at) {
         TermView::Var(_) => Some(&[]),
@@ -44,7 +45,8 @@ fn parts(bank: &Bank, at: At) -> Option<&[At]>
 
 // Puts places among those that wait. After a refusal some of them may be there.
 fn insert_all(waiting: &mut BTreeSet<usize>, more: &[At]) -> Result<(), OutOfMemory>
-    ensures { OnOk result ((at : ℕ) → contains nat_cmp waiting.new at ≡ (contains nat_cmp waiting.old at || list_any (nat_eq at) (places more.now))) }
+    ensures { OnOk result ((at : ℕ) → contains nat_cmp waiting.new at
+        ≡ (contains nat_cmp waiting.old at || list_any (nat_eq at) (places more.now))) }
 {
     for place in more {
         waiting.insert(place.0)?;

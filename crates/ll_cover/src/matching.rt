@@ -9,7 +9,6 @@ ghost use Rattle.ll_cover.specs.Matching.{HasPlaces, AreBelow, AllClosed, Meets,
 
 use crate::closing::is_closed;
 use ll_bank::{At, Bank, Head, OutOfMemory, TermView};
-use ll_terms::equal;
 use std::alloc::Global;
 use std::collections::BTreeMap;
 
@@ -109,10 +108,11 @@ fn meet_all(
     requires pairs { length places.now ≡ length others.now }
     requires inside { AllInTerms bank.now others.now }
     requires images { HasPlaces bank.now (get nat_cmp images.old) }
-    ensures met { IfOk result (Meets bank.now (λ want. map (λ a. want a.0) places.now ≡ term_trees bank.now others.now) (get nat_cmp images.old)
-        (get nat_cmp images.new)) }
+    ensures met { IfOk result (Meets bank.now (λ want. map (λ a. want a.0) places.now
+        ≡ term_trees bank.now others.now) (get nat_cmp images.old) (get nat_cmp images.new)) }
     ensures images { OnOk result (HasPlaces bank.now (get nat_cmp images.new)) }
-    ensures below { OnOk result ((limit : ℕ) → AllBelow limit places.now → AreBelow limit (get nat_cmp images.old) → AreBelow limit (get nat_cmp images.new)) }
+    ensures below { OnOk result ((limit : ℕ) → AllBelow limit places.now → AreBelow limit (get nat_cmp images.old)
+        → AreBelow limit (get nat_cmp images.new)) }
 {
     for (i, place) in places.iter().enumerate() {
         if !meet(images, *place, bank, others[i])? {
@@ -131,9 +131,11 @@ fn meet(
 ) -> Result<bool, OutOfMemory>
     requires inside { HasTerm bank.now image.0 }
     requires images { HasPlaces bank.now (get nat_cmp images.old) }
-    ensures met { IfOk result (Meets bank.now (λ want. want place.0 ≡ term_tree bank.now image.0) (get nat_cmp images.old) (get nat_cmp images.new)) }
+    ensures met { IfOk result (Meets bank.now (λ want. want place.0 ≡ term_tree bank.now image.0)
+        (get nat_cmp images.old) (get nat_cmp images.new)) }
     ensures images { OnOk result (HasPlaces bank.now (get nat_cmp images.new)) }
-    ensures below { OnOk result ((limit : ℕ) → place.0 < limit → AreBelow limit (get nat_cmp images.old) → AreBelow limit (get nat_cmp images.new)) }
+    ensures below { OnOk result ((limit : ℕ) → place.0 < limit → AreBelow limit (get nat_cmp images.old)
+        → AreBelow limit (get nat_cmp images.new)) }
 {
     match images.get(&place.0).copied() {
         Some(first) => same(bank, first, image),
@@ -154,9 +156,11 @@ fn meet_variable(
 ) -> Result<bool, OutOfMemory>
     requires inside { HasTerm bank.now value.0 }
     requires values { HasPlaces bank.now (get nat_cmp values.old) }
-    ensures met { IfOk result (MeetsClosed bank.now (λ want. want variable ≡ term_tree bank.now value.0) (get nat_cmp values.old) (get nat_cmp values.new)) }
+    ensures met { IfOk result (MeetsClosed bank.now (λ want. want variable ≡ term_tree bank.now value.0)
+        (get nat_cmp values.old) (get nat_cmp values.new)) }
     ensures values { OnOk result (HasPlaces bank.now (get nat_cmp values.new)) }
-    ensures closed { OnOk result (AllClosed bank.now (get nat_cmp values.old) → AllClosed bank.now (get nat_cmp values.new)) }
+    ensures closed { OnOk result (AllClosed bank.now (get nat_cmp values.old)
+        → AllClosed bank.now (get nat_cmp values.new)) }
 {
     match values.get(&variable).copied() {
         Some(first) => same(bank, first, value),
@@ -179,5 +183,5 @@ fn same(bank: &Bank, first: At, second: At) -> Result<bool, OutOfMemory>
     if first == second {
         return Ok(true);
     }
-    equal(bank, first, bank, second)
+    bank.equal(first, bank, second)
 }

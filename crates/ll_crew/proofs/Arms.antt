@@ -12,12 +12,12 @@ use Rattle.ll_crew.specs.Offers.{IfTaken, IfBack}
 use Rattle.ll_crew.specs.declared.sharing.Offered.{Offered}
 use Rattle.ll_crew.specs.declared.sharing.Offered.TheVariants.{Taken}
 use Rattle.ll_crew.specs.declared.sharing.Offered.TheVariants as came
-use Rattle.ll_crew.specs.Runs.{RunsTo, EndsTo, WentTo, TakesTurn}
+use Rattle.ll_crew.specs.Runs.{RunsTo, EndsTo, WentTo}
 use Rattle.ll_crew.specs.declared.piece.Ending.{Ending}
 use Rattle.ll_crew.specs.declared.piece.Ending.TheVariants as ending
 use Rattle.ll_crew.specs.declared.piece.Ran.{Ran}
 use Rattle.ll_crew.specs.declared.piece.Ran.TheVariants.{Back}
-use Rattle.ll_crew.specs.declared.worker.Went.{Went}
+use Rattle.ll_crew.specs.declared.worker.ClaimOutcome.{ClaimOutcome}
 
 pub some_of : {X : Type 0} (P : X → Type 0) (o : Option X) (x : X) → o ≡ Some x → IfSome o P → P x
 some_of P o x e h = subst (λ p. IfSome p P) e h
@@ -41,17 +41,9 @@ some_on (Ok None) P Q h f = tt
 some_on (Ok (Some n)) P Q h f = f n h
 some_on (Err e) P Q h f = tt
 
-pub none_on : {E : Type 0} (result : Result (Option ℕ) E) (P Q : Type 0) → IfOk result (λ o. IfNone o P) → (P → Q) → IfOk result (λ o. IfNone o Q)
-none_on (Ok None) P Q h f = f h
-none_on (Ok (Some n)) P Q h f = tt
-none_on (Err e) P Q h f = tt
-
-pub went_as : (standing end : Type 0) (refused : Type 0) (problem : ProblemTree) (went went' : Went) (s a : Sat) → went ≡ went'
+pub went_as : (standing end : Type 0) (refused : Type 0) (problem : ProblemTree) (went went' : ClaimOutcome) (s a : Sat) → went ≡ went'
     → WentTo standing end refused problem went s a → WentTo standing end refused problem went' s a
 went_as standing end refused problem went went' s a is r = subst (λ x. WentTo standing end refused problem x s a) is r
-
-pub turn_as : (went went' : Went) (s a : Sat) → went ≡ went' → TakesTurn went s a → TakesTurn went' s a
-turn_as went went' s a is t = subst (λ x. TakesTurn x s a) is t
 
 pub taken_of : (P : ℕ → Type 0) (offered : Offered) (others : ℕ) → offered ≡ Taken others → IfTaken offered P → P others
 taken_of P offered others is h = subst (λ o. IfTaken o P) is h

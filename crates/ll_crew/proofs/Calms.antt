@@ -1,6 +1,6 @@
 -- Turns that take no report and neither starve nor stop the pool.
 use Rattle.std.proofs.Common.{◌≡◌, ◌+◌, List, Bool, true, false, not, ◌&&◌, ◌||◌, refl, sym, ap, ◌∙◌, subst, Option, Some}
-use Rattle.ll_lists.proofs.CallerLemmas.{some_is}
+use Rattle.ll_list_laws.proofs.CallerLemmas.{some_is}
 use Rattle.ll_laws.specs.declared.Event.{Event}
 use Rattle.ll_laws.specs.Pool.{Owed, PoolData}
 use Rattle.ll_laws.specs.Sound.{Sound}

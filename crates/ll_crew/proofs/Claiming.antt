@@ -12,19 +12,19 @@ use Rattle.ll_laws.specs.Problem.{ProblemTree}
 use Rattle.ll_freeze.specs.Frozen.{FrozenSight, alternatives_in}
 use Rattle.ll_crew.specs.Seats.{Sat, asked, of_batch, HasLeft}
 use Rattle.ll_crew.specs.Leading.{StandsOf, StoppedOf, WasRefused}
-use Rattle.ll_crew.specs.Turns.{Stays, Goes, Leaves, Ended, Fails}
-use Rattle.ll_crew.specs.declared.lead.Told.{Told}
+use Rattle.ll_crew.specs.Turns.{Stays, KeepsPiece, LeavesPool, Ended, Fails}
+use Rattle.ll_crew.specs.declared.lead.Delivery.{Delivery}
 use Rattle.ll_crew.proofs.Calms.{same_itself, same_on, turn_same, turn_seen, seen_sound, calm_claim}
 use Rattle.ll_crew.proofs.Goings.{stands_calm, prefix_stands}
 
 module _ {O F : Type 0} (ways : Ghosts O F) (start : O) (problem : ProblemTree) where
-  abbrev Standing : Sat → O → Told → Type 0
+  abbrev Standing : Sat → O → Delivery → Type 0
   Standing = StandsOf ways start problem
 
-  abbrev Stopping : O → Told → Type 0
+  abbrev Stopping : O → Delivery → Type 0
   Stopping = StoppedOf ways start problem
 
-  module _ (answer : Claimed FrozenSight) (s a : Sat) (out : O) (told : Told)
+  module _ (answer : Claimed FrozenSight) (s a : Sat) (out : O) (told : Delivery)
       (t : OneTurn of_batch alternatives_in (λ found left. ClaimsAs alternatives_in found s.mine.worker answer left) s a)
       (is : s.problem ≡ Some (asked problem)) (st : Standing s out told) where
     pub claim_stands : Standing a out told
@@ -33,7 +33,7 @@ module _ {O F : Type 0} (ways : Ghosts O F) (start : O) (problem : ProblemTree) 
     pub claim_stays : Stays (Standing a out told) s a
     claim_stays = let c = calm_claim answer s a t in record { same = c.same; quit = c.quit; stands = claim_stands }
 
-    leaves_with : HasLeft a → Leaves (Stopping out told) (WasRefused told) s a
+    leaves_with : HasLeft a → LeavesPool (Stopping out told) (WasRefused told) s a
     leaves_with left = let c = calm_claim answer s a t in record {
       same = c.same;
       left = left;
@@ -42,20 +42,20 @@ module _ {O F : Type 0} (ways : Ghosts O F) (start : O) (problem : ProblemTree) 
           prefix_stands ways start problem a out told claim_stands;
     }
 
-  pub claim_starved : (s a : Sat) (out : O) (told : Told) → OneTurn of_batch alternatives_in
+  pub claim_starved : (s a : Sat) (out : O) (told : Delivery) → OneTurn of_batch alternatives_in
       (λ found left. ClaimsAs alternatives_in found s.mine.worker Starved left) s a → s.problem ≡ Some (asked problem) → Standing s out told
-      → Leaves (Stopping out told) (WasRefused told) s a
+      → LeavesPool (Stopping out told) (WasRefused told) s a
   claim_starved s a out told t is st = let d = t.changed in leaves_with Starved s a out told t is st
       (inl (ap (λ (p : PoolData FrozenSight Event). p.starved) (turn_seen _ s a t ∙ d.2) ∙ d.1))
 
-  pub claim_stopped : (s a : Sat) (out : O) (told : Told) → OneTurn of_batch alternatives_in
+  pub claim_stopped : (s a : Sat) (out : O) (told : Delivery) → OneTurn of_batch alternatives_in
       (λ found left. ClaimsAs alternatives_in found s.mine.worker Stopped left) s a → s.problem ≡ Some (asked problem) → Standing s out told
-      → Leaves (Stopping out told) (WasRefused told) s a
+      → LeavesPool (Stopping out told) (WasRefused told) s a
   claim_stopped s a out told t is st = let d = t.changed in leaves_with Stopped s a out told t is st
       (inr (ap (λ (p : PoolData FrozenSight Event). p.stopped) (turn_seen _ s a t ∙ d.1) ∙ d.0))
 
   -- nothing is untried or open
-  pub claim_ended : (s a : Sat) (out : O) (told : Told) → OneTurn of_batch alternatives_in
+  pub claim_ended : (s a : Sat) (out : O) (told : Delivery) → OneTurn of_batch alternatives_in
       (λ found left. ClaimsAs alternatives_in found s.mine.worker Finished left) s a → s.problem ≡ Some (asked problem) → Standing s out told
       → a.mine.piece ≡ None
       → Ended (Standing a out told) problem s a
@@ -69,7 +69,7 @@ module _ {O F : Type 0} (ways : Ghosts O F) (start : O) (problem : ProblemTree) 
         busy = ap (λ (p : PoolData FrozenSight Event). p.busy) (turn_seen _ s a t ∙ d.3) ∙ d.2;
       }
 
-pub stays_out : (x e refused : Type 0) (s a b : Sat) → Stays x s a → Leaves e refused a b → Leaves e refused s b
+pub stays_out : (x e refused : Type 0) (s a b : Sat) → Stays x s a → LeavesPool e refused a b → LeavesPool e refused s b
 stays_out x e refused s a b f g = record { same = same_on s a b f.same g.same; left = g.left; quit = λ h. g.quit h ∙ f.quit; stopped = g.stopped }
 
 pub stays_on : (x y : Type 0) (s a b : Sat) → Stays x s a → Stays y a b → Stays y s b
@@ -79,7 +79,7 @@ stays_on x y s a b f g = record { same = same_on s a b f.same g.same; quit = g.q
 pub stays_here : (x : Type 0) (s : Sat) → x → Stays x s s
 stays_here x s stands = record { same = same_itself s; quit = refl; stands = stands }
 
-pub goes_stays : (x : Type 0) (s a : Sat) → Goes x s a → Stays x s a
+pub goes_stays : (x : Type 0) (s a : Sat) → KeepsPiece x s a → Stays x s a
 goes_stays x s a go = record { same = go.same; quit = go.quit; stands = go.stands }
 
 -- it goes on, and then has come to the end
@@ -92,8 +92,8 @@ ended_on x y problem s a b f g = record {
   busy = g.busy;
 }
 
--- want of memory: the pool is starved
-pub starve_fails : {O F : Type 0} (ways : Ghosts O F) (start : O) (problem : ProblemTree) (s a b : Sat) (out : O) (told : Told)
+-- memory ran out: the pool is starved
+pub starve_fails : {O F : Type 0} (ways : Ghosts O F) (start : O) (problem : ProblemTree) (s a b : Sat) (out : O) (told : Delivery)
     → Stays (StandsOf ways start problem a out told) s a
     → OneTurn of_batch alternatives_in (λ found left. Does alternatives_in found (Starve a.mine.worker) left) a b
     → Fails (StoppedOf ways start problem out told) s b

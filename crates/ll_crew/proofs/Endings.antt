@@ -4,7 +4,7 @@ use Rattle.std.proofs.Common.{Option, None, Some, Result, Ok, Err, IfOk, OnErr}
 use Rattle.std.specs.Prelude.{count_by, MatchOption}
 use Rattle.std.proofs.lemmas.List.Concat.{flat_map-append}
 use Rattle.std.proofs.lemmas.List.Sums.{sum_by-append}
-use Rattle.ll_lists.proofs.CallerLemmas.{some_is as some_same}
+use Rattle.ll_list_laws.proofs.CallerLemmas.{some_is as some_same}
 use Rattle.ll_laws.specs.declared.Event.{Event}
 use Rattle.ll_laws.specs.declared.Counts.{Counts}
 use Rattle.ll_laws.specs.Pool.{Owed, PoolData}
@@ -17,7 +17,7 @@ use Rattle.ll_order.specs.Outlets.{Rose, Gives, GivesPrefix, Refuses, CountsOf, 
 use Rattle.ll_order.specs.declared.outlet.OutFault.{OutFault}
 use Rattle.ll_order.specs.declared.outlet.OutFault.TheVariants.{Write}
 use Rattle.ll_order.proofs.CallerLemmas.{gives_more, refuses_more}
-use Rattle.ll_pool.specs.Fits.{Fits}
+use Rattle.ll_pool.specs.Fits.{SeatFits}
 use Rattle.ll_pool.specs.declared.data.PoolProblem.{PoolProblem}
 use Rattle.ll_laws.specs.Problem.{ProblemTree}
 use Rattle.ll_freeze.specs.Frozen.{FrozenSight, problem_owes, alternatives_in}
@@ -25,7 +25,7 @@ use Rattle.ll_crew.specs.Alternatives.{events_in, cost_in}
 use Rattle.ll_crew.specs.Seats.{Sat, asked, of_batch, IsSound}
 use Rattle.ll_crew.specs.Leading.{Kept, Leads, Broke, StandsOf, StoppedOf, PrefixGiven}
 use Rattle.ll_crew.specs.Turns.{Ended}
-use Rattle.ll_crew.specs.declared.lead.Told.{Told}
+use Rattle.ll_crew.specs.declared.lead.Delivery.{Delivery}
 use Rattle.ll_crew.proofs.Leadings.{kept_itself}
 
 module _ {O F : Type 0} (ways : Ghosts O F) (start : O) (problem : ProblemTree) where
@@ -46,7 +46,7 @@ module _ {O F : Type 0} (ways : Ghosts O F) (start : O) (problem : ProblemTree) 
 
   module _ (out : O) (counts : Counts) where
     -- the pool that is closed is as far as the seat had seen
-    pub leads_closed : (seat : Sat) (closed : PoolData FrozenSight Event) → Fits of_batch alternatives_in closed seat.problem seat.mine
+    pub leads_closed : (seat : Sat) (closed : PoolData FrozenSight Event) → SeatFits of_batch alternatives_in closed seat.problem seat.mine
         → seat.problem ≡ Some (asked problem) → seat.mine.worker ≡ 0
         → seat.mine.seen.untried ≡ 0 → seat.mine.seen.busy ≡ 0 → (l : Leads ways start problem seat.mine.seen out counts)
         → (closed.untried ≡ 0) × (closed.busy ≡ 0) × Leads ways start problem closed out counts
@@ -125,10 +125,10 @@ same_of (Err e) ended left failed same f g h a b c = h c
 pub ended_of : {E : Type 0} (result : Result Bool E) (x : Bool) (ended : Type 0) → result ≡ Ok x → x ≡ true → IfOk result (λ d. d ≡ true → ended) → ended
 ended_of result x ended e t a = subst (λ (r : Result Bool _). IfOk r (λ d. d ≡ true → ended)) e a t
 
-module _ {O F : Type 0} (ways : Ghosts O F) (start : O) (problem : ProblemTree) (out : O) (told : Told) where
+module _ {O F : Type 0} (ways : Ghosts O F) (start : O) (problem : ProblemTree) (out : O) (told : Delivery) where
   pub closed_leads : (a b c : Sat) (closed : PoolData FrozenSight Event) → a.problem ≡ Some (asked problem) → a.mine.worker ≡ 0 → told.leads ≡ true
       → Ended (StandsOf ways start problem b out told) problem a b
-      → c.problem ≡ b.problem → c.mine ≡ b.mine → Fits of_batch alternatives_in closed c.problem c.mine
+      → c.problem ≡ b.problem → c.mine ≡ b.mine → SeatFits of_batch alternatives_in closed c.problem c.mine
       → (closed.untried ≡ 0) × (closed.busy ≡ 0) × Leads ways start problem closed out told.counts
   closed_leads a b c closed is zero leads e problem_is mine_is f =
       let s = e.stays in let same = s.same in let st = s.stands leads in

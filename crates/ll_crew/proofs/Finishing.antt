@@ -99,20 +99,6 @@ runs_more x y s a b found first owed k o events events' inferences more inferenc
 
 -- ---- pieces
 
--- the engine of an alternative owes what a piece of it owes
-pub begins_owing : (piece : Option OpenPiece) (os : List (Owed Event)) (k : ℕ) (problem : ProblemTree) (events : List Event) (engine : Owing) → events ≡ []
-    → IsSomeAnd piece (λ (x : OpenPiece). slice_get os k ≡ Some x.owes) → ((o : Owed Event) → slice_get os k ≡ Some o → Resumes problem o engine)
-    → OwesAll piece events engine []
-begins_owing None os k problem events engine none h f = absurd h
-begins_owing (Some x) os k problem events engine none h f =
-    let r = f x.owes h in let c = r.cost in let cost0 : cost_in [] ≡ 0 = refl in
-    record {
-      done = 0;
-      events = sym r.events ∙ (sym (append-nil engine.events) ∙ ap (λ l. l ++ (engine.events ++ [])) (sym none));
-      cost = omega arith;
-      made = ap cut_count r.made;
-    }
-
 lacks_rest : (x : OpenPiece) (found after : List Event) (old : Owing) (rest : List (Owed Event)) (n : ℕ) → Owes x found old rest → after ≡ found ++ old.events
     → cut_count n ≡ cut_count (old.made + old.cost) → Lacks after n rest x
 lacks_rest x found after old rest n h whole made =

@@ -17,21 +17,21 @@ use Rattle.ll_laws.specs.Problem.{ProblemTree}
 use Rattle.ll_freeze.specs.Frozen.{FrozenSight, alternatives_in}
 use Rattle.ll_crew.specs.Seats.{Sat, asked, of_batch, Same, Calm, HasLeft}
 use Rattle.ll_crew.specs.Leading.{Leads, Broke, StandsOf, StoppedOf, PrefixGiven, WasRefused}
-use Rattle.ll_crew.specs.Turns.{Goes, Stays, Leaves}
-use Rattle.ll_crew.specs.declared.lead.Told.{Told}
+use Rattle.ll_crew.specs.Turns.{KeepsPiece, Stays, LeavesPool}
+use Rattle.ll_crew.specs.declared.lead.Delivery.{Delivery}
 use Rattle.ll_crew.proofs.Calms.{same_on, turn_same, turn_seen, none_set, calm_look}
 use Rattle.ll_crew.proofs.Leadings.{kept_on, leads_calm, welcome_now, leads_more, broke_now, prefix_given}
 
 module _ {O F : Type 0} (ways : Ghosts O F) (start : O) (problem : ProblemTree) where
-  abbrev Standing : Sat → O → Told → Type 0
+  abbrev Standing : Sat → O → Delivery → Type 0
   Standing = StandsOf ways start problem
 
-  pub stands_calm : (a b : Sat) (out : O) (told : Told) → a.problem ≡ Some (asked problem) → Calm a b → Standing a out told → Standing b out told
+  pub stands_calm : (a b : Sat) (out : O) (told : Delivery) → a.problem ≡ Some (asked problem) → Calm a b → Standing a out told → Standing b out told
   stands_calm a b out told is c st = λ l. let s = st l in let same = c.same in
       (same.worker ∙ s.0, s.1, leads_calm ways start problem out told.counts a b is s.0 c s.2)
 
-  pub goes_calm : (s a b : Sat) (out : O) (told : Told) → s.problem ≡ Some (asked problem) → Goes (Standing a out told) s a → Calm a b
-      → b.mine.piece ≡ a.mine.piece → Goes (Standing b out told) s b
+  pub goes_calm : (s a b : Sat) (out : O) (told : Delivery) → s.problem ≡ Some (asked problem) → KeepsPiece (Standing a out told) s a → Calm a b
+      → b.mine.piece ≡ a.mine.piece → KeepsPiece (Standing b out told) s b
   goes_calm s a b out told is g c piece =
       let f = g.same in
       record {
@@ -42,7 +42,7 @@ module _ {O F : Type 0} (ways : Ghosts O F) (start : O) (problem : ProblemTree) 
       }
 
   -- a prefix was given as long as it stands
-  pub prefix_stands : (seat : Sat) (out : O) (told : Told) → Standing seat out told → StoppedOf ways start problem out told
+  pub prefix_stands : (seat : Sat) (out : O) (told : Delivery) → Standing seat out told → StoppedOf ways start problem out told
   prefix_stands seat out told st = λ l. let s = st l in let leads = s.2 in let p = prefix_given seat.mine.seen problem leads.reports leads.sound leads.taken in
       (leads.kept, stopped_none told.fault s.1 (_, p.0, p.1, leads.given))
     where
@@ -51,10 +51,10 @@ module _ {O F : Type 0} (ways : Ghosts O F) (start : O) (problem : ProblemTree) 
       stopped_none f e h = subst (λ o. MatchOption o (PrefixGiven ways start problem out)
           (λ fault. Broke ways start problem out fault)) (sym e) h
 
-  module _ (s a b : Sat) (out out' : O) (told : Told) (report : Owed Event) (events : List Event) (cost : ℕ) (told_events : events ≡ report.events)
+  module _ (s a b : Sat) (out out' : O) (told : Delivery) (report : Owed Event) (events : List Event) (cost : ℕ) (told_events : events ≡ report.events)
       (told_cost : cost ≡ report.cost)
       (t : OneTurn of_batch alternatives_in (λ found left. Does alternatives_in found (Ready (Events report)) left) a b) (is : s.problem ≡ Some (asked problem))
-      (leads : told.leads ≡ true) (g : Goes (Standing a out told) s a) where
+      (leads : told.leads ≡ true) (g : KeepsPiece (Standing a out told) s a) where
     its_problem : a.problem ≡ Some (asked problem)
     its_problem = let f = g.same in f.problem ∙ is
 
@@ -77,7 +77,7 @@ module _ {O F : Type 0} (ways : Ghosts O F) (start : O) (problem : ProblemTree) 
         → counts.reached ≡ cut_count (told.counts.reached + count_by is_reached events)
         → counts.inferences ≡ cut_count (told.counts.inferences + cost) → ways.faults out ≤ ways.faults out'
         → ((e : Event) → ways.welcome out e ↔ ways.welcome out' e)
-        → Goes (Standing b out' (record told { counts = counts })) s b
+        → KeepsPiece (Standing b out' (record told { counts = counts })) s b
     told_more counts piece gives answers reached inferences kept same = record {
       same = same_on s a b g.same (turn_same _ a b t);
       piece = piece ∙ g.piece;
@@ -96,7 +96,7 @@ module _ {O F : Type 0} (ways : Ghosts O F) (start : O) (problem : ProblemTree) 
     pub told_refused : (fault : OutFault) (q : Sat) → Refuses ways.takes ways.breaks out events out'
         → (fault ≡ Write → Rose (ways.faults out) (ways.faults out'))
         → ways.faults out ≤ ways.faults out' → ((e : Event) → ways.welcome out e ↔ ways.welcome out' e) → Same b q → HasLeft q
-        → Leaves (StoppedOf ways start problem out' (record told { fault = Some fault }))
+        → LeavesPool (StoppedOf ways start problem out' (record told { fault = Some fault }))
         (WasRefused (record told { fault = Some fault })) s q
     told_refused fault q refuses rose low alike same left = record {
       same = same_on s b q (same_on s a b g.same (turn_same _ a b t)) same;
@@ -110,22 +110,22 @@ module _ {O F : Type 0} (ways : Ghosts O F) (start : O) (problem : ProblemTree) 
     }
 
   -- it leaves from where it stands
-  pub leaves_calm : (s a b : Sat) (out : O) (told : Told) → s.problem ≡ Some (asked problem) → Standing b out told → Same s b → HasLeft b
-      → b.mine.quit ≡ s.mine.quit → Leaves (StoppedOf ways start problem out told) (WasRefused told) s b
+  pub leaves_calm : (s a b : Sat) (out : O) (told : Delivery) → s.problem ≡ Some (asked problem) → Standing b out told → Same s b → HasLeft b
+      → b.mine.quit ≡ s.mine.quit → LeavesPool (StoppedOf ways start problem out told) (WasRefused told) s b
   leaves_calm s a b out told is st same left quit = record { same = same; left = left; quit = λ f. quit; stopped = prefix_stands b out told st }
 
   -- ---- a look
 
-  module _ (s a : Sat) (out : O) (told : Told) (seen : core.Overview)
+  module _ (s a : Sat) (out : O) (told : Delivery) (seen : core.Overview)
       (t : OneTurn of_batch alternatives_in (λ found left. Does alternatives_in found (core.Look seen) left) s a) (is : s.problem ≡ Some (asked problem))
       (st : Standing s out told) where
     pub looked : Standing a out told
     looked = stands_calm s a out told is (calm_look seen s a t) st
 
-    pub look_goes : a.mine.piece ≡ s.mine.piece → Goes (Standing a out told) s a
+    pub look_goes : a.mine.piece ≡ s.mine.piece → KeepsPiece (Standing a out told) s a
     look_goes piece = let c = calm_look seen s a t in record { same = c.same; piece = piece; quit = c.quit; stands = looked }
 
-    pub look_leaves : (seen.starved ≡ true) ⊎ (seen.stopped ≡ true) → Leaves (StoppedOf ways start problem out told) (WasRefused told) s a
+    pub look_leaves : (seen.starved ≡ true) ⊎ (seen.stopped ≡ true) → LeavesPool (StoppedOf ways start problem out told) (WasRefused told) s a
     look_leaves marked =
         let c = calm_look seen s a t in
         leaves_calm s a a out told is looked c.same
@@ -138,16 +138,16 @@ module _ {O F : Type 0} (ways : Ghosts O F) (start : O) (problem : ProblemTree) 
         c.quit
 
   -- and then it goes on, or leaves
-  pub goes_on : (s a b : Sat) (x y : Type 0) → Goes x s a → Goes y a b → Goes y s b
+  pub goes_on : (s a b : Sat) (x y : Type 0) → KeepsPiece x s a → KeepsPiece y a b → KeepsPiece y s b
   goes_on s a b x y f g = record { same = same_on s a b f.same g.same; piece = g.piece ∙ f.piece; quit = g.quit ∙ f.quit; stands = g.stands }
 
-  pub goes_out : (refused : Type 0) (s a b : Sat) (x y : Type 0) → Goes x s a → Leaves y refused a b → Leaves y refused s b
+  pub goes_out : (refused : Type 0) (s a b : Sat) (x y : Type 0) → KeepsPiece x s a → LeavesPool y refused a b → LeavesPool y refused s b
   goes_out refused s a b x y f g = record { same = same_on s a b f.same g.same; left = g.left; quit = λ h. g.quit h ∙ f.quit; stopped = g.stopped }
 
-  pub stays_goes : (s a b : Sat) (x y : Type 0) → Stays x s a → Goes y a b → Stays y s b
+  pub stays_goes : (s a b : Sat) (x y : Type 0) → Stays x s a → KeepsPiece y a b → Stays y s b
   stays_goes s a b x y f g = record { same = same_on s a b f.same g.same; quit = g.quit ∙ f.quit; stands = g.stands }
 
-  pub stays_calm : (s a b : Sat) (out : O) (told : Told) → s.problem ≡ Some (asked problem) → Stays (Standing a out told) s a → Calm a b
+  pub stays_calm : (s a b : Sat) (out : O) (told : Delivery) → s.problem ≡ Some (asked problem) → Stays (Standing a out told) s a → Calm a b
       → Stays (Standing b out told) s b
   stays_calm s a b out told is f c = let same = f.same in record {
     same = same_on s a b f.same c.same;

@@ -1,5 +1,5 @@
 -- What worker 0 has told stays told, and one report more.
-use Rattle.std.proofs.Common.{◌≡◌, ℕ, ◌+◌, ◌≤◌, List, [], ◌∷◌, ◌++◌, refl, sym, ap, ◌∙◌, subst, inl, inr, arith, append_assoc, append-nil, le_trans, Some, None}
+use Rattle.std.proofs.Common.{◌≡◌, ℕ, ◌+◌, ◌≤◌, List, [], ◌∷◌, ◌++◌, refl, sym, ap, ◌∙◌, subst, arith, append_assoc, append-nil, le_trans, Some, None}
 use Rattle.std.specs.Prelude.{◌↔◌, count_by, sum_by}
 use Rattle.std.proofs.lemmas.List.Concat.{flat_map-append}
 use Rattle.std.proofs.lemmas.List.Sums.{sum_by-append}
@@ -9,7 +9,7 @@ use Rattle.ll_laws.specs.declared.Counts.{Counts}
 use Rattle.ll_laws.specs.Pool.{Owed, PoolData}
 use Rattle.ll_laws.specs.Search.{cut_count, is_answer, is_reached}
 use Rattle.ll_laws.specs.Sound.{Every}
-use Rattle.ll_laws.specs.CoreEvents.{Ready, Events, Starve, Stop, Does}
+use Rattle.ll_laws.specs.CoreEvents.{Ready, Events, Does}
 use Rattle.ll_core.specs.Calls.{ready_answer}
 use Rattle.ll_core.specs.declared.answers.Ready.{Ready as ReadyCall}
 use Rattle.ll_core.specs.declared.answers.Ready.TheVariants as ready
@@ -24,7 +24,7 @@ use Rattle.ll_pool.specs.Turns.{OneTurn}
 use Rattle.ll_laws.specs.Problem.{ProblemTree}
 use Rattle.ll_freeze.specs.Frozen.{FrozenSight, problem_owes, alternatives_in}
 use Rattle.ll_crew.specs.Alternatives.{events_in, cost_in}
-use Rattle.ll_crew.specs.Seats.{Sat, asked, of_batch, IsSound, Calm, HasLeft}
+use Rattle.ll_crew.specs.Seats.{Sat, asked, of_batch, IsSound, Calm}
 use Rattle.ll_crew.specs.Leading.{Kept, Leads, Broke}
 use Rattle.ll_crew.proofs.Calms.{calm_turn, found_sound, seen_sound, turn_seen}
 
@@ -153,9 +153,3 @@ calm_ready (ready.Events report) other a b t = absurd (other report refl)
 calm_ready {E = E} (ready.NotYet None) other a b t = calm_turn _ a b t (Ready (ready_answer {E = E} (ready.NotYet None))) tt tt t.changed
 calm_ready {E = E} (ready.NotYet (Some piece)) other a b t = calm_turn _ a b t (Ready (ready_answer {E = E} (ready.NotYet (Some piece)))) tt tt t.changed
 calm_ready {E = E} ready.All other a b t = calm_turn _ a b t (Ready (ready_answer {E = E} ready.All)) tt tt t.changed
-
-pub left_by_stop : (a b : Sat) → OneTurn of_batch alternatives_in (λ found left. Does alternatives_in found Stop left) a b → HasLeft b
-left_by_stop a b t = inr (ap (λ (p : PoolData FrozenSight Event). p.stopped) (turn_seen _ a b t ∙ t.changed))
-
-pub left_by_starve : (w : ℕ) (a b : Sat) → OneTurn of_batch alternatives_in (λ found left. Does alternatives_in found (Starve w) left) a b → HasLeft b
-left_by_starve w a b t = inl (ap (λ (p : PoolData FrozenSight Event). p.starved) (turn_seen _ a b t ∙ t.changed))

@@ -5,7 +5,7 @@ use Rattle.std.specs.Arc.{arc_value}
 use Rattle.std.specs.declared.sync.Arc.{Arc}
 use Rattle.std.specs.declared.alloc.Global.{Global}
 use Rattle.std.proofs.Math.ListN.{length-append}
-use Rattle.ll_lists.proofs.CallerLemmas.{some_is as some_of}
+use Rattle.ll_list_laws.proofs.CallerLemmas.{some_is as some_of}
 use Rattle.ll_laws.specs.declared.Event.{Event}
 use Rattle.ll_laws.specs.Search.{cut_count}
 use Rattle.ll_pool.specs.Turns.{EndsWith, IsRest}

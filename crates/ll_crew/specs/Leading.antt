@@ -14,10 +14,10 @@ use Rattle.ll_freeze.specs.Frozen.{FrozenSight, problem_owes, alternatives_in}
 use Rattle.ll_crew.specs.Alternatives.{events_in, cost_in}
 use Rattle.ll_crew.specs.Seats.{Sat, IsSound, of_batch}
 use Rattle.ll_crew.specs.declared.job.Job.{Job}
-use Rattle.ll_crew.specs.declared.lead.Told.{Told}
+use Rattle.ll_crew.specs.declared.lead.Delivery.{Delivery}
 
 -- the worker leads, and the outlet refused an event
-abbrev pub WasRefused : Told → Type 0
+abbrev pub WasRefused : Delivery → Type 0
 WasRefused told = (told.leads ≡ true) × IsSome told.fault
 
 -- what the ghost members of an outlet say of it
@@ -48,19 +48,19 @@ module _ {O F : Type 0} (ways : Ghosts O F) where
       × Gives ways.takes start front out
 
   -- A worker that leads is worker 0, and the outlet refused nothing
-  abbrev pub StandsOf : O → ProblemTree → Sat → O → Told → Type 0
+  abbrev pub StandsOf : O → ProblemTree → Sat → O → Delivery → Type 0
   StandsOf start problem seat out told = told.leads ≡ true
       → (seat.mine.worker ≡ 0) × (told.fault ≡ None) × Leads start problem seat.mine.seen out told.counts
 
   -- it stopped, since the outlet refused an event, or since the pool was starved
-  abbrev pub StoppedOf : O → ProblemTree → O → Told → Type 0
+  abbrev pub StoppedOf : O → ProblemTree → O → Delivery → Type 0
   StoppedOf start problem out told = told.leads ≡ true
       → Kept start out × MatchOption told.fault (PrefixGiven start problem out) (λ f. Broke start problem out f)
 
 -- the same of what a job searches, and of the outlet as the crew was given it
-module _ {R O F : Type 0} (ways : Ghosts O F) (job : Job R O F) where
-  abbrev pub Stands : Sat → O → Told → Type 0
+module _ {R G O F : Type 0} (ways : Ghosts O F) (job : Job R G O F) where
+  abbrev pub Stands : Sat → O → Delivery → Type 0
   Stands = StandsOf ways job.start.now.value job.problem.now
 
-  abbrev pub Stopped : O → Told → Type 0
+  abbrev pub Stopped : O → Delivery → Type 0
   Stopped = StoppedOf ways job.start.now.value job.problem.now

@@ -11,14 +11,14 @@ pub record Stays (standing : Type 0) (before after : Sat) : Type 0 where
   pub stands : standing
 
 -- it goes on with the same seat, the same open piece, and what stands
-pub record Goes (standing : Type 0) (before after : Sat) : Type 0 where
+pub record KeepsPiece (standing : Type 0) (before after : Sat) : Type 0 where
   pub same : Same before after
   pub piece : after.mine.piece ≡ before.mine.piece
   pub quit : after.mine.quit ≡ before.mine.quit
   pub stands : standing
 
 -- It leaves with the same seat, whose pool is starved or stopped. Unless the outlet refused an event, it was not this worker that did so
-pub record Leaves (end refused : Type 0) (before after : Sat) : Type 0 where
+pub record LeavesPool (end refused : Type 0) (before after : Sat) : Type 0 where
   pub same : Same before after
   pub left : HasLeft after
   pub quit : (refused → ⊥) → after.mine.quit ≡ before.mine.quit
@@ -32,7 +32,7 @@ pub record Ended (standing : Type 0) (problem : ProblemTree) (before after : Sat
   pub untried : after.mine.seen.untried ≡ 0
   pub busy : after.mine.seen.busy ≡ 0
 
--- it gave up for want of memory: the pool is starved
+-- it gave up because memory ran out: the pool is starved
 pub record Fails (end : Type 0) (before after : Sat) : Type 0 where
   pub same : Same before after
   pub starved : after.mine.seen.starved ≡ true

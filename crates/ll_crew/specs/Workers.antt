@@ -11,7 +11,7 @@ use Rattle.ll_crew.specs.declared.job.Job.{Job}
 use Rattle.ll_crew.specs.Runs as runs
 use Rattle.ll_crew.specs.declared.piece.Ending.{Ending}
 use Rattle.ll_crew.specs.declared.piece.Ran.{Ran}
-use Rattle.ll_crew.specs.declared.worker.Went.{Went}
+use Rattle.ll_crew.specs.declared.worker.ClaimOutcome.{ClaimOutcome}
 use Rattle.ll_crew.specs.declared.worker.Worker.{Worker}
 
 -- it has the same seat still, and leads if it did
@@ -21,7 +21,7 @@ pub record Holds {F : Type 0} (before after : Worker F) : Type 0 where
   pub told : after.told.ghost_name ≡ before.told.ghost_name
   pub kept : after.kept.ghost_name ≡ before.kept.ghost_name
 
-module _ {R O F : Type 0} (ways : Ghosts O F) (job : Job R O F) where
+module _ {R G O F : Type 0} (ways : Ghosts O F) (job : Job R G O F) where
   -- if it leads, the outlet refused nothing
   abbrev pub Standing : Worker F → O → Type 0
   Standing w out = Stands ways job w.seat.now out w.told.now
@@ -35,7 +35,7 @@ module _ {R O F : Type 0} (ways : Ghosts O F) (job : Job R O F) where
   Stays before after out = turns.Stays (Standing after out) before.seat.now after.seat.now
 
   abbrev pub Leaves : Worker F → Worker F → O → Type 0
-  Leaves before after out = turns.Leaves (Stopping after out) (WasRefused after.told.now) before.seat.now after.seat.now
+  Leaves before after out = turns.LeavesPool (Stopping after out) (WasRefused after.told.now) before.seat.now after.seat.now
 
   abbrev pub Ended : Worker F → Worker F → O → Type 0
   Ended before after out = turns.Ended (Standing after out) job.problem.now before.seat.now after.seat.now
@@ -60,6 +60,6 @@ module _ {R O F : Type 0} (ways : Ghosts O F) (job : Job R O F) where
   EndsTo ending before after out = runs.EndsTo (Standing after out) (Stopping after out) (WasRefused after.told.now) job.problem.now ending
       before.seat.now after.seat.now
 
-  abbrev pub WentTo : Went → Worker F → Worker F → O → Type 0
+  abbrev pub WentTo : ClaimOutcome → Worker F → Worker F → O → Type 0
   WentTo went before after out = runs.WentTo (Standing after out) (Stopping after out) (WasRefused after.told.now) job.problem.now went
       before.seat.now after.seat.now

@@ -33,7 +33,8 @@ pub(crate) fn search_alone<'p, O: Outlet>(
     requires index { IsIndexOf problem.now (arc_value index) }
     requires welcome { Every (O.welcome out.old) (problem_events problem.now) }
     ensures given { OnOk result (Gives O.takes out.old (problem_events problem.entry.now) out.new) }
-    ensures counts { IfOk result (λ counts. CountsOf counts (problem_events problem.entry.now) (problem_cost problem.entry.now)) }
+    ensures counts { IfOk result (λ counts. CountsOf counts (problem_events problem.entry.now)
+        (problem_cost problem.entry.now)) }
     ensures refused { OnErr result (GivesPrefix O.takes O.breaks out.old (problem_events problem.entry.now) out.new) }
     ensures write { result ≡ Err CrewFault.Write → Rose (O.faults out.old) (O.faults out.new) }
     ensures kept { Kept O.Outlet out.old out.new }
@@ -56,7 +57,8 @@ fn give_each<'p, O: Outlet>(
     requires suits { O.Found.suits engine.old.problem }
     requires welcome { Every (O.welcome out.old) (problem_events engine.old.problem) }
     ensures given { OnOk result (Gives O.takes out.old (problem_events engine.old.problem) out.new) }
-    ensures counts { IfOk result (λ counts. CountsOf counts (problem_events engine.old.problem) (problem_cost engine.old.problem)) }
+    ensures counts { IfOk result (λ counts. CountsOf counts (problem_events engine.old.problem)
+        (problem_cost engine.old.problem)) }
     ensures refused { OnErr result (GivesPrefix O.takes O.breaks out.old (problem_events engine.old.problem) out.new) }
     ensures write { result ≡ Err CrewFault.Write → Rose (O.faults out.old) (O.faults out.new) }
     ensures kept { Kept O.Outlet out.old out.new }

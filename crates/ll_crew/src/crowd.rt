@@ -5,12 +5,12 @@ ghost use Rattle.std.specs.Thread.{IsSync};
 ghost use Rattle.ll_laws.specs.Sound.{Every};
 ghost use Rattle.ll_crew.specs.Crews.{EachWorked};
 ghost use Rattle.ll_crew.specs.Leading.{Stands, Stopped, WasRefused};
-ghost use Rattle.ll_crew.specs.Turns.{Ended, Leaves, Fails, CanWork, Worked};
+ghost use Rattle.ll_crew.specs.Turns.{Ended, LeavesPool, Fails, CanWork, Worked};
 
 use crate::bell::Bell;
 use crate::beside::join_beside;
 use crate::job::{Job, Sharing};
-use crate::lead::{Mute, Told};
+use crate::lead::{Delivery, Mute};
 use crate::offer::Offer;
 use crate::worker::work_as;
 use ll_bank::OutOfMemory;
@@ -22,7 +22,6 @@ use std::alloc::Global;
 use std::marker::PhantomData;
 use std::snapshot::Snapshot;
 use std::sync::Wait;
-use std::sync::atomic::AtomicU64;
 use std::thread::{Threads, join};
 
 // What workers that tell nothing work with.
@@ -35,7 +34,6 @@ struct Tools<'a, 'p, R, G, E: Notice> {
     bell: &'a Bell,
     gate: &'a G,
     sharing: Sharing,
-    came_back: &'a AtomicU64,
 }
 
 // Some workers that tell nothing.
@@ -63,18 +61,18 @@ fn help<'t, 'a, 'p, R: Wait, G: Gate, E: Notice>(
     let Hand { tools, mut seat } = hand;
     let mut mute: Mute<E> = Mute { found: PhantomData };
     let start = Snapshot::of(&mute);
-    let mut told = Told::new(false);
+    let mut told = Delivery::new(false);
     let job = Job {
         rt: tools.rt,
         alloc: tools.alloc,
         problem: tools.problem,
         pool: tools.pool,
         bell: tools.bell,
+        gate: tools.gate,
         sharing: tools.sharing,
-        came_back: tools.came_back,
         start: &start,
     };
-    let _ended = work_as(&job, tools.gate, &mut seat, &mut told, &mut mute);
+    let _ended = work_as(&job, &mut seat, &mut told, &mut mute);
     seat
 }
 
@@ -103,13 +101,15 @@ fn work_all<'t, 'a, 'p, R: Threads + Wait + Sync, G: Gate, E: Notice>(
     let (mut back, seat) = join(
         crowd.tools.rt,
         move ||
-            requires { IsSync R.row × IsSync G.row × Every (CanWork crowd.tools.now.pool.now crowd.tools.now.problem.now) crowd.seats.items
+            requires { IsSync R.row × IsSync G.row
+                × Every (CanWork crowd.tools.now.pool.now crowd.tools.now.problem.now) crowd.seats.items
                 × E.suits crowd.tools.now.problem.now }
             ensures { EachWorked crowd.entry.seats.items result.items × (vec_len result ≡ vec_len crowd.entry.seats)
                 × (vec_capacity crowd.entry.seats ≤ vec_capacity result) }
         { work_all(crowd) },
         move ||
-            requires { IsSync G.row × CanWork hand.tools.now.pool.now hand.tools.now.problem.now hand.seat × E.suits hand.tools.now.problem.now }
+            requires { IsSync G.row × CanWork hand.tools.now.pool.now hand.tools.now.problem.now hand.seat
+                × E.suits hand.tools.now.problem.now }
             ensures { Worked hand.entry.seat result }
         { help(hand) },
     );
@@ -119,10 +119,9 @@ fn work_all<'t, 'a, 'p, R: Threads + Wait + Sync, G: Gate, E: Notice>(
 
 /// All workers at work: the caller is the first. The other seats come back.
 pub(crate) fn work_together<'a, 'p, R: Threads + Wait + Sync, G: Gate, O: Outlet>(
-    job: &Job<'a, 'p, R, O>,
-    gate: &'a G,
+    job: &Job<'a, 'p, R, G, O>,
     first: &mut Seat<Offer<'p, O::Found>>,
-    told: &mut Told,
+    told: &mut Delivery,
     out: &mut O,
     seats: Vec<Seat<Offer<'p, O::Found>>>,
 ) -> (Vec<Seat<Offer<'p, O::Found>>>, Result<bool, OutOfMemory>)
@@ -133,13 +132,13 @@ pub(crate) fn work_together<'a, 'p, R: Threads + Wait + Sync, G: Gate, O: Outlet
     ensures leads { told.new.leads ≡ told.old.leads }
     ensures done { IfOk result.1 (λ done. done ≡ true → Ended
         (Stands O.Outlet job.now first.new out.new told.new) job.now.problem.now first.old first.new) }
-    ensures left { IfOk result.1 (λ done. done ≡ false → Leaves (Stopped O.Outlet job.now out.new told.new)
+    ensures left { IfOk result.1 (λ done. done ≡ false → LeavesPool (Stopped O.Outlet job.now out.new told.new)
         (WasRefused told.new) first.old first.new) }
     ensures failed { OnErr result.1 (Fails (Stopped O.Outlet job.now out.new told.new) first.old first.new) }
     ensures seats { EachWorked seats.entry.items result.0.items }
 {
     if seats.is_empty() {
-        let (done, _woken) = work_as(job, gate, first, told, out);
+        let (done, _woken) = work_as(job, first, told, out);
         return (seats, done);
     }
     let tools = Tools {
@@ -148,9 +147,8 @@ pub(crate) fn work_together<'a, 'p, R: Threads + Wait + Sync, G: Gate, O: Outlet
         problem: job.problem,
         pool: job.pool,
         bell: job.bell,
-        gate,
+        gate: job.gate,
         sharing: job.sharing,
-        came_back: job.came_back,
     };
     let crowd = Crowd {
         tools: &tools,
@@ -159,7 +157,8 @@ pub(crate) fn work_together<'a, 'p, R: Threads + Wait + Sync, G: Gate, O: Outlet
     join_beside(
         job.rt,
         move ||
-            requires { IsSync R.row × IsSync G.row × Every (CanWork crowd.tools.now.pool.now crowd.tools.now.problem.now) crowd.seats.items
+            requires { IsSync R.row × IsSync G.row
+                × Every (CanWork crowd.tools.now.pool.now crowd.tools.now.problem.now) crowd.seats.items
                 × O.Found.suits crowd.tools.now.problem.now }
             ensures { EachWorked crowd.entry.seats.items result.items }
         { work_all(crowd) },
@@ -169,12 +168,12 @@ pub(crate) fn work_together<'a, 'p, R: Threads + Wait + Sync, G: Gate, O: Outlet
             ensures leads { told.exit.now.leads ≡ told.entry.now.leads }
             ensures done { IfOk result (λ done. done ≡ true → Ended (Stands O.Outlet job.entry.now first.exit.now
                 out.exit.now told.exit.now) job.entry.now.problem.now first.entry.now first.exit.now) }
-            ensures left { IfOk result (λ done. done ≡ false → Leaves (Stopped O.Outlet job.entry.now out.exit.now
+            ensures left { IfOk result (λ done. done ≡ false → LeavesPool (Stopped O.Outlet job.entry.now out.exit.now
                 told.exit.now) (WasRefused told.exit.now) first.entry.now first.exit.now) }
             ensures failed { OnErr result
                 (Fails (Stopped O.Outlet job.entry.now out.exit.now told.exit.now) first.entry.now first.exit.now) }
         {
-            let (done, _woken) = work_as(job, gate, first, told, out);
+            let (done, _woken) = work_as(job, first, told, out);
             done
         },
     )

@@ -14,13 +14,13 @@ ghost use Rattle.ll_crew.specs.declared.fault.CrewFault.{CrewFault};
 use crate::fault::CrewFault;
 use crate::job::Sharing;
 use crate::pool::index_of;
+use crate::team::Team;
 use crate::whole::crew_by;
 use ll_edge::Gate;
 use ll_first::{Enough, Until};
 use ll_index::Index;
 use ll_laws::{Counts, Problem};
 use std::alloc::Global;
-use std::sync::atomic::AtomicU64;
 use std::sync::{Arc, Wait};
 use std::thread::Threads;
 
@@ -31,6 +31,8 @@ use std::thread::Threads;
 /// `None` exactly where the search has as many answers as the outlet wants: the events up to the last of these were given, and no others.
 /// Otherwise all events were given, and the answer has their counts and the cost of the search. On a refusal a prefix of what would have
 /// been given was, with fewer answers than are wanted. `Write` only where the outlet's count of faults rose.
+///
+/// The program does not call it: it has an index already, for [`crew_first_with`].
 pub fn crew_first<'p, R: Threads + Wait + Sync, G: Gate, E: Enough>(
     rt: &R,
     alloc: Global,
@@ -44,10 +46,14 @@ pub fn crew_first<'p, R: Threads + Wait + Sync, G: Gate, E: Enough>(
     requires suits { E.Found.suits problem.now }
     requires none_yet { E.answers out.old ≡ 0 }
     requires welcome { Every (E.welcome out.old) (problem_events problem.now) }
-    ensures enough { IfOk result (λ o. (o ≡ None) ↔ (E.limit out.old ≤ count_by is_answer (problem_events problem.entry.now))) }
-    ensures given { OnOk result (Gives E.takes out.old (first_of (problem_events problem.entry.now) (E.limit out.old)) out.new) }
-    ensures counts { IfOk result (λ o. IfSome o (λ counts. CountsOf counts (problem_events problem.entry.now) (problem_cost problem.entry.now))) }
-    ensures refused { OnErr result (GivesPrefix E.takes E.breaks out.old (first_of (problem_events problem.entry.now) (E.limit out.old)) out.new) }
+    ensures enough { IfOk result (λ o. (o ≡ None) ↔ (E.limit out.old
+        ≤ count_by is_answer (problem_events problem.entry.now))) }
+    ensures given { OnOk result (Gives E.takes out.old
+        (first_of (problem_events problem.entry.now) (E.limit out.old)) out.new) }
+    ensures counts { IfOk result (λ o. IfSome o (λ counts. CountsOf counts (problem_events problem.entry.now)
+        (problem_cost problem.entry.now))) }
+    ensures refused { OnErr result
+        (GivesPrefix E.takes E.breaks out.old (first_of (problem_events problem.entry.now) (E.limit out.old)) out.new) }
     ensures fewer { OnErr result (E.answers out.new < E.limit out.old) }
     ensures write { result ≡ Err CrewFault.Write → Rose (E.faults out.old) (E.faults out.new) }
     ensures faults_kept { E.faults out.old ≤ E.faults out.new }
@@ -56,33 +62,36 @@ pub fn crew_first<'p, R: Threads + Wait + Sync, G: Gate, E: Enough>(
     let Ok(index) = index_of(alloc, problem) else {
         return Err(CrewFault::OutOfMemory);
     };
+    let team = Team {
+        rt,
+        alloc,
+        workers,
+        gate,
+    };
     let mut until = Until { out, ended: false };
-    let came_back = AtomicU64::new(0);
-    give_until(
-        rt, alloc, problem, index, workers, gate, &came_back, &mut until,
-    )
+    give_until(&team, problem, index, &mut until)
 }
 
 /// The same, with an index of the problem's clauses that was made before: problems of the same clauses may share it.
 pub fn crew_first_with<'p, R: Threads + Wait + Sync, G: Gate, E: Enough>(
-    rt: &R,
-    alloc: Global,
+    team: &Team<'_, R, G>,
     problem: &'p Problem,
     index: &Arc<Index>,
-    workers: u32,
-    gate: &G,
     out: &mut E,
 ) -> Result<Option<Counts>, CrewFault>
-    requires workers { (0 < workers) × (workers ≤ 64) }
     requires valid { IsValid problem.now }
     requires suits { E.Found.suits problem.now }
     requires index { IsIndexOf problem.now (arc_value index.now) }
     requires none_yet { E.answers out.old ≡ 0 }
     requires welcome { Every (E.welcome out.old) (problem_events problem.now) }
-    ensures enough { IfOk result (λ o. (o ≡ None) ↔ (E.limit out.old ≤ count_by is_answer (problem_events problem.entry.now))) }
-    ensures given { OnOk result (Gives E.takes out.old (first_of (problem_events problem.entry.now) (E.limit out.old)) out.new) }
-    ensures counts { IfOk result (λ o. IfSome o (λ counts. CountsOf counts (problem_events problem.entry.now) (problem_cost problem.entry.now))) }
-    ensures refused { OnErr result (GivesPrefix E.takes E.breaks out.old (first_of (problem_events problem.entry.now) (E.limit out.old)) out.new) }
+    ensures enough { IfOk result (λ o. (o ≡ None) ↔ (E.limit out.old
+        ≤ count_by is_answer (problem_events problem.entry.now))) }
+    ensures given { OnOk result (Gives E.takes out.old
+        (first_of (problem_events problem.entry.now) (E.limit out.old)) out.new) }
+    ensures counts { IfOk result (λ o. IfSome o (λ counts. CountsOf counts (problem_events problem.entry.now)
+        (problem_cost problem.entry.now))) }
+    ensures refused { OnErr result
+        (GivesPrefix E.takes E.breaks out.old (first_of (problem_events problem.entry.now) (E.limit out.old)) out.new) }
     ensures fewer { OnErr result (E.answers out.new < E.limit out.old) }
     ensures write { result ≡ Err CrewFault.Write → Rose (E.faults out.old) (E.faults out.new) }
     ensures faults_kept { E.faults out.old ≤ E.faults out.new }
@@ -92,24 +101,16 @@ pub fn crew_first_with<'p, R: Threads + Wait + Sync, G: Gate, E: Enough>(
         return Err(CrewFault::OutOfMemory);
     };
     let mut until = Until { out, ended: false };
-    let came_back = AtomicU64::new(0);
-    give_until(
-        rt, alloc, problem, index, workers, gate, &came_back, &mut until,
-    )
+    give_until(team, problem, index, &mut until)
 }
 
 // The same, with an outlet that hands on what it is given.
 fn give_until<'p, 's, R: Threads + Wait + Sync, G: Gate, E: Enough>(
-    rt: &R,
-    alloc: Global,
+    team: &Team<'_, R, G>,
     problem: &'p Problem,
     index: Arc<Index>,
-    workers: u32,
-    gate: &G,
-    came_back: &AtomicU64,
     until: &mut Until<'s, E>,
 ) -> Result<Option<Counts>, CrewFault>
-    requires workers { (0 < workers) × (workers ≤ 64) }
     requires valid { IsValid problem.now }
     requires suits { E.Found.suits problem.now }
     requires index { IsIndexOf problem.now (arc_value index) }
@@ -117,27 +118,21 @@ fn give_until<'p, 's, R: Threads + Wait + Sync, G: Gate, E: Enough>(
     requires none_yet { E.answers until.old.out.now ≡ 0 }
     requires welcome { Every (E.welcome until.old.out.now) (problem_events problem.now) }
     ensures same_reference { until.new.out.ghost_name ≡ until.old.out.ghost_name }
-    ensures enough { IfOk result (λ o. (o ≡ None) ↔ (E.limit until.old.out.now ≤ count_by is_answer (problem_events problem.entry.now))) }
-    ensures given { OnOk result (Gives E.takes until.old.out.now (first_of (problem_events problem.entry.now) (E.limit until.old.out.now)) until.new.out.now) }
-    ensures counts { IfOk result (λ o. IfSome o (λ counts. CountsOf counts (problem_events problem.entry.now) (problem_cost problem.entry.now))) }
-    ensures refused { OnErr result (GivesPrefix E.takes E.breaks until.old.out.now (first_of (problem_events problem.entry.now) (E.limit until.old.out.now))
-        until.new.out.now) }
+    ensures enough { IfOk result (λ o. (o ≡ None) ↔ (E.limit until.old.out.now
+        ≤ count_by is_answer (problem_events problem.entry.now))) }
+    ensures given { OnOk result (Gives E.takes until.old.out.now
+        (first_of (problem_events problem.entry.now) (E.limit until.old.out.now)) until.new.out.now) }
+    ensures counts { IfOk result (λ o. IfSome o (λ counts. CountsOf counts (problem_events problem.entry.now)
+        (problem_cost problem.entry.now))) }
+    ensures refused { OnErr result
+        (GivesPrefix E.takes E.breaks until.old.out.now
+        (first_of (problem_events problem.entry.now) (E.limit until.old.out.now)) until.new.out.now) }
     ensures fewer { OnErr result (E.answers until.new.out.now < E.limit until.old.out.now) }
     ensures write { result ≡ Err CrewFault.Write → Rose (E.faults until.old.out.now) (E.faults until.new.out.now) }
     ensures faults_kept { E.faults until.old.out.now ≤ E.faults until.new.out.now }
     ensures welcome_kept { (e : Event) → E.welcome until.old.out.now e ↔ E.welcome until.new.out.now e }
 {
-    match crew_by(
-        rt,
-        alloc,
-        problem,
-        index,
-        workers,
-        gate,
-        Sharing::AfterAnswer,
-        came_back,
-        until,
-    ) {
+    match crew_by(team, problem, index, Sharing::AfterAnswer, until) {
         Ok(counts) => Ok(Some(counts)),
         Err(_) if until.ended => Ok(None),
         Err(fault) => Err(fault),

@@ -8,7 +8,7 @@ ghost use Rattle.ll_crew.specs.declared.fault.CrewFault.{CrewFault};
 ghost use Rattle.ll_crew.specs.Leading.{Kept, Leads, StoppedOf};
 
 use crate::fault::{CrewFault, fault_of};
-use crate::lead::Told;
+use crate::lead::Delivery;
 use crate::offer::Offer;
 use ll_bank::OutOfMemory;
 use ll_core::Pool;
@@ -25,9 +25,12 @@ pub fn give_some<O: Outlet>(
     requires welcome { Every (O.welcome out.old) (map O.Found.stands_for events.items) }
     requires few { (counts.answers ≤ 18446744073709551615) × (counts.reached ≤ 18446744073709551615) }
     ensures given { OnOk result (Gives O.takes out.old (map O.Found.stands_for events.items) out.new) }
-    ensures answers { IfOk result (λ new. new.answers ≡ cut_count (counts.answers + count_by is_answer (map O.Found.stands_for events.items))) }
-    ensures reached { IfOk result (λ new. new.reached ≡ cut_count (counts.reached + count_by is_reached (map O.Found.stands_for events.items))) }
-    ensures refused { OnErr result (GivesPrefix O.takes O.breaks out.old (map O.Found.stands_for events.items) out.new) }
+    ensures answers { IfOk result (λ new. new.answers
+        ≡ cut_count (counts.answers + count_by is_answer (map O.Found.stands_for events.items))) }
+    ensures reached { IfOk result (λ new. new.reached
+        ≡ cut_count (counts.reached + count_by is_reached (map O.Found.stands_for events.items))) }
+    ensures refused { OnErr result
+        (GivesPrefix O.takes O.breaks out.old (map O.Found.stands_for events.items) out.new) }
     ensures write { result ≡ Err CrewFault.Write → Rose (O.faults out.old) (O.faults out.new) }
     ensures kept { Kept O.Outlet out.old out.new }
 {
@@ -61,8 +64,10 @@ fn give_rest<'p, O: Outlet>(
     requires done { (pool.untried ≡ 0) × (pool.busy ≡ 0) }
     requires leads { Leads O.Outlet start.now.value problem.now pool out.old counts }
     ensures given { OnOk result (Gives O.takes start.now.value (problem_events problem.entry.now) out.new) }
-    ensures counts { IfOk result (λ counts. CountsOf counts (problem_events problem.entry.now) (problem_cost problem.entry.now)) }
-    ensures refused { OnErr result (Refuses O.takes O.breaks start.now.value (problem_events problem.entry.now) out.new) }
+    ensures counts { IfOk result (λ counts. CountsOf counts (problem_events problem.entry.now)
+        (problem_cost problem.entry.now)) }
+    ensures refused { OnErr result
+        (Refuses O.takes O.breaks start.now.value (problem_events problem.entry.now) out.new) }
     ensures write { result ≡ Err CrewFault.Write → Rose (O.faults start.now.value) (O.faults out.new) }
     ensures kept { Kept O.Outlet start.now.value out.new }
 {
@@ -78,7 +83,7 @@ pub fn finish<'p, O: Outlet>(
     problem: &'p Problem,
     pool: Pool<Offer<'p, O::Found>>,
     start: &Snapshot<O>,
-    told: &Told,
+    told: &Delivery,
     done: Result<bool, OutOfMemory>,
     out: &mut O,
 ) -> Result<Counts, CrewFault>
@@ -88,8 +93,10 @@ pub fn finish<'p, O: Outlet>(
     requires left { IfOk done (λ done. done ≡ false → StoppedOf O.Outlet start.now.value problem.now out.old told.now) }
     requires failed { OnErr done (StoppedOf O.Outlet start.now.value problem.now out.old told.now) }
     ensures given { OnOk result (Gives O.takes start.now.value (problem_events problem.entry.now) out.new) }
-    ensures counts { IfOk result (λ counts. CountsOf counts (problem_events problem.entry.now) (problem_cost problem.entry.now)) }
-    ensures refused { OnErr result (GivesPrefix O.takes O.breaks start.now.value (problem_events problem.entry.now) out.new) }
+    ensures counts { IfOk result (λ counts. CountsOf counts (problem_events problem.entry.now)
+        (problem_cost problem.entry.now)) }
+    ensures refused { OnErr result
+        (GivesPrefix O.takes O.breaks start.now.value (problem_events problem.entry.now) out.new) }
     ensures write { result ≡ Err CrewFault.Write → Rose (O.faults start.now.value) (O.faults out.new) }
     ensures kept { Kept O.Outlet start.now.value out.new }
 {

@@ -6,7 +6,6 @@ use ll_order::Outlet;
 use ll_pool::SharedPool;
 use std::alloc::Global;
 use std::snapshot::Snapshot;
-use std::sync::atomic::AtomicU64;
 
 /// When a worker leaves choice points of its piece to others.
 #[derive(Clone, Copy)]
@@ -15,13 +14,11 @@ pub enum Sharing {
     WhereIdle,
     /// All of them after an answer, which is then reported at once, and the oldest where workers have nothing to do.
     AfterAnswer,
-    /// None: where workers have nothing to do the oldest comes back, as from a pool that has no place for it.
-    Apart,
 }
 
 /// What a worker works with, whatever it claims.
 #[derive(Drop)]
-pub struct Job<'a, 'p, R, O: Outlet> {
+pub struct Job<'a, 'p, R, G, O: Outlet> {
     /// What waits and wakes.
     pub rt: &'a R,
     /// Where memory comes from.
@@ -32,20 +29,20 @@ pub struct Job<'a, 'p, R, O: Outlet> {
     pub pool: &'a SharedPool<Offer<'p, O::Found>>,
     /// What tells the workers that something happened to the pool.
     pub bell: &'a Bell,
+    /// What each worker passes before it claims.
+    pub gate: &'a G,
     /// What workers leave to others.
     pub sharing: Sharing,
-    /// How many batches came back where workers leave nothing to others.
-    pub came_back: &'a AtomicU64,
     /// The outlet as the crew was given it.
     pub start: &'a Snapshot<O>,
 }
 
-impl<'a, 'p, R, O: Outlet> Job<'a, 'p, R, O> {
+impl<'a, 'p, R, G, O: Outlet> Job<'a, 'p, R, G, O> {
     /// Whether an answer is to be reported at once.
     pub fn reports_at_once(&self) -> bool {
         match self.sharing {
             Sharing::AfterAnswer => true,
-            Sharing::WhereIdle | Sharing::Apart => false,
+            Sharing::WhereIdle => false,
         }
     }
 }

@@ -4,7 +4,7 @@ ghost use Rattle.ll_laws.specs.Sound.{report_of};
 ghost use Rattle.ll_pool.specs.Turns.{HasQuit};
 ghost use Rattle.ll_crew.specs.Seats.{IsSeat};
 ghost use Rattle.ll_crew.specs.Leading.{Stands, Stopped, WasRefused};
-ghost use Rattle.ll_crew.specs.Turns.{Goes, Leaves, Stays};
+ghost use Rattle.ll_crew.specs.Turns.{KeepsPiece, LeavesPool, Stays};
 
 use crate::job::Job;
 use crate::offer::Offer;
@@ -17,7 +17,7 @@ use std::sync::Wait;
 
 /// What a worker has told the outlet: nothing, unless it leads.
 #[derive(Drop)]
-pub struct Told {
+pub struct Delivery {
     /// It is worker 0, which alone tells the outlet.
     pub leads: bool,
     /// The counts of what was told.
@@ -26,12 +26,16 @@ pub struct Told {
     pub fault: Option<OutFault>,
 }
 
-impl Told {
+impl Delivery {
     /// Nothing was told yet.
-    pub fn new(leads: bool) -> Told
-        ensures { result ≡ record { leads = leads; counts = record { answers = 0; reached = 0; inferences = 0 }; fault = None } }
+    pub fn new(leads: bool) -> Delivery
+        ensures { result ≡ record {
+          leads = leads;
+          counts = record { answers = 0; reached = 0; inferences = 0 };
+          fault = None;
+        } }
     {
-        Told {
+        Delivery {
             leads,
             counts: Counts {
                 answers: 0,
@@ -69,8 +73,8 @@ impl<E: Notice> Outlet for Mute<E> {
 // After a failed write the pool is stopped, and where the outlet wanted memory it is starved.
 fn quit<R: Wait, N: Batch>(pool: &SharedPool<N>, rt: &R, seat: &mut Seat<N>, fault: OutFault)
     requires own { seat.old.table ≡ pool.now.table }
-    ensures same { (seat.new.table ≡ seat.old.table) × (seat.new.problem ≡ seat.old.problem) × (seat.new.mine.worker ≡ seat.old.mine.worker)
-        × (seat.new.given ≡ seat.old.given) }
+    ensures same { (seat.new.table ≡ seat.old.table) × (seat.new.problem ≡ seat.old.problem)
+        × (seat.new.mine.worker ≡ seat.old.mine.worker) × (seat.new.given ≡ seat.old.given) }
     ensures left { HasQuit seat.new.mine.seen }
     ensures turns { seat.old.mine.turns ≤ seat.new.mine.turns }
 {
@@ -82,18 +86,18 @@ fn quit<R: Wait, N: Batch>(pool: &SharedPool<N>, rt: &R, seat: &mut Seat<N>, fau
 
 // Gives the outlet the events that are ready. False where it refused one: the pool is then stopped, or starved where the outlet wanted
 // memory.
-fn tell_all<'p, R: Wait, O: Outlet>(
-    job: &Job<'_, 'p, R, O>,
+fn tell_all<'p, R: Wait, G, O: Outlet>(
+    job: &Job<'_, 'p, R, G, O>,
     seat: &mut Seat<Offer<'p, O::Found>>,
-    told: &mut Told,
+    told: &mut Delivery,
     out: &mut O,
 ) -> bool
     requires seat { IsSeat job.now.pool.now job.now.problem.now seat.old }
     requires leads { told.old.leads ≡ true }
     requires stands { Stands O.Outlet job.now seat.old out.old told.old }
     ensures leads { told.new.leads ≡ true }
-    ensures on { result ≡ true → Goes (Stands O.Outlet job.now seat.new out.new told.new) seat.old seat.new }
-    ensures left { result ≡ false → Leaves (Stopped O.Outlet job.now out.new told.new)
+    ensures on { result ≡ true → KeepsPiece (Stands O.Outlet job.now seat.new out.new told.new) seat.old seat.new }
+    ensures left { result ≡ false → LeavesPool (Stopped O.Outlet job.now out.new told.new)
         (WasRefused told.new) seat.old seat.new }
     ensures turns { seat.old.mine.turns ≤ seat.new.mine.turns }
 {
@@ -121,17 +125,17 @@ fn tell_all<'p, R: Wait, O: Outlet>(
 
 /// A worker that leads gives the outlet the events that are ready. False where it refused one: the pool is then stopped, or starved where
 /// the outlet wanted memory.
-pub fn tell<'p, R: Wait, O: Outlet>(
-    job: &Job<'_, 'p, R, O>,
+pub fn tell<'p, R: Wait, G, O: Outlet>(
+    job: &Job<'_, 'p, R, G, O>,
     seat: &mut Seat<Offer<'p, O::Found>>,
-    told: &mut Told,
+    told: &mut Delivery,
     out: &mut O,
 ) -> bool
     requires seat { IsSeat job.now.pool.now job.now.problem.now seat.old }
     requires stands { Stands O.Outlet job.now seat.old out.old told.old }
     ensures leads { told.new.leads ≡ told.old.leads }
-    ensures on { result ≡ true → Goes (Stands O.Outlet job.now seat.new out.new told.new) seat.old seat.new }
-    ensures left { result ≡ false → Leaves (Stopped O.Outlet job.now out.new told.new)
+    ensures on { result ≡ true → KeepsPiece (Stands O.Outlet job.now seat.new out.new told.new) seat.old seat.new }
+    ensures left { result ≡ false → LeavesPool (Stopped O.Outlet job.now out.new told.new)
         (WasRefused told.new) seat.old seat.new }
     ensures turns { seat.old.mine.turns ≤ seat.new.mine.turns }
 {
@@ -143,18 +147,18 @@ pub fn tell<'p, R: Wait, O: Outlet>(
 
 /// A look at the pool, after which a worker that leads gives the outlet what is ready. `None` where it is to leave: the pool is starved or
 /// stopped.
-pub fn look<'p, R: Wait, O: Outlet>(
-    job: &Job<'_, 'p, R, O>,
+pub fn look<'p, R: Wait, G, O: Outlet>(
+    job: &Job<'_, 'p, R, G, O>,
     seat: &mut Seat<Offer<'p, O::Found>>,
-    told: &mut Told,
+    told: &mut Delivery,
     out: &mut O,
 ) -> Option<Look>
     requires seat { IsSeat job.now.pool.now job.now.problem.now seat.old }
     requires stands { Stands O.Outlet job.now seat.old out.old told.old }
     ensures leads { told.new.leads ≡ told.old.leads }
-    ensures on { IsSome result → Goes (Stands O.Outlet job.now seat.new out.new told.new) seat.old seat.new }
+    ensures on { IsSome result → KeepsPiece (Stands O.Outlet job.now seat.new out.new told.new) seat.old seat.new }
     ensures running { IfSome result (λ look. (look.starved ≡ false) × (look.stopped ≡ false)) }
-    ensures left { IsNone result → Leaves (Stopped O.Outlet job.now out.new told.new)
+    ensures left { IsNone result → LeavesPool (Stopped O.Outlet job.now out.new told.new)
         (WasRefused told.new) seat.old seat.new }
 {
     let look = job.pool.look(job.rt, seat);
@@ -168,11 +172,11 @@ pub fn look<'p, R: Wait, O: Outlet>(
 }
 
 /// Reports what was found for a piece that owes nothing more. False where the worker is to leave.
-pub fn report<'p, R: Wait, O: Outlet>(
-    job: &Job<'_, 'p, R, O>,
+pub fn report<'p, R: Wait, G, O: Outlet>(
+    job: &Job<'_, 'p, R, G, O>,
     seat: &mut Seat<Offer<'p, O::Found>>,
     found: Report<O::Found>,
-    told: &mut Told,
+    told: &mut Delivery,
     out: &mut O,
 ) -> bool
     requires seat { IsSeat job.now.pool.now job.now.problem.now seat.old }
@@ -181,7 +185,7 @@ pub fn report<'p, R: Wait, O: Outlet>(
     ensures leads { told.new.leads ≡ told.old.leads }
     ensures done { result ≡ true → Stays (Stands O.Outlet job.now seat.new out.new told.new) seat.old seat.new
         × (seat.new.mine.piece ≡ None) }
-    ensures left { result ≡ false → Leaves (Stopped O.Outlet job.now out.new told.new)
+    ensures left { result ≡ false → LeavesPool (Stopped O.Outlet job.now out.new told.new)
         (WasRefused told.new) seat.old seat.new }
 {
     job.pool.report(job.rt, seat, found);

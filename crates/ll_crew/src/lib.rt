@@ -2,7 +2,6 @@
 #![tactic(auto)]
 
 mod alone;
-mod apart;
 mod bell;
 mod beside;
 mod crowd;
@@ -16,13 +15,14 @@ mod offer;
 mod piece;
 mod pool;
 mod sharing;
+mod team;
 mod whole;
 mod worker;
 
-pub use apart::crew_apart;
 pub use bell::Bell;
 pub use fault::CrewFault;
 pub use first::{crew_first, crew_first_with};
 pub use pool::{crew_of, index_of};
+pub use team::Team;
 pub use whole::{crew, crew_with};
 pub use worker::work;

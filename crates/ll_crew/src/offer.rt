@@ -58,7 +58,7 @@ impl<'p, E: Notice> Offer<'p, E> {
     }
 }
 
-// A value that threads may share. Whatever it is, it is put away where memory is wanting.
+// A value that threads may share. Whatever it is, it is put away where memory runs out.
 pub(crate) fn shared<T: Drop>(alloc: Global, value: T) -> Result<Arc<T>, OutOfMemory>
     ensures { IfOk result (λ same. arc_value same ≡ value) }
 {

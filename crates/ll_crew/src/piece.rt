@@ -18,6 +18,7 @@ use crate::sharing::{Offered, publish};
 use crate::worker::Worker;
 use ll_bank::OutOfMemory;
 use ll_core::Look;
+use ll_edge::Gate;
 use ll_engine::{Engine, Progress};
 use ll_freeze::Frozen;
 use ll_laws::{Batch, Notice, Report};
@@ -36,7 +37,8 @@ pub(crate) fn stretch<E: Notice>(
     at_once: bool,
 ) -> Result<bool, OutOfMemory>
     requires suits { E.suits engine.old.problem }
-    ensures { IfOk result (λ done. Stretched done (map E.stands_for events.old.items) engine.old (map E.stands_for events.new.items) engine.new) }
+    ensures { IfOk result (λ done. Stretched done (map E.stands_for events.old.items) engine.old
+        (map E.stands_for events.new.items) engine.new) }
 {
     for _step in 0..STEPS {
         match engine.note(events)? {
@@ -86,9 +88,9 @@ where
 }
 
 // Publishes the oldest choice point of the engine, if it has one that is untried. A batch for which the pool has no place comes back, and
-// so does each where workers search apart.
-fn share_oldest<'p, R: Wait, O: Outlet>(
-    job: &Job<'_, 'p, R, O>,
+// so does one that the gate gives back.
+fn share_oldest<'p, R: Wait, G: Gate, O: Outlet>(
+    job: &Job<'_, 'p, R, G, O>,
     seat: &mut Seat<Offer<'p, O::Found>>,
     engine: &mut Engine<'p>,
     events: &Vec<O::Found>,
@@ -96,7 +98,8 @@ fn share_oldest<'p, R: Wait, O: Outlet>(
     requires seat { IsSeat job.now.pool.now engine.old.problem seat.old }
     requires owes { OwesAll seat.old.mine.piece (map O.Found.stands_for events.now.items) engine.old [] }
     ensures calm { Calm seat.old seat.new }
-    ensures owes { IfOk result (λ shared. SharesTo seat.new.mine.piece (map O.Found.stands_for events.now.items) engine.old engine.new shared) }
+    ensures owes { IfOk result (λ shared. SharesTo seat.new.mine.piece
+        (map O.Found.stands_for events.now.items) engine.old engine.new shared) }
 {
     let Some(batch) = engine.split_oldest()? else {
         return Ok(Shared::Nothing);
@@ -109,8 +112,8 @@ fn share_oldest<'p, R: Wait, O: Outlet>(
 
 /// Publishes the oldest choice point of the engine, if it has one that is untried, or all of them, the oldest first. A batch for which the
 /// pool has no place comes back, and the piece owes it still.
-fn share<'p, R: Wait, O: Outlet>(
-    job: &Job<'_, 'p, R, O>,
+fn share<'p, R: Wait, G: Gate, O: Outlet>(
+    job: &Job<'_, 'p, R, G, O>,
     seat: &mut Seat<Offer<'p, O::Found>>,
     engine: &mut Engine<'p>,
     events: &Vec<O::Found>,
@@ -119,7 +122,8 @@ fn share<'p, R: Wait, O: Outlet>(
     requires seat { IsSeat job.now.pool.now engine.old.problem seat.old }
     requires owes { OwesAll seat.old.mine.piece (map O.Found.stands_for events.now.items) engine.old [] }
     ensures calm { Calm seat.old seat.new }
-    ensures owes { IfOk result (λ back. OwesAfter seat.new.mine.piece (map O.Found.stands_for events.now.items) engine.old engine.new back) }
+    ensures owes { IfOk result (λ back. OwesAfter seat.new.mine.piece
+        (map O.Found.stands_for events.now.items) engine.old engine.new back) }
 {
     'points: loop {
         match share_oldest(job, seat, engine, events)? {
@@ -152,8 +156,8 @@ enum Ran<'p> {
 
 // Runs an engine, and publishes its oldest choice point where workers have nothing to do, or all of them after an answer that is to be
 // reported at once.
-fn run<'p, R: Wait, O: Outlet>(
-    job: &Job<'_, 'p, R, O>,
+fn run<'p, R: Wait, G: Gate, O: Outlet>(
+    job: &Job<'_, 'p, R, G, O>,
     worker: &mut Worker<'_, 'p, O::Found>,
     engine: &mut Engine<'p>,
     events: &mut Vec<O::Found>,
@@ -187,8 +191,8 @@ fn run<'p, R: Wait, O: Outlet>(
 }
 
 // Runs an engine to its end, and publishes nothing. False where the pool is starved or stopped.
-fn run_alone<'p, R: Wait, O: Outlet>(
-    job: &Job<'_, 'p, R, O>,
+fn run_alone<'p, R: Wait, G, O: Outlet>(
+    job: &Job<'_, 'p, R, G, O>,
     worker: &mut Worker<'_, 'p, O::Found>,
     engine: &mut Engine<'p>,
     events: &mut Vec<O::Found>,
@@ -222,8 +226,8 @@ struct Alternative<'p> {
 }
 
 // An engine for an alternative of a batch: the one that the worker has kept goes on, if there is one.
-fn engine_for<'p, R, O: Outlet>(
-    job: &Job<'_, 'p, R, O>,
+fn engine_for<'p, R, G, O: Outlet>(
+    job: &Job<'_, 'p, R, G, O>,
     kept: &mut Option<Engine<'p>>,
     claimed: Alternative<'p>,
 ) -> Result<Engine<'p>, OutOfMemory>
@@ -231,7 +235,8 @@ fn engine_for<'p, R, O: Outlet>(
     requires inside { claimed.k < length (alternatives_in (arc_value claimed.batch)) }
     requires of { (arc_value claimed.batch).problem ≡ job.now.problem.now }
     ensures problem { IfOk result (λ e. e.problem ≡ job.now.problem.now) }
-    ensures owes { IfOk result (λ e. (owes : Owed TheEvent) → slice_get (alternatives_in (arc_value claimed.entry.batch)) claimed.entry.k ≡ Some owes
+    ensures owes { IfOk result (λ e. (owes : Owed TheEvent)
+        → slice_get (alternatives_in (arc_value claimed.entry.batch)) claimed.entry.k ≡ Some owes
         → Resumes job.now.problem.now owes e) }
 {
     let Alternative { batch, k } = claimed;
@@ -252,8 +257,8 @@ where
 
 // Runs an alternative of a batch that came back to its end. Adds its events, and answers its inferences. None where the pool is starved or
 // stopped.
-fn run_one<'p, R: Wait, O: Outlet>(
-    job: &Job<'_, 'p, R, O>,
+fn run_one<'p, R: Wait, G, O: Outlet>(
+    job: &Job<'_, 'p, R, G, O>,
     worker: &mut Worker<'_, 'p, O::Found>,
     claimed: Alternative<'p>,
     events: &mut Vec<O::Found>,
@@ -267,8 +272,10 @@ fn run_one<'p, R: Wait, O: Outlet>(
     requires of { (arc_value claimed.batch).problem ≡ job.now.problem.now }
     ensures holds { Holds worker.old worker.new }
     ensures kept { OnOk result (IsKeptOf job.now.problem.now worker.new.kept.now) }
-    ensures some { IfOk result (λ o. IfSome o (λ n. (x : Owed TheEvent) → slice_get (alternatives_in (arc_value claimed.entry.batch)) claimed.entry.k ≡ Some x
-        → RunsOne O.Outlet job.now worker.old worker.new out.new (map O.Found.stands_for events.old.items) x (map O.Found.stands_for events.new.items) n)) }
+    ensures some { IfOk result (λ o. IfSome o (λ n. (x : Owed TheEvent)
+        → slice_get (alternatives_in (arc_value claimed.entry.batch)) claimed.entry.k ≡ Some x
+        → RunsOne O.Outlet job.now worker.old worker.new out.new (map O.Found.stands_for events.old.items) x
+        (map O.Found.stands_for events.new.items) n)) }
     ensures none { IfOk result (λ o. IfNone o (Leaves O.Outlet job.now worker.old worker.new out.new)) }
     ensures failed { OnErr result (Stays O.Outlet job.now worker.old worker.new out.new) }
 {
@@ -290,8 +297,8 @@ struct Rest<'p> {
 
 // Runs each alternative of a batch to its end. Adds its events, and its inferences to those that there are, cut at the greatest `u64`.
 // None where the pool is starved or stopped.
-fn run_batch<'p, R: Wait, O: Outlet>(
-    job: &Job<'_, 'p, R, O>,
+fn run_batch<'p, R: Wait, G, O: Outlet>(
+    job: &Job<'_, 'p, R, G, O>,
     worker: &mut Worker<'_, 'p, O::Found>,
     rest: &Rest<'p>,
     events: &mut Vec<O::Found>,
@@ -304,8 +311,9 @@ fn run_batch<'p, R: Wait, O: Outlet>(
     requires of { (arc_value rest.now.batch).problem ≡ job.now.problem.now }
     ensures holds { Holds worker.old worker.new }
     ensures kept { OnOk result (IsKeptOf job.now.problem.now worker.new.kept.now) }
-    ensures some { IfOk result (λ o. IfSome o (λ n. RunsAll O.Outlet job.now worker.old worker.new out.new (map O.Found.stands_for events.old.items)
-        (alternatives_in (arc_value rest.now.batch)) rest.now.inferences (map O.Found.stands_for events.new.items) n)) }
+    ensures some { IfOk result (λ o. IfSome o (λ n. RunsAll O.Outlet job.now worker.old worker.new out.new
+        (map O.Found.stands_for events.old.items) (alternatives_in (arc_value rest.now.batch)) rest.now.inferences
+        (map O.Found.stands_for events.new.items) n)) }
     ensures none { IfOk result (λ o. IfNone o (Leaves O.Outlet job.now worker.old worker.new out.new)) }
     ensures failed { OnErr result (Stays O.Outlet job.now worker.old worker.new out.new) }
 {
@@ -333,8 +341,8 @@ enum Ending<'p> {
 }
 
 // Runs the engine of a piece to its end.
-fn run_to_end<'p, R: Wait, O: Outlet>(
-    job: &Job<'_, 'p, R, O>,
+fn run_to_end<'p, R: Wait, G: Gate, O: Outlet>(
+    job: &Job<'_, 'p, R, G, O>,
     worker: &mut Worker<'_, 'p, O::Found>,
     engine: &mut Engine<'p>,
     events: &mut Vec<O::Found>,
@@ -362,8 +370,8 @@ fn run_to_end<'p, R: Wait, O: Outlet>(
 }
 
 // Runs the alternative of a piece to the end of its engine, which is kept.
-fn run_claimed<'p, R: Wait, O: Outlet>(
-    job: &Job<'_, 'p, R, O>,
+fn run_claimed<'p, R: Wait, G: Gate, O: Outlet>(
+    job: &Job<'_, 'p, R, G, O>,
     worker: &mut Worker<'_, 'p, O::Found>,
     claimed: Alternative<'p>,
     events: &mut Vec<O::Found>,
@@ -391,8 +399,8 @@ fn run_claimed<'p, R: Wait, O: Outlet>(
 
 // Runs a piece to its end, with what it owes beside its engine. The events are then those that the piece owes, and the answer is its
 // inferences. None where the pool is starved or stopped.
-fn run_piece<'p, R: Wait, O: Outlet>(
-    job: &Job<'_, 'p, R, O>,
+fn run_piece<'p, R: Wait, G: Gate, O: Outlet>(
+    job: &Job<'_, 'p, R, G, O>,
     worker: &mut Worker<'_, 'p, O::Found>,
     claimed: Alternative<'p>,
     events: &mut Vec<O::Found>,
@@ -429,8 +437,8 @@ fn run_piece<'p, R: Wait, O: Outlet>(
 }
 
 /// Works an alternative that was claimed, and reports. False where the pool is starved or stopped.
-pub(crate) fn work_piece<'p, R: Wait, O: Outlet>(
-    job: &Job<'_, 'p, R, O>,
+pub(crate) fn work_piece<'p, R: Wait, G: Gate, O: Outlet>(
+    job: &Job<'_, 'p, R, G, O>,
     worker: &mut Worker<'_, 'p, O::Found>,
     offer: Arc<Offer<'p, O::Found>>,
     k: u32,

@@ -7,7 +7,7 @@ ghost use Rattle.ll_laws.specs.Valid.{IsValid};
 ghost use Rattle.ll_freeze.specs.Frozen.{alternatives_in, opening};
 ghost use Rattle.ll_freeze.specs.Indexed.{IsIndexOf};
 ghost use Rattle.ll_freeze.specs.Parts.{Base};
-ghost use Rattle.ll_pool.specs.Fits.{Fits};
+ghost use Rattle.ll_pool.specs.Fits.{SeatFits};
 ghost use Rattle.ll_crew.specs.Seats.{of_batch};
 ghost use Rattle.ll_crew.specs.Crews.{worker_of, number_of, without_all, IsBack, MayJoin, MayBegin, IsCrew};
 ghost use Rattle.ll_crew.specs.Turns.{CanWork};
@@ -51,11 +51,14 @@ fn seats<N: Batch>(
     pool: &SharedPool<N>,
     first: &mut Seat<N>,
 ) -> Result<Vec<Seat<N>>, OutOfMemory>
-    requires own { MayBegin pool.now first.old.problem first.old × (first.old.given ≡ []) × (first.old.mine.worker ≡ 0) }
+    requires own { MayBegin pool.now first.old.problem first.old × (first.old.given ≡ [])
+        × (first.old.mine.worker ≡ 0) }
     requires range { (first.old.mine.from ≡ 1) × (first.old.mine.end ≡ pool.now.workers) }
     requires some { 0 < pool.now.workers }
-    ensures first { MayBegin pool.now first.old.problem first.new × (first.new.mine.worker ≡ 0) × (first.new.mine.seen ≡ first.old.mine.seen) }
-    ensures ok { IfOk result (λ v. Every (MayBegin pool.now first.old.problem) v.items × (without_all (map number_of v.items) first.new.given ≡ [])) }
+    ensures first { MayBegin pool.now first.old.problem first.new × (first.new.mine.worker ≡ 0)
+        × (first.new.mine.seen ≡ first.old.mine.seen) }
+    ensures ok { IfOk result (λ v. Every (MayBegin pool.now first.old.problem) v.items
+        × (without_all (map number_of v.items) first.new.given ≡ [])) }
     ensures each { IfOk result (λ v. suc (length v.items) ≡ pool.now.workers) }
 {
     let mut all = Vec::new(alloc);
@@ -107,7 +110,8 @@ pub fn crew_of<'p, E: Notice>(
         × (without_all (map worker_of made.2.items) made.1.given ≡ [])) }
     ensures each { IfOk result (λ made. suc (length made.2.items) ≡ workers) }
     ensures others { IfOk result (λ made. Every (CanWork made.0 problem.entry.now) made.2.items) }
-    ensures seen { IfOk result (λ made. (base : Base) × (made.1.mine.seen ≡ opens (opening problem.entry.now base) workers)) }
+    ensures seen { IfOk result (λ made. (base : Base)
+        × (made.1.mine.seen ≡ opens (opening problem.entry.now base) workers)) }
 {
     let root = root_of(alloc, problem, index)?;
     crew_from(alloc, root, workers)
@@ -122,7 +126,7 @@ pub fn close<'p, E: Notice>(
 ) -> Pool<Offer<'p, E>>
     requires own { (first.table ≡ pool.table) × (first.mine.worker ≡ 0) }
     requires others { Every (IsBack pool) others.items × (without_all (map worker_of others.items) first.given ≡ []) }
-    ensures { Fits of_batch alternatives_in result first.entry.problem first.entry.mine }
+    ensures { SeatFits of_batch alternatives_in result first.entry.problem first.entry.mine }
 {
     let _problem = problem;
     join_all(&pool, &mut first, others);
@@ -132,7 +136,8 @@ pub fn close<'p, E: Notice>(
 // Takes seats back, whatever their batches are.
 fn join_all<N: Batch>(pool: &SharedPool<N>, first: &mut Seat<N>, others: Vec<Seat<N>>)
     requires own { first.old.table ≡ pool.now.table }
-    requires others { Every (MayJoin pool.now) others.items × (without_all (map number_of others.items) first.old.given ≡ []) }
+    requires others { Every (MayJoin pool.now) others.items
+        × (without_all (map number_of others.items) first.old.given ≡ []) }
     ensures { first.new ≡ record first.old { given = [] } }
 {
     for other in others {

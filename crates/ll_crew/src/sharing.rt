@@ -6,19 +6,18 @@ ghost use Rattle.ll_laws.specs.CoreEvents.{PublishAnswer, Publish, Does};
 ghost use Rattle.ll_pool.specs.Turns.{OneTurn, EndsWith, IsRest};
 ghost use Rattle.ll_crew.specs.Seats.{IsSeat, Calm, HasNoPlace};
 ghost use Rattle.ll_crew.specs.Offers.{IfTaken, IfBack};
-ghost use Rattle.ll_crew.specs.declared.job.Sharing.{Sharing};
 
 use crate::heard::Woken;
-use crate::job::{Job, Sharing};
+use crate::job::Job;
 use crate::offer::{Offer, shared};
 use ll_bank::OutOfMemory;
 use ll_core::PublishFault;
+use ll_edge::Gate;
 use ll_freeze::Frozen;
 use ll_laws::Batch;
 use ll_order::Outlet;
 use ll_pool::{Seat, SharedPool};
 use std::alloc::AllocError;
-use std::sync::atomic::Ordering;
 use std::sync::{Arc, Wait};
 
 /// What became of a batch that was to be published.
@@ -31,9 +30,9 @@ pub enum Offered<'p> {
 }
 
 /// Publishes a batch that was split off a piece, and wakes as many workers as it has alternatives. It comes back where the pool has no place
-/// for it, and where workers search apart.
-pub fn publish<'p, R: Wait, O: Outlet>(
-    job: &Job<'_, 'p, R, O>,
+/// for it, and where the gate gives it back.
+pub fn publish<'p, R: Wait, G: Gate, O: Outlet>(
+    job: &Job<'_, 'p, R, G, O>,
     seat: &mut Seat<Offer<'p, O::Found>>,
     batch: Frozen<'p>,
 ) -> Result<Offered<'p>, OutOfMemory>
@@ -41,16 +40,18 @@ pub fn publish<'p, R: Wait, O: Outlet>(
     requires some { 0 < length (alternatives_in batch) }
     requires ends { IsSomeAnd seat.old.mine.piece (λ piece. EndsWith piece.owes (alternatives_in batch)) }
     ensures calm { Calm seat.old seat.new }
-    ensures rest { IfOk result (λ offered. IfTaken offered (λ _. IsSomeAnd seat.old.mine.piece (λ whole. IsSomeAnd seat.new.mine.piece
-        (λ rest. IsRest (alternatives_in batch.entry) whole rest)))) }
+    ensures rest { IfOk result (λ offered. IfTaken offered
+        (λ _. IsSomeAnd seat.old.mine.piece
+        (λ whole. IsSomeAnd seat.new.mine.piece (λ rest. IsRest (alternatives_in batch.entry) whole rest)))) }
     ensures woken { IfOk result (λ offered. IfTaken offered (λ others. others ≡ length (alternatives_in batch.entry))) }
-    ensures back { IfOk result (λ offered. IfBack offered (λ same. (arc_value same ≡ batch.entry) × (seat.new.mine.piece ≡ seat.old.mine.piece))) }
-    ensures back_only { IfOk result (λ offered. IfBack offered (λ _. (job.now.sharing ≡ Sharing.Apart) ⊎ HasNoPlace batch.entry seat.new)) }
+    ensures back { IfOk result (λ offered. IfBack offered (λ same. (arc_value same ≡ batch.entry)
+        × (seat.new.mine.piece ≡ seat.old.mine.piece))) }
+    ensures back_only { IfOk result (λ offered. IfBack offered (λ _. G.returns job.now.gate.now
+        ⊎ HasNoPlace batch.entry seat.new)) }
 {
     let alternatives = batch.len();
     let choice = shared(job.alloc, batch)?;
-    if let Sharing::Apart = job.sharing {
-        job.came_back.fetch_add(1, Ordering::Relaxed);
+    if job.gate.gives_back() {
         return Ok(Offered::Back(choice));
     }
     match offer(job, seat, &choice) {
@@ -61,18 +62,21 @@ pub fn publish<'p, R: Wait, O: Outlet>(
 }
 
 // Publishes a choice point. False where the pool has no place for it.
-fn offer<'p, R: Wait, O: Outlet>(
-    job: &Job<'_, 'p, R, O>,
+fn offer<'p, R: Wait, G, O: Outlet>(
+    job: &Job<'_, 'p, R, G, O>,
     seat: &mut Seat<Offer<'p, O::Found>>,
     choice: &Arc<Frozen<'p>>,
 ) -> Result<bool, OutOfMemory>
     requires seat { IsSeat job.now.pool.now (arc_value choice.now).problem seat.old }
     requires some { 0 < length (alternatives_in (arc_value choice.now)) }
-    requires ends { IsSomeAnd seat.old.mine.piece (λ piece. EndsWith piece.owes (alternatives_in (arc_value choice.now))) }
+    requires ends { IsSomeAnd seat.old.mine.piece
+        (λ piece. EndsWith piece.owes (alternatives_in (arc_value choice.now))) }
     ensures calm { Calm seat.old seat.new }
-    ensures rest { IfOk result (λ done. done ≡ true → IsSomeAnd seat.old.mine.piece (λ whole. IsSomeAnd seat.new.mine.piece
-        (λ rest. IsRest (alternatives_in (arc_value choice.now)) whole rest))) }
-    ensures full { IfOk result (λ done. done ≡ false → HasNoPlace (arc_value choice.now) seat.new × (seat.new.mine.piece ≡ seat.old.mine.piece)) }
+    ensures rest { IfOk result (λ done. done ≡ true
+        → IsSomeAnd seat.old.mine.piece
+        (λ whole. IsSomeAnd seat.new.mine.piece (λ rest. IsRest (alternatives_in (arc_value choice.now)) whole rest))) }
+    ensures full { IfOk result (λ done. done ≡ false → HasNoPlace (arc_value choice.now) seat.new
+        × (seat.new.mine.piece ≡ seat.old.mine.piece)) }
 {
     let point = Offer::new(choice)?;
     let offer = shared(job.alloc, point)?;
@@ -92,9 +96,11 @@ fn put<R: Wait, N: Batch>(
     requires ends { IsSomeAnd seat.old.mine.piece (λ piece. EndsWith piece.owes (N.alternatives (arc_value batch))) }
     ensures turn { (answer : PublishAnswer) × OneTurn N.of N.alternatives (λ found left.
         Does N.alternatives found (Publish seat.old.mine.worker (arc_value batch) answer) left) seat.old seat.new }
-    ensures rest { IfOk result (λ done. done ≡ true → IsSomeAnd seat.old.mine.piece (λ whole. IsSomeAnd seat.new.mine.piece
-        (λ rest. IsRest (N.alternatives (arc_value batch)) whole rest))) }
-    ensures full { IfOk result (λ done. done ≡ false → (4294967295 < seat.new.mine.seen.total + length (N.alternatives (arc_value batch)))
+    ensures rest { IfOk result (λ done. done ≡ true
+        → IsSomeAnd seat.old.mine.piece
+        (λ whole. IsSomeAnd seat.new.mine.piece (λ rest. IsRest (N.alternatives (arc_value batch)) whole rest))) }
+    ensures full { IfOk result (λ done. done ≡ false
+        → (4294967295 < seat.new.mine.seen.total + length (N.alternatives (arc_value batch)))
         × (seat.new.mine.piece ≡ seat.old.mine.piece)) }
 {
     match pool.publish(rt, seat, batch) {

@@ -18,62 +18,72 @@ use crate::crowd::work_together;
 use crate::fault::CrewFault;
 use crate::giving::finish;
 use crate::job::{Job, Sharing};
-use crate::lead::Told;
+use crate::lead::Delivery;
 use crate::offer::Offer;
 use crate::pool::{close, crew_of, index_of};
+use crate::team::Team;
 use ll_edge::Gate;
 use ll_index::Index;
-use ll_laws::{Counts, Problem};
+use ll_laws::{Counts, Notice, Problem};
 use ll_order::Outlet;
 use ll_pool::{Seat, SharedPool};
 use std::alloc::Global;
 use std::snapshot::Snapshot;
-use std::sync::atomic::AtomicU64;
 use std::sync::{Arc, Wait};
 use std::thread::Threads;
 
+// The pool of a search, and the seats of all its workers, of which the first stands by itself.
+#[derive(Drop)]
+struct Seats<'p, E: Notice> {
+    pool: SharedPool<Offer<'p, E>>,
+    first: Seat<Offer<'p, E>>,
+    others: Vec<Seat<Offer<'p, E>>>,
+}
+
 // Searches with these seats, and gives the outlet what was found.
 fn search<'p, R: Threads + Wait + Sync, G: Gate, O: Outlet>(
-    rt: &R,
-    alloc: Global,
+    team: &Team<'_, R, G>,
     problem: &'p Problem,
-    pool: SharedPool<Offer<'p, O::Found>>,
-    gate: &G,
     sharing: Sharing,
-    came_back: &AtomicU64,
-    mut first: Seat<Offer<'p, O::Found>>,
-    others: Vec<Seat<Offer<'p, O::Found>>>,
+    seats: Seats<'p, O::Found>,
     out: &mut O,
 ) -> Result<Counts, CrewFault>
-    requires first { CanWork pool problem.now first × (first.mine.worker ≡ 0) × (without_all (map worker_of others.items) first.given ≡ []) }
-    requires others { Every (CanWork pool problem.now) others.items }
+    requires first { CanWork seats.pool problem.now seats.first × (seats.first.mine.worker ≡ 0)
+        × (without_all (map worker_of seats.others.items) seats.first.given ≡ []) }
+    requires others { Every (CanWork seats.pool problem.now) seats.others.items }
     requires suits { O.Found.suits problem.now }
-    requires leads { Leads O.Outlet out.old problem.now first.mine.seen out.old
+    requires leads { Leads O.Outlet out.old problem.now seats.first.mine.seen out.old
         (record { answers = 0; reached = 0; inferences = 0 }) }
     ensures given { OnOk result (Gives O.takes out.old (problem_events problem.entry.now) out.new) }
-    ensures counts { IfOk result (λ counts. CountsOf counts (problem_events problem.entry.now) (problem_cost problem.entry.now)) }
+    ensures counts { IfOk result (λ counts. CountsOf counts (problem_events problem.entry.now)
+        (problem_cost problem.entry.now)) }
     ensures refused { OnErr result (GivesPrefix O.takes O.breaks out.old (problem_events problem.entry.now) out.new) }
     ensures write { result ≡ Err CrewFault.Write → Rose (O.faults out.old) (O.faults out.new) }
     ensures kept { Kept O.Outlet out.old out.new }
 {
+    let Seats {
+        pool,
+        mut first,
+        others,
+    } = seats;
     let start = Snapshot::of(&*out);
-    let mut told = Told::new(true);
+    let mut told = Delivery::new(true);
     let bell = if others.is_empty() {
         Bell::silent()
     } else {
         Bell::new()
     };
     let job = Job {
-        rt,
-        alloc,
+        rt: team.rt,
+        alloc: team.alloc,
         problem,
         pool: &pool,
         bell: &bell,
+        gate: team.gate,
         sharing,
-        came_back,
         start: &start,
     };
-    let (others, done) = work_together(&job, gate, &mut first, &mut told, out, others);
+    let (others, done) = work_together(&job, &mut first, &mut told, out, others);
     let closed = close(problem, pool, first, others);
     finish(problem, closed, &start, &told, done, out)
 }
@@ -84,6 +94,8 @@ fn search<'p, R: Threads + Wait + Sync, G: Gate, O: Outlet>(
 ///
 /// `Ok` has the counts of the events and the cost of the search. On a refusal a prefix of the events was given. `Write` only where the
 /// outlet's count of faults rose. A worker for which no thread can be started has its share done by the others.
+///
+/// The program does not call it: it has an index already, for [`crew_with`].
 pub fn crew<'p, R: Threads + Wait + Sync, G: Gate, O: Outlet>(
     rt: &R,
     alloc: Global,
@@ -97,7 +109,8 @@ pub fn crew<'p, R: Threads + Wait + Sync, G: Gate, O: Outlet>(
     requires suits { O.Found.suits problem.now }
     requires welcome { Every (O.welcome out.old) (problem_events problem.now) }
     ensures given { OnOk result (Gives O.takes out.old (problem_events problem.entry.now) out.new) }
-    ensures counts { IfOk result (λ counts. CountsOf counts (problem_events problem.entry.now) (problem_cost problem.entry.now)) }
+    ensures counts { IfOk result (λ counts. CountsOf counts (problem_events problem.entry.now)
+        (problem_cost problem.entry.now)) }
     ensures refused { OnErr result (GivesPrefix O.takes O.breaks out.old (problem_events problem.entry.now) out.new) }
     ensures write { result ≡ Err CrewFault.Write → Rose (O.faults out.old) (O.faults out.new) }
     ensures faults_kept { O.faults out.old ≤ O.faults out.new }
@@ -106,37 +119,29 @@ pub fn crew<'p, R: Threads + Wait + Sync, G: Gate, O: Outlet>(
     let Ok(index) = index_of(alloc, problem) else {
         return Err(CrewFault::OutOfMemory);
     };
-    let came_back = AtomicU64::new(0);
-    crew_by(
+    let team = Team {
         rt,
         alloc,
-        problem,
-        index,
         workers,
         gate,
-        Sharing::WhereIdle,
-        &came_back,
-        out,
-    )
+    };
+    crew_by(&team, problem, index, Sharing::WhereIdle, out)
 }
 
 /// The same crew, with an index of the problem's clauses that was made before: problems of the same clauses may share it.
 pub fn crew_with<'p, R: Threads + Wait + Sync, G: Gate, O: Outlet>(
-    rt: &R,
-    alloc: Global,
+    team: &Team<'_, R, G>,
     problem: &'p Problem,
     index: &Arc<Index>,
-    workers: u32,
-    gate: &G,
     out: &mut O,
 ) -> Result<Counts, CrewFault>
-    requires workers { (0 < workers) × (workers ≤ 64) }
     requires valid { IsValid problem.now }
     requires suits { O.Found.suits problem.now }
     requires index { IsIndexOf problem.now (arc_value index.now) }
     requires welcome { Every (O.welcome out.old) (problem_events problem.now) }
     ensures given { OnOk result (Gives O.takes out.old (problem_events problem.entry.now) out.new) }
-    ensures counts { IfOk result (λ counts. CountsOf counts (problem_events problem.entry.now) (problem_cost problem.entry.now)) }
+    ensures counts { IfOk result (λ counts. CountsOf counts (problem_events problem.entry.now)
+        (problem_cost problem.entry.now)) }
     ensures refused { OnErr result (GivesPrefix O.takes O.breaks out.old (problem_events problem.entry.now) out.new) }
     ensures write { result ≡ Err CrewFault.Write → Rose (O.faults out.old) (O.faults out.new) }
     ensures faults_kept { O.faults out.old ≤ O.faults out.new }
@@ -145,52 +150,42 @@ pub fn crew_with<'p, R: Threads + Wait + Sync, G: Gate, O: Outlet>(
     let Ok(index) = Arc::try_clone(index) else {
         return Err(CrewFault::OutOfMemory);
     };
-    let came_back = AtomicU64::new(0);
-    crew_by(
-        rt,
-        alloc,
-        problem,
-        index,
-        workers,
-        gate,
-        Sharing::WhereIdle,
-        &came_back,
-        out,
-    )
+    crew_by(team, problem, index, Sharing::WhereIdle, out)
 }
 
 // The same, with an index of the problem's clauses, where workers share their choice points in some way.
 pub(crate) fn crew_by<'p, R: Threads + Wait + Sync, G: Gate, O: Outlet>(
-    rt: &R,
-    alloc: Global,
+    team: &Team<'_, R, G>,
     problem: &'p Problem,
     index: Arc<Index>,
-    workers: u32,
-    gate: &G,
     sharing: Sharing,
-    came_back: &AtomicU64,
     out: &mut O,
 ) -> Result<Counts, CrewFault>
-    requires workers { (0 < workers) × (workers ≤ 64) }
     requires valid { IsValid problem.now }
     requires suits { O.Found.suits problem.now }
     requires index { IsIndexOf problem.now (arc_value index) }
     requires welcome { Every (O.welcome out.old) (problem_events problem.now) }
     ensures given { OnOk result (Gives O.takes out.old (problem_events problem.entry.now) out.new) }
-    ensures counts { IfOk result (λ counts. CountsOf counts (problem_events problem.entry.now) (problem_cost problem.entry.now)) }
+    ensures counts { IfOk result (λ counts. CountsOf counts (problem_events problem.entry.now)
+        (problem_cost problem.entry.now)) }
     ensures refused { OnErr result (GivesPrefix O.takes O.breaks out.old (problem_events problem.entry.now) out.new) }
     ensures write { result ≡ Err CrewFault.Write → Rose (O.faults out.old) (O.faults out.new) }
     ensures faults_kept { O.faults out.old ≤ O.faults out.new }
     ensures welcome_kept { (e : Event) → O.welcome out.old e ↔ O.welcome out.new e }
 {
-    if workers == 1 {
-        gate.pause(0, 0);
-        return search_alone(alloc, problem, index, out);
+    if team.workers == 1 {
+        team.gate.pause(0, 0);
+        return search_alone(team.alloc, problem, index, out);
     }
-    match crew_of(alloc, problem, index, workers) {
-        Ok((pool, first, others)) => search(
-            rt, alloc, problem, pool, gate, sharing, came_back, first, others, out,
-        ),
+    match crew_of(team.alloc, problem, index, team.workers) {
+        Ok((pool, first, others)) => {
+            let seats = Seats {
+                pool,
+                first,
+                others,
+            };
+            search(team, problem, sharing, seats, out)
+        }
         Err(_) => Err(CrewFault::OutOfMemory),
     }
 }

@@ -2,7 +2,7 @@
 ghost use Rattle.std.specs.Prelude.{◌≡◌, ◌⊎◌, None, IfOk, OnOk, OnErr, true, false};
 ghost use Rattle.ll_crew.specs.Seats.{IsSeat, Same, HasLeft, IsOver};
 ghost use Rattle.ll_crew.specs.Leading.{Stands, Stopped, WasRefused};
-ghost use Rattle.ll_crew.specs.Turns.{Stays, Ended, Leaves, Fails, CanWork};
+ghost use Rattle.ll_crew.specs.Turns.{Stays, Ended, LeavesPool, Fails, CanWork};
 ghost use Rattle.ll_crew.specs.Pieces.{IsKeptOf};
 ghost use Rattle.ll_crew.specs.Runs.{TakesTurn};
 ghost use Rattle.ll_crew.specs.Workers as workers;
@@ -11,7 +11,7 @@ ghost use Rattle.ll_crew.specs.Workers.{Holds, Standing, WentTo};
 use crate::bell::Bell;
 use crate::heard::AllWoken;
 use crate::job::{Job, Sharing};
-use crate::lead::{Mute, Told, tell};
+use crate::lead::{Delivery, Mute, tell};
 use crate::offer::Offer;
 use crate::piece::work_piece;
 use ll_bank::OutOfMemory;
@@ -25,7 +25,6 @@ use std::alloc::Global;
 use std::marker::PhantomData;
 use std::snapshot::Snapshot;
 use std::sync::Wait;
-use std::sync::atomic::AtomicU64;
 use std::thread;
 
 /// So often a worker that finds nothing to claim yields and tries again, before it waits for the bell.
@@ -39,11 +38,11 @@ pub(crate) struct Worker<'w, 'p, E: Notice> {
     /// The engine that it keeps between two pieces.
     pub(crate) kept: &'w mut Option<Engine<'p>>,
     /// What it has told the outlet.
-    pub(crate) told: &'w mut Told,
+    pub(crate) told: &'w mut Delivery,
 }
 
 // How a claim went.
-enum Went {
+enum ClaimOutcome {
     // An alternative was claimed, worked and reported.
     Worked,
     // Nothing is untried, and others work.
@@ -55,11 +54,11 @@ enum Went {
 }
 
 // Claims an alternative and works it, if there is one. Where there is none a worker that leads gives the outlet what is ready.
-fn claim_one<'p, R: Wait, O: Outlet>(
-    job: &Job<'_, 'p, R, O>,
+fn claim_one<'p, R: Wait, G: Gate, O: Outlet>(
+    job: &Job<'_, 'p, R, G, O>,
     worker: &mut Worker<'_, 'p, O::Found>,
     out: &mut O,
-) -> Result<Went, OutOfMemory>
+) -> Result<ClaimOutcome, OutOfMemory>
     requires suits { O.Found.suits job.now.problem.now }
     requires seat { CanWork job.now.pool.now job.now.problem.now worker.old.seat.now }
     requires stands { Standing O.Outlet job.now worker.old out.old }
@@ -73,27 +72,26 @@ fn claim_one<'p, R: Wait, O: Outlet>(
     match job.pool.claim(job.rt, worker.seat) {
         Claimed::Work { piece: _, batch, k } => {
             if work_piece(job, worker, batch, k, out)? {
-                return Ok(Went::Worked);
+                return Ok(ClaimOutcome::Worked);
             }
-            Ok(Went::Left)
+            Ok(ClaimOutcome::Left)
         }
         Claimed::Idle { busy: _ } => {
             if tell(job, worker.seat, worker.told, out) {
-                return Ok(Went::Idle);
+                return Ok(ClaimOutcome::Idle);
             }
-            Ok(Went::Left)
+            Ok(ClaimOutcome::Left)
         }
-        Claimed::Finished => Ok(Went::Ended),
-        Claimed::Starved => Ok(Went::Left),
-        Claimed::Stopped => Ok(Went::Left),
+        Claimed::Finished => Ok(ClaimOutcome::Ended),
+        Claimed::Starved => Ok(ClaimOutcome::Left),
+        Claimed::Stopped => Ok(ClaimOutcome::Left),
     }
 }
 
 // Claims and works until nothing is untried or open, which is answered by true, or until the pool is starved or stopped. The engine of one
 // claim is kept for the next.
 fn work_with<'p, R: Wait, G: Gate, O: Outlet>(
-    job: &Job<'_, 'p, R, O>,
-    gate: &G,
+    job: &Job<'_, 'p, R, G, O>,
     worker: &mut Worker<'_, 'p, O::Found>,
     out: &mut O,
 ) -> Result<bool, OutOfMemory>
@@ -109,14 +107,14 @@ fn work_with<'p, R: Wait, G: Gate, O: Outlet>(
     let mut claims = 0u64;
     let mut misses = 0u32;
     'claims: for _ in job.rt.forever() {
-        gate.pause(worker.seat.worker(), claims);
+        job.gate.pause(worker.seat.worker(), claims);
         let heard = job.bell.heard(job.rt, worker.seat);
         match claim_one(job, worker, out)? {
-            Went::Worked => {
+            ClaimOutcome::Worked => {
                 claims = claims.saturating_add(1);
                 misses = 0;
             }
-            Went::Idle => {
+            ClaimOutcome::Idle => {
                 if misses < YIELDS {
                     thread::yield_now();
                 } else {
@@ -124,8 +122,8 @@ fn work_with<'p, R: Wait, G: Gate, O: Outlet>(
                 }
                 misses = misses.saturating_add(1);
             }
-            Went::Ended => return Ok(true),
-            Went::Left => return Ok(false),
+            ClaimOutcome::Ended => return Ok(true),
+            ClaimOutcome::Left => return Ok(false),
         }
     }
     unreachable!()
@@ -133,10 +131,9 @@ fn work_with<'p, R: Wait, G: Gate, O: Outlet>(
 
 // The same with no engine at first.
 fn work_on<'p, R: Wait, G: Gate, O: Outlet>(
-    job: &Job<'_, 'p, R, O>,
-    gate: &G,
+    job: &Job<'_, 'p, R, G, O>,
     seat: &mut Seat<Offer<'p, O::Found>>,
-    told: &mut Told,
+    told: &mut Delivery,
     out: &mut O,
 ) -> Result<bool, OutOfMemory>
     requires suits { O.Found.suits job.now.problem.now }
@@ -145,7 +142,7 @@ fn work_on<'p, R: Wait, G: Gate, O: Outlet>(
     ensures leads { told.new.leads ≡ told.old.leads }
     ensures done { IfOk result (λ done. done ≡ true → Ended
         (Stands O.Outlet job.now seat.new out.new told.new) job.now.problem.now seat.old seat.new) }
-    ensures left { IfOk result (λ done. done ≡ false → Leaves (Stopped O.Outlet job.now out.new told.new)
+    ensures left { IfOk result (λ done. done ≡ false → LeavesPool (Stopped O.Outlet job.now out.new told.new)
         (WasRefused told.new) seat.old seat.new) }
     ensures failed { OnErr result (Stays (Stands O.Outlet job.now seat.new out.new told.new) seat.old seat.new) }
 {
@@ -155,18 +152,17 @@ fn work_on<'p, R: Wait, G: Gate, O: Outlet>(
         kept: &mut kept,
         told,
     };
-    let done = work_with(job, gate, &mut worker, out);
+    let done = work_with(job, &mut worker, out);
     drop(kept);
     done
 }
 
 /// Claims and works until nothing is untried or open, which is answered by true, or until the pool is starved or stopped. A worker that
-/// leads gives the outlet what is ready. On want of memory it starves the pool. In each case the other workers are woken, after its last turn.
+/// leads gives the outlet what is ready. Where memory runs out it starves the pool. In each case the other workers are woken, after its last turn.
 pub(crate) fn work_as<'p, R: Wait, G: Gate, O: Outlet>(
-    job: &Job<'_, 'p, R, O>,
-    gate: &G,
+    job: &Job<'_, 'p, R, G, O>,
     seat: &mut Seat<Offer<'p, O::Found>>,
-    told: &mut Told,
+    told: &mut Delivery,
     out: &mut O,
 ) -> (Result<bool, OutOfMemory>, AllWoken<Offer<'p, O::Found>>)
     requires suits { O.Found.suits job.now.problem.now }
@@ -175,12 +171,12 @@ pub(crate) fn work_as<'p, R: Wait, G: Gate, O: Outlet>(
     ensures leads { told.new.leads ≡ told.old.leads }
     ensures done { IfOk result.0 (λ done. done ≡ true → Ended
         (Stands O.Outlet job.now seat.new out.new told.new) job.now.problem.now seat.old seat.new) }
-    ensures left { IfOk result.0 (λ done. done ≡ false → Leaves (Stopped O.Outlet job.now out.new told.new)
+    ensures left { IfOk result.0 (λ done. done ≡ false → LeavesPool (Stopped O.Outlet job.now out.new told.new)
         (WasRefused told.new) seat.old seat.new) }
     ensures failed { OnErr result.0 (Fails (Stopped O.Outlet job.now out.new told.new) seat.old seat.new) }
     ensures woken { result.1 ≡ seat.new.mine.turns }
 {
-    match work_on(job, gate, seat, told, out) {
+    match work_on(job, seat, told, out) {
         Ok(done) => (Ok(done), job.bell.ring_all(job.rt, seat)),
         Err(refused) => {
             job.pool.starve(job.rt, seat);
@@ -193,7 +189,9 @@ pub(crate) fn work_as<'p, R: Wait, G: Gate, O: Outlet>(
 /// pool is one of this problem, and the seat has no open piece.
 ///
 /// Between two looks the worker makes at most 256 steps. Where nothing is untried and fewer pieces are open than there are workers, it
-/// publishes its oldest choice point. After `Ok` it has neither starved nor stopped the pool. On want of memory it starves the pool.
+/// publishes its oldest choice point. After `Ok` it has neither starved nor stopped the pool. Where memory runs out it starves the pool.
+///
+/// The program does not call it: its workers are those of a crew.
 pub fn work<'p, R: Wait, G: Gate, E: Notice>(
     rt: &R,
     alloc: Global,
@@ -212,20 +210,19 @@ pub fn work<'p, R: Wait, G: Gate, E: Notice>(
 {
     let mut mute: Mute<E> = Mute { found: PhantomData };
     let start = Snapshot::of(&mute);
-    let mut told = Told::new(false);
+    let mut told = Delivery::new(false);
     let bell = Bell::silent();
-    let came_back = AtomicU64::new(0);
     let job = Job {
         rt,
         alloc,
         problem,
         pool,
         bell: &bell,
+        gate,
         sharing: Sharing::WhereIdle,
-        came_back: &came_back,
         start: &start,
     };
-    let (done, _woken) = work_as(&job, gate, seat, &mut told, &mut mute);
+    let (done, _woken) = work_as(&job, seat, &mut told, &mut mute);
     done?;
     Ok(())
 }

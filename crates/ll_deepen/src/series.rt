@@ -38,7 +38,8 @@ pub trait Trial {
     /// `u64`. After a refusal the bound may count as tried or not.
     fn counts(&mut self, bound: u32) -> Result<Counts, OutOfMemory>
         requires { bound ≤ 1000000 }
-        ensures counts { IfOk result (λ counts. CountsOf counts (events_within (problem self.old) bound) (cost_within (problem self.old) bound)) }
+        ensures counts { IfOk result (λ counts. CountsOf counts (events_within (problem self.old) bound)
+            (cost_within (problem self.old) bound)) }
         ensures same { problem self.new ≡ problem self.old }
         ensures tried { OnOk result (most self.new ≡ max (most self.old) bound) }
         ensures rises { most self.old ≤ most self.new };
@@ -78,7 +79,8 @@ pub fn is_decided(counts: &Counts) -> bool
 /// A series has one deciding bound. Where its search reaches no bound, that of every greater bound has the same events and inferences: so a
 /// deciding bound without an answer says that no bound has one.
 pub fn deciding_bound()
-    ensures one { (p : ProblemTree) (series : Series) (n m : ℕ) → IsDeciding p series n → IsDeciding p series m → n ≡ m }
+    ensures one { (p : ProblemTree) (series : Series) (n m : ℕ) → IsDeciding p series n → IsDeciding p series m
+        → n ≡ m }
     ensures steady { (p : ProblemTree) (n m : ℕ) → n ≤ m → any_reached (events_within p n) ≡ false
         → (events_within p m ≡ events_within p n) × (cost_within p m ≡ cost_within p n) }
 {

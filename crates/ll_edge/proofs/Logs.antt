@@ -8,7 +8,7 @@ use Rattle.ll_edge.specs.declared.text.ReadFault.TheVariants as fault
 use Rattle.std.proofs.Math.Seq.{take-add}
 use Rattle.std.proofs.lemmas.List.{take_all, append-nil}
 use Rattle.ll_edge.specs.Texts.{Texts, text_of}
-use Rattle.ll_edge.specs.Log.{Answer, Handed, NoText, Entry, logged, Grew, IsGiven, Agrees, Fits, Hands, handed_none, handed_more, Reads, ReadingEnds}
+use Rattle.ll_edge.specs.Log.{Answer, Handed, NoText, Entry, logged, Grew, IsGiven, Agrees, ToldFits, Hands, handed_none, handed_more, Reads, ReadingEnds}
 
 -- ---- logs that grow
 
@@ -128,31 +128,31 @@ hands_longer texts {name} {bytes = bytes} limit all h e = front_longer (text_of 
 
 -- what a shelf tells fits its log
 pub fits_told : (told now_told : Option Texts) (before after : List Entry) → now_told ≡ told → IfSome now_told (λ texts. Agrees texts [] after)
-    → Fits told before after
+    → ToldFits told before after
 fits_told None now_told before after same all = tt
 fits_told (Some texts) now_told before after same all =
     agrees_behind texts before after (subst (λ told. IfSome told (λ texts. Agrees texts [] after)) same all)
 
 -- what fits a log fits each of two parts
-pub fits_first : (told : Option Texts) (before mid after : List Entry) → Grew mid after → Fits told before after → Fits told before mid
+pub fits_first : (told : Option Texts) (before mid after : List Entry) → Grew mid after → ToldFits told before after → ToldFits told before mid
 fits_first None before mid after g fits = tt
 fits_first (Some texts) before mid after g fits = agrees_first texts before mid after g fits
 
-pub fits_second : (told : Option Texts) (before mid after : List Entry) → Grew before mid → Fits told before after → Fits told mid after
+pub fits_second : (told : Option Texts) (before mid after : List Entry) → Grew before mid → ToldFits told before after → ToldFits told mid after
 fits_second None before mid after g fits = tt
 fits_second (Some texts) before mid after g fits = agrees_second texts before mid after g fits
 
-pub told_whole : (told : Option Texts) {name : List ℕ} {before after : List Entry} {bytes : List ℕ} → Fits told before after
+pub told_whole : (told : Option Texts) {name : List ℕ} {before after : List Entry} {bytes : List ℕ} → ToldFits told before after
     → Reads name before after bytes (Handed []) → IfSome told (λ texts. text_of texts name ≡ Some bytes)
 told_whole None fits r = tt
 told_whole (Some texts) fits r = reads_whole texts fits r
 
-pub told_absent : (told : Option Texts) {name : List ℕ} {before after : List Entry} {bytes : List ℕ} → Fits told before after
+pub told_absent : (told : Option Texts) {name : List ℕ} {before after : List Entry} {bytes : List ℕ} → ToldFits told before after
     → Reads name before after bytes NoText → IfSome told (λ texts. text_of texts name ≡ None)
 told_absent None fits r = tt
 told_absent (Some texts) fits r = reads_absent texts fits r
 
-pub told_longer : (told : Option Texts) {name : List ℕ} {before after : List Entry} {bytes : List ℕ} (limit : ℕ) → Fits told before after
+pub told_longer : (told : Option Texts) {name : List ℕ} {before after : List Entry} {bytes : List ℕ} (limit : ℕ) → ToldFits told before after
     → Hands name before after bytes → length bytes ≡ limit + 1 → IfSome told (λ texts. IsSomeAnd (text_of texts name) (λ text. limit < length text))
 told_longer None limit fits h e = tt
 told_longer (Some texts) limit fits h e = hands_longer texts limit fits h e

@@ -2,9 +2,9 @@
 use Rattle.std.proofs.Common.{◌≡◌, ℕ, ◌+◌, ◌<◌, ◌≤◌, List, [], ◌++◌, Option, Some, None, length, take, drop, refl, ap, sym, ◌∙◌, arith, append_assoc}
 use Rattle.std.proofs.Common.{length-drop}
 use Rattle.std.proofs.Math.Seq.{take-add}
-use Rattle.std.proofs.lemmas.List.{append-nil, take_all}
+use Rattle.std.proofs.lemmas.List.{append-nil}
 use Rattle.std.specs.Io.KnownBytes.{append_known}
-use Rattle.ll_edge.specs.Pieces.{AppendsFront, TakesFront}
+use Rattle.ll_edge.specs.Pieces.{TakesFront}
 
 -- to append nothing leaves all as it was
 pub append_known-nil : (known : Option (List ℕ)) → append_known known [] ≡ known
@@ -22,10 +22,6 @@ pub record IsTakenUpTo (before after piece : List ℕ) (done : ℕ) : Type 0 whe
   pub within : done ≤ length piece
   pub takes : after ≡ before ++ take done piece
 
--- none yet
-pub taken_none : (before piece : List ℕ) → IsTakenUpTo before before piece 0
-taken_none before piece = record { within = omega arith; takes = sym (append-nil before) }
-
 -- some more, from the rest of the piece
 pub taken_more : {before after piece : List ℕ} {done : ℕ} → IsTakenUpTo before after piece done
     → (later rest : List ℕ) (n : ℕ) → rest ≡ drop done piece → n ≤ length rest → later ≡ after ++ take n rest
@@ -37,18 +33,8 @@ taken_more {before} {after} {piece} {done} w later rest n is_rest fits e =
           ∙ ap (λ xs. before ++ (take done piece ++ take n xs)) is_rest ∙ ap (λ xs. before ++ xs) (sym (take-add done n piece));
     }
 
--- all of it
-pub taken_all : {before after piece : List ℕ} {done : ℕ} → IsTakenUpTo before after piece done → length piece ≤ done → after ≡ before ++ piece
-taken_all {before} {after} {piece} {done} w all = w.takes ∙ ap (λ xs. before ++ xs) (take_all done piece all)
-
 -- a front of it, where the last call took nothing
 pub taken_front : {before after piece : List ℕ} {done : ℕ} → IsTakenUpTo before after piece done → done < length piece → (later nothing : List ℕ)
     → nothing ≡ [] → later ≡ after ++ nothing → TakesFront before piece later
 taken_front {before} {after} {piece} {done} w short later nothing none e =
     record { count = done; short = short; takes = e ∙ ap (λ xs. after ++ xs) none ∙ append-nil after ∙ w.takes }
-
--- where what was written is told, it is appended as it was taken
-pub told_front : {before_known after_known : Option (List ℕ)} {before piece after : List ℕ}
-    → ((more : List ℕ) → after ≡ before ++ more → after_known ≡ append_known before_known more) → TakesFront before piece after
-    → AppendsFront before_known piece after_known
-told_front told f = record { taken = f.count; within = let s = f.short in omega (arith, s); appended = told _ f.takes }

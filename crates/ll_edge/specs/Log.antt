@@ -64,8 +64,8 @@ Agrees texts before after =
     (between : List Entry) (entry : Entry) (rest : List Entry) → after ≡ before ++ (between ++ entry ∷ rest) → Answers texts entry
 
 -- the same for texts that are told; where none are, nothing is said
-abbrev pub Fits : Option Texts → List Entry → List Entry → Type 0
-Fits told before after = IfSome told (λ texts. Agrees texts before after)
+abbrev pub ToldFits : Option Texts → List Entry → List Entry → Type 0
+ToldFits told before after = IfSome told (λ texts. Agrees texts before after)
 
 -- ---- the reading of one text
 
@@ -95,7 +95,7 @@ pub record Met {S : Type 0} (count : S → ℕ) (log : S → List Entry) (before
   pub ended : EndedAt (log before) (log after) answer name
 
 -- how the reading of a text ended, by its result: with the whole text, which the calls handed out and then no bytes; with the answer that
--- there is no such text, or that it can't be read; with one byte more than the limit handed out; or for want of memory
+-- there is no such text, or that it can't be read; with one byte more than the limit handed out; or for that memory ran out
 abbrev pub ReadingEnds : {A : Type 0} → ℕ → List ℕ → List Entry → List Entry → Result (Vec ℕ A) ReadFault → Type 0
 ReadingEnds limit name before after (Ok text) = Reads name before after (vec_items text) (Handed [])
 ReadingEnds limit name before after (Err fault.Absent) = (bytes : List ℕ) × Reads name before after bytes NoText

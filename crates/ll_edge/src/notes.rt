@@ -28,6 +28,10 @@ impl Notes {
 
     // Notes a call: its numbers, the name that it is about, and the bytes that it gave or took.
     pub(crate) fn note(&mut self, _numbers: &[u64], _name: &[u8], _bytes: &[u8])
-        ensures { self.new.notes ≡ self.old.notes ++ record { numbers = _numbers.now; name = _name.now; bytes = _bytes.now } ∷ [] }
+        ensures { self.new.notes ≡ self.old.notes ++ record {
+          numbers = _numbers.now;
+          name = _name.now;
+          bytes = _bytes.now;
+        } ∷ [] }
     {}
 }

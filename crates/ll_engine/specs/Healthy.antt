@@ -7,7 +7,7 @@ use Rattle.ll_laws.specs.State.{State, settle}
 use Rattle.ll_laws.specs.Attempt.{tries, attempt}
 use Rattle.ll_laws.specs.Search.{same_candidate, gives_some, count_fork}
 use Rattle.ll_laws.specs.Problem.{setting_of}
-use Rattle.ll_engine.specs.Seen.{Point, Spine}
+use Rattle.ll_engine.specs.Seen.{Point, Choices}
 use Rattle.ll_engine.specs.Owed.{Thins, open_points}
 
 -- no candidate stands twice
@@ -53,10 +53,10 @@ RunsFrom beside f k true s ps = IsNow beside f s (k + open_points ps)
 RunsFrom beside f k false s ps = Unit {0}
 
 -- a search without a first state has nothing to do
-abbrev pub HealthyFrom : Option State → ℕ → Bool → Spine → Type 0
+abbrev pub HealthyFrom : Option State → ℕ → Bool → Choices → Type 0
 HealthyFrom None k running z = (running ≡ false) × (z.points ≡ [])
 HealthyFrom (Some f) k running z = ArePoints (setting_of z.problem) f k z.points × RunsFrom (setting_of z.problem) f k running z.now z.points
 
 -- all points, and the state where it is still to be searched, are on ways from the first state, after k splits
-abbrev pub Healthy : ℕ → Bool → Spine → Type 0
+abbrev pub Healthy : ℕ → Bool → Choices → Type 0
 Healthy k running z = HealthyFrom z.first k running z

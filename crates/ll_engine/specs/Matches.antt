@@ -5,7 +5,7 @@ use Rattle.ll_bank.specs.declared.FormAt.{FormAt}
 use Rattle.ll_bank.specs.Term.{Term, head_of, arity, sub}
 use Rattle.ll_bank.specs.Form.{Form, Atom}
 use Rattle.ll_bank.specs.Nodes.{form_tree}
-use Rattle.ll_bindings.specs.Bindings.{count}
+use Rattle.ll_unify.specs.Bindings.{count}
 use Rattle.ll_store.specs.declared.store.Store.{Store}
 use Rattle.ll_store.specs.Tables.{table_of}
 use Rattle.ll_laws.specs.declared.Candidate.{Candidate}

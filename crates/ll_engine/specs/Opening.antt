@@ -5,7 +5,7 @@ use Rattle.ll_bank.specs.declared.FormAt.{FormAt}
 use Rattle.ll_bank.specs.Term.{close, applies_heads}
 use Rattle.ll_bank.specs.Form.{Form}
 use Rattle.ll_bank.specs.Nodes.{Nodes, HasTerm, HasForm, AllInTerms, term_tree, term_trees, form_tree}
-use Rattle.ll_close.specs.Closing.{env_of}
+use Rattle.ll_bank.specs.Closing.{env_of}
 use Rattle.ll_laws.specs.Leaf.{Premise, premise_goal, ways, leaf}
 use Rattle.ll_laws.specs.Attempt.{vars_from}
 use Rattle.ll_laws.specs.Valid.{Allowed, IsFormula, ClauseSide}

@@ -8,7 +8,7 @@ use Rattle.ll_laws.specs.Attempt.{tries, attempt}
 use Rattle.ll_laws.specs.Search.{events, cost}
 use Rattle.ll_laws.specs.Tried.{number_from, tried_events, tried_cost}
 use Rattle.ll_laws.specs.Problem.{setting_of}
-use Rattle.ll_engine.specs.Seen.{Point, Spine, Owing}
+use Rattle.ll_engine.specs.Seen.{Point, Choices, Owing}
 
 -- what choice points owe, the newest first
 abbrev pub owed : Setting → List Point → List Event
@@ -51,16 +51,16 @@ if_running true x y = x
 if_running false x y = y
 
 -- what a machine with its choice points owes, where its own state is still to be searched or not
-abbrev pub events_of_spine : Bool → Spine → List Event
-events_of_spine running z = if_running running (events (setting_of z.problem) z.left z.now) [] ++ owed (setting_of z.problem) z.points
+abbrev pub events_of_choices : Bool → Choices → List Event
+events_of_choices running z = if_running running (events (setting_of z.problem) z.left z.now) [] ++ owed (setting_of z.problem) z.points
 
 -- the inferences that it owes
-abbrev pub cost_of_spine : Bool → Spine → ℕ
-cost_of_spine running z = if_running running (cost (setting_of z.problem) z.left z.now) 0 + cost_left (setting_of z.problem) z.points
+abbrev pub cost_of_choices : Bool → Choices → ℕ
+cost_of_choices running z = if_running running (cost (setting_of z.problem) z.left z.now) 0 + cost_left (setting_of z.problem) z.points
 
 -- the steps that it takes, at most
-abbrev pub work_of_spine : Bool → Spine → ℕ
-work_of_spine running z = if_running running (work (setting_of z.problem) z.left z.now) 0 + work_left (setting_of z.problem) z.points
+abbrev pub work_of_choices : Bool → Choices → ℕ
+work_of_choices running z = if_running running (work (setting_of z.problem) z.left z.now) 0 + work_left (setting_of z.problem) z.points
 
 -- the first list has the candidates of the second, in order, without some that give nothing
 pub data Thins (beside : Setting) (t : State) : List Candidate → List Candidate → Type 0 where
@@ -74,16 +74,16 @@ put_point t n [] ps = ps
 put_point t n (c ∷ cs) ps = record { state = t; left = n; untried = c ∷ cs } ∷ ps
 
 -- what is seen of an engine
-abbrev pub owing : Spine → Bool → ℕ → ℕ → Bool → Owing
+abbrev pub owing : Choices → Bool → ℕ → ℕ → Bool → Owing
 owing z running made splits spent =
     record {
       problem = z.problem;
-      events = events_of_spine running z;
-      cost = cost_of_spine running z;
+      events = events_of_choices running z;
+      cost = cost_of_choices running z;
       points = open_points z.points;
       first = z.first;
       splits = splits;
-      work = work_of_spine running z;
+      work = work_of_choices running z;
       made = made;
       spent = spent;
     }

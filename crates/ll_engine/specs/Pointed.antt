@@ -8,13 +8,13 @@ use Rattle.ll_laws.specs.State.{State}
 use Rattle.ll_laws.specs.Problem.{ProblemTree}
 use Rattle.ll_freeze.specs.declared.machine.Machine.{Machine}
 use Rattle.ll_freeze.specs.Parts.{Parts, parts_of, parts_at, IsGood, IsBefore}
-use Rattle.ll_engine.specs.declared.spine.Kept.{Kept}
-use Rattle.ll_engine.specs.declared.spine.Spine.{Spine as Stored}
+use Rattle.ll_engine.specs.declared.choices.ChoicePoint.{ChoicePoint}
+use Rattle.ll_engine.specs.declared.choices.Choices.{Choices as Stored}
 use Rattle.ll_freeze.specs.Shown.{state_of}
 use Rattle.ll_freeze.specs.Fits.{Fits}
 use Rattle.ll_freeze.specs.Indexed.{IsIndexOf}
 use Rattle.ll_engine.specs.Based.{IsBased}
-use Rattle.ll_engine.specs.Seen.{Point, Spine}
+use Rattle.ll_engine.specs.Seen.{Point, Choices}
 use Rattle.ll_engine.specs.Owed.{put_point}
 use Rattle.ll_engine.specs.Turned.{is_empty, Chose}
 
@@ -24,10 +24,10 @@ pub record Held : Type 0 where
   pub untried : List Candidate
 
 -- the parts that the machine had at the mark
-abbrev pub held_of : Machine → Kept → Held
+abbrev pub held_of : Machine → ChoicePoint → Held
 held_of m k = record { parts = parts_at k.mark m; untried = k.untried.items }
 
-abbrev pub helds : Machine → List Kept → List Held
+abbrev pub helds : Machine → List ChoicePoint → List Held
 helds m ps = map (held_of m) ps
 
 -- the choice point that these are
@@ -39,8 +39,8 @@ abbrev pub points_of : List Held → List Point
 points_of ps = map point_of (reverse ps)
 
 -- a machine with its choice points, of a search that began in this state, if there was one
-abbrev pub spine_at : Option State → ProblemTree → Parts → List Held → Spine
-spine_at first p m ps = record { problem = p; first = first; now = state_of m; left = m.left; points = points_of ps }
+abbrev pub choices_at : Option State → ProblemTree → Parts → List Held → Choices
+choices_at first p m ps = record { problem = p; first = first; now = state_of m; left = m.left; points = points_of ps }
 
 -- the state of the machine with which a search began, if it did
 abbrev pub began_in : Bool → Parts → Option State
@@ -50,8 +50,8 @@ began_in false m = None
 abbrev pub first_of : Stored → Option State
 first_of z = began_in z.began (parts_of z.origin.value)
 
-abbrev pub spine_of : Stored → Spine
-spine_of z = spine_at (first_of z) z.problem.now (parts_of z.machine) (helds z.machine z.points.items)
+abbrev pub choices_of : Stored → Choices
+choices_of z = choices_at (first_of z) z.problem.now (parts_of z.machine) (helds z.machine z.points.items)
 
 -- all are candidates of the machine's first goal
 abbrev pub AreTries : Parts → List Candidate → Type 0
@@ -85,12 +85,12 @@ pub record IsSoundAt (running : Bool) (p : ProblemTree) (m : Parts) (ps : List H
   pub machine : IsRunning running p m
 
 -- each mark is before the later ones
-abbrev pub Rises : List Kept → Type 0
+abbrev pub Rises : List ChoicePoint → Type 0
 Rises [] = Unit {0}
 Rises (k ∷ ks) = All (λ j. IsBefore k.mark j.mark) ks × Rises ks
 
 -- the machine can go back to each choice point, the newest first
-pub record AreMarks (m : Machine) (ps : List Kept) : Type 0 where
+pub record AreMarks (m : Machine) (ps : List ChoicePoint) : Type 0 where
   pub good : All (λ k. IsGood k.mark m) ps
   pub rise : Rises ps
 
@@ -111,5 +111,5 @@ KeepsKept m cs ps qs = (p : ProblemTree) → IsOpen p m → AreTries m cs → Ar
 -- the last of these candidates was attempted, and a point keeps the others
 abbrev pub ChoseOf : Stored → List Candidate → Bool → Stored → Type 0
 ChoseOf old cs running new =
-    Chose (spine_of old) (state_of (parts_of old.machine)) (old.machine.left - 1) (reverse cs) (points_of (helds old.machine old.points.items)) running
-    (spine_of new)
+    Chose (choices_of old) (state_of (parts_of old.machine)) (old.machine.left - 1) (reverse cs) (points_of (helds old.machine old.points.items)) running
+    (choices_of new)

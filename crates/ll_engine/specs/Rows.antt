@@ -39,7 +39,7 @@ pub record PutsInFront (old : Parts) (f : Form) (rest : List Item) (new : Parts)
   pub steps : new.steps ≡ old.steps ++ Plain ∷ []
   pub left : suc new.left ≡ old.left
 
--- the body of a `forall`, with the next eigenconstant in place of its bound place, is the goal in front
+-- the body of a `forall`, with the next eigenvariable in place of its bound place, is the goal in front
 pub record OpensForall (old : Parts) (body : FormAt) (rest : List Item) (new : Parts) : Type 0 where
   pub opens : PutsInFront old (instantiate (form_tree old.bank body.0) (Con (Eigen old.eigens))) rest new
   pub bound : new.bound ≡ old.bound

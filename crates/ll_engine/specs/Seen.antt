@@ -14,7 +14,7 @@ pub record Point : Type 0 where
 
 -- a machine with its choice points, the newest in front, and the state in which its search began; none where the alternative in
 -- which it was to begin gives none
-pub record Spine : Type 0 where
+pub record Choices : Type 0 where
   pub problem : ProblemTree
   pub first : Option State
   pub now : State

@@ -4,7 +4,7 @@ use Rattle.ll_laws.specs.declared.Event.{Event}
 use Rattle.ll_laws.specs.Pool.{Owed}
 use Rattle.ll_freeze.specs.Parts.{Base}
 use Rattle.ll_freeze.specs.Frozen.{FrozenSight, alternatives_in}
-use Rattle.ll_engine.specs.Seen.{Point, Spine, Owing}
+use Rattle.ll_engine.specs.Seen.{Point, Choices, Owing}
 
 -- a batch was split off: what was owed is what is now owed, followed by what the batch owes, and the costs add up
 pub record SplitsTo (old : Owing) (b : FrozenSight) (new : Owing) : Type 0 where
@@ -26,7 +26,7 @@ Splits old None new = (new ≡ old) × (old.points ≡ 0)
 Splits old (Some b) new = SplitsTo old b new
 
 -- the batch is this choice point, with this base, and shares with so many
-abbrev pub frozen_point : Spine → Point → Base → ℕ → FrozenSight
+abbrev pub frozen_point : Choices → Point → Base → ℕ → FrozenSight
 frozen_point z p base depth = record {
   problem = z.problem;
   state = p.state;
@@ -39,7 +39,7 @@ frozen_point z p base depth = record {
 }
 
 -- the oldest choice point was taken away, and is the batch
-pub record TakesOldest (old : Spine) (b : FrozenSight) (new : Spine) : Type 0 where
+pub record TakesOldest (old : Choices) (b : FrozenSight) (new : Choices) : Type 0 where
   pub oldest : Point
   pub some : oldest.untried ≡ [] → ⊥
   pub points : old.points ≡ new.points ++ oldest ∷ []

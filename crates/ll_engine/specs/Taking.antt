@@ -3,8 +3,8 @@ use Rattle.std.specs.Prelude.{◌≡◌, ℕ, Bool, true, false, List, Option, S
 use Rattle.ll_bank.specs.declared.At.{At}
 use Rattle.ll_bank.specs.Term.{Term, sub, close}
 use Rattle.ll_bank.specs.Nodes.{Nodes, term_tree}
-use Rattle.ll_close.specs.Closing.{env_of}
-use Rattle.ll_bindings.specs.Bindings.{Table, IsTable, count}
+use Rattle.ll_bank.specs.Closing.{env_of}
+use Rattle.ll_unify.specs.Bindings.{Table, IsTable, count}
 use Rattle.ll_store.specs.declared.store.Store.{Store}
 use Rattle.ll_store.specs.Tables.{table_of}
 use Rattle.ll_laws.specs.Unify.{Solved}

@@ -9,8 +9,8 @@ use Rattle.ll_laws.specs.State.{State, settle}
 use Rattle.ll_laws.specs.Attempt.{tries, attempt}
 use Rattle.ll_laws.specs.Search.{forks}
 use Rattle.ll_laws.specs.Problem.{ProblemTree, setting_of}
-use Rattle.ll_engine.specs.Seen.{Point, Spine}
-use Rattle.ll_engine.specs.Owed.{Thins, put_point, open_points, events_of_spine, cost_of_spine, work_of_spine}
+use Rattle.ll_engine.specs.Seen.{Point, Choices}
+use Rattle.ll_engine.specs.Owed.{Thins, put_point, open_points, events_of_choices, cost_of_choices, work_of_choices}
 use Rattle.ll_engine.specs.Healthy.{Distinct, Healthy}
 
 -- nothing is left to prove
@@ -28,27 +28,27 @@ abbrev pub answers : State → Bool
 answers t = not (has_live t.context) || t.flag
 
 -- at the start of a problem's search
-abbrev pub starting : ProblemTree → State → Spine
+abbrev pub starting : ProblemTree → State → Choices
 starting p s = record { problem = p; first = Some s; now = s; left = p.bound; points = [] }
 
 -- the state alone was settled, or its settling fails
-abbrev pub Settles : Spine → Bool → Spine → Type 0
+abbrev pub Settles : Choices → Bool → Choices → Type 0
 Settles old true new = (new ≡ record old { now = new.now }) × (settle old.now ≡ Some new.now)
 Settles old false new = (new ≡ record old { now = new.now }) × (settle old.now ≡ None)
 
 -- a candidate gave the present state, or none
-abbrev pub Gave : Option State → ℕ → Bool → Spine → Type 0
+abbrev pub Gave : Option State → ℕ → Bool → Choices → Type 0
 Gave o n true new = (o ≡ Some new.now) × (new.left ≡ n)
 Gave o n false new = o ≡ None
 
 -- the first of the candidates of t was attempted, and a point keeps the others, if there are any
-abbrev pub Chose : Spine → State → ℕ → List Candidate → List Point → Bool → Spine → Type 0
+abbrev pub Chose : Choices → State → ℕ → List Candidate → List Point → Bool → Choices → Type 0
 Chose old t n [] ps running new = (new ≡ record old { now = new.now; left = new.left; points = ps }) × (running ≡ false)
 Chose old t n (c ∷ cs) ps running new =
     (new ≡ record old { now = new.now; left = new.left; points = put_point t n cs ps }) × Gave (attempt (setting_of old.problem) t c) n running new
 
 -- the present state's goal was taken apart by its first candidate that may give a state
-pub record Expands (old : Spine) (running : Bool) (new : Spine) : Type 0 where
+pub record Expands (old : Choices) (running : Bool) (new : Choices) : Type 0 where
   pub candidates : List Candidate
   pub left : ℕ
   pub left_is : old.left ≡ suc left
@@ -57,26 +57,26 @@ pub record Expands (old : Spine) (running : Bool) (new : Spine) : Type 0 where
   pub chose : Chose old old.now left candidates old.points running new
 
 -- the newest of these points gave its first untried candidate
-abbrev pub RetriesAt : Spine → List Point → Bool → Spine → Type 0
+abbrev pub RetriesAt : Choices → List Point → Bool → Choices → Type 0
 RetriesAt old [] running new = ⊥
 RetriesAt old (p ∷ ps) running new = Chose old p.state p.left p.untried ps running new
 
 -- the newest point gave its first untried candidate
-abbrev pub Retries : Spine → Bool → Spine → Type 0
+abbrev pub Retries : Choices → Bool → Choices → Type 0
 Retries old running new = RetriesAt old old.points running new
 
 -- after an answer at least the forks of its branch, less the splits k, are still open
-abbrev pub ForksKept : Spine → ℕ → List Event → Spine → Type 0
+abbrev pub ForksKept : Choices → ℕ → List Event → Choices → Type 0
 ForksKept old k (Answer a ∷ es) new =
     (f : State) → old.first ≡ Some f → forks (setting_of old.problem) (drop (length f.steps) a.steps) f ≤ k + open_points new.points
 ForksKept old k _ new = Unit {0}
 
 -- One turn: the events found and the inferences made go off what is owed, and there is less work.
-pub record Turned (old : Spine) (was : Bool) (found : List Event) (made : ℕ) (new : Spine) (running : Bool) : Type 0 where
+pub record Turned (old : Choices) (was : Bool) (found : List Event) (made : ℕ) (new : Choices) (running : Bool) : Type 0 where
   pub problem : new.problem ≡ old.problem
   pub first : new.first ≡ old.first
-  pub events : events_of_spine was old ≡ found ++ events_of_spine running new
-  pub cost : cost_of_spine was old ≡ made + cost_of_spine running new
-  pub work : suc (work_of_spine running new) ≤ work_of_spine was old
+  pub events : events_of_choices was old ≡ found ++ events_of_choices running new
+  pub cost : cost_of_choices was old ≡ made + cost_of_choices running new
+  pub work : suc (work_of_choices running new) ≤ work_of_choices was old
   pub healthy : (k : ℕ) → Healthy k was old → Healthy k running new
   pub forks : (k : ℕ) → Healthy k was old → ForksKept old k found new

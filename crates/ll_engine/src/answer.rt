@@ -9,10 +9,9 @@ ghost use Rattle.ll_engine.specs.Moves.{end_event};
 ghost use Rattle.ll_engine.specs.Turned.{is_empty, answers};
 
 use ll_bank::{At, Bank, FormAt, OutOfMemory};
-use ll_bindings::Reading;
-use ll_copy::{Carrier, read_into};
 use ll_freeze::Machine;
 use ll_laws::{Branch, Event, Notice, Step};
+use ll_unify::{Carrier, Reading, read_into};
 use std::alloc::Global;
 use std::marker::Model;
 
@@ -103,7 +102,10 @@ pub fn branch(
     workshop: &mut Workshop,
 ) -> Result<Branch, OutOfMemory>
     requires fits { Fits (parts_of machine.now) }
-    ensures { IfOk result (λ b. b ≡ record { terms = (state_of (parts_of machine.now)).terms; steps = (state_of (parts_of machine.now)).steps }) }
+    ensures { IfOk result (λ b. b ≡ record {
+      terms = (state_of (parts_of machine.now)).terms;
+      steps = (state_of (parts_of machine.now)).steps;
+    }) }
 {
     let carrier = &mut workshop.carrier;
     let grown = &mut workshop.grown;

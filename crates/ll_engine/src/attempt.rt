@@ -83,7 +83,8 @@ pub fn go_on(
 ) -> Result<(), OutOfMemory>
     requires rest { HasTop machine.old.agenda rest }
     requires left { 0 < machine.old.left }
-    ensures goes { OnOk result (GoesOn (parts_of machine.old) items.now (items_at machine.old.agenda rest) step (parts_of machine.new)) }
+    ensures goes { OnOk result (GoesOn (parts_of machine.old) items.now (items_at machine.old.agenda rest) step
+        (parts_of machine.new)) }
     ensures later { OnOk result (Later machine.old machine.new) }
 {
     machine.top = push_all(&mut machine.agenda, items, rest)?;

@@ -4,7 +4,7 @@ ghost use Rattle.std.specs.Prelude.{map, flat_map, take, drop, MatchResult};
 ghost use Rattle.ll_bank.specs.declared.Head.TheVariants.{Name};
 ghost use Rattle.ll_bank.specs.Nodes.{form_tree, HasForm};
 ghost use Rattle.ll_bank.specs.Term.{Term, head_of, arity};
-ghost use Rattle.ll_bindings.specs.Bindings.{IsTable};
+ghost use Rattle.ll_unify.specs.Bindings.{IsTable};
 ghost use Rattle.ll_store.specs.Tables.{table_of};
 ghost use Rattle.ll_laws.specs.Leaf.{ways};
 ghost use Rattle.ll_laws.specs.Attempt.{is_open};
@@ -111,7 +111,8 @@ fn add_newer(
 ) -> Result<(), OutOfMemory>
     requires fits { Fits (parts_of machine.now) }
     requires count { length machine.now.context.present.entries - length machine.now.problem.now.clauses ≡ loaded }
-    ensures { OnOk result (all_found found.new ≡ all_found found.old ++ flat_map (open_tries (head_fits machine.now.store asked))
+    ensures { OnOk result (all_found found.new
+        ≡ all_found found.old ++ flat_map (open_tries (head_fits machine.now.store asked))
         (map (standing_entry machine.now.store.bank) (take loaded machine.now.context.present.entries))) }
 {
     if loaded == 0 {
@@ -131,9 +132,10 @@ fn add_loaded(
     requires table { IsTable store.now.bank (table_of store.now.cells.cells) }
     requires inside { All (λ e. HasForm store.now.bank e.clause.0) context.now.present.entries }
     requires cells { All (λ e. HeadsHaveCells store.now e.clause) context.now.present.entries }
-    ensures { (count : ℕ) → AreKeyed store.now.bank count context.now.present → OnOk result (all_found found.new ≡ all_found found.old
-        ++ flat_map (open_tries (head_fits store.now asked))
-        (map (standing_entry store.now.bank) (take (length context.now.present.entries - count) context.now.present.entries))) }
+    ensures { (count : ℕ) → AreKeyed store.now.bank count context.now.present
+        → OnOk result (all_found found.new ≡ all_found found.old ++ flat_map (open_tries (head_fits store.now asked))
+        (map (standing_entry store.now.bank)
+        (take (length context.now.present.entries - count) context.now.present.entries))) }
 {
     let mut waiting = Vec::new(alloc);
     let mut keyed = context.keyed(head_key(asked.predicate.head));
@@ -237,7 +239,8 @@ fn add_program(
 ) -> Result<(), OutOfMemory>
     requires index { IsIndexOf machine.now.problem.now index.now }
     requires room { length machine.now.context.present.entries < 2 ^ 64 }
-    requires program { AreOfProgram 0 machine.now.problem.now.clauses (drop loaded (shown_context (parts_of machine.now))) }
+    requires program { AreOfProgram 0 machine.now.problem.now.clauses
+        (drop loaded (shown_context (parts_of machine.now))) }
     ensures { (atom : Term) → head_of atom ≡ Some (Name name) → arity atom ≡ asked.predicate.arity
         → OnOk result (all_found found.new ≡ all_found found.old
         ++ flat_map (entry_matches asked.first atom) (drop loaded (shown_context (parts_of machine.now)))) }

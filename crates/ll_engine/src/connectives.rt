@@ -20,7 +20,8 @@ pub fn take_one(machine: &mut Machine<'_>, rest: Top) -> Result<bool, OutOfMemor
     requires fits { Fits (parts_of machine.old) }
     requires left { 0 < machine.old.left }
     requires front { IsFront (parts_of machine.old) FormNode.One rest }
-    ensures attempts { (candidate : Candidate) → IfOk result (Attempts (parts_of machine.old) candidate (parts_of machine.new)) }
+    ensures attempts { (candidate : Candidate)
+        → IfOk result (Attempts (parts_of machine.old) candidate (parts_of machine.new)) }
     ensures later { IfOk result (λ _. Later machine.old machine.new) }
 {
     go_on(machine, &[], rest, Step::Plain)?;
@@ -32,7 +33,8 @@ pub fn take_top(machine: &mut Machine<'_>, rest: Top) -> Result<bool, OutOfMemor
     requires fits { Fits (parts_of machine.old) }
     requires left { 0 < machine.old.left }
     requires front { IsFront (parts_of machine.old) FormNode.Top rest }
-    ensures attempts { (candidate : Candidate) → IfOk result (Attempts (parts_of machine.old) candidate (parts_of machine.new)) }
+    ensures attempts { (candidate : Candidate)
+        → IfOk result (Attempts (parts_of machine.old) candidate (parts_of machine.new)) }
     ensures later { IfOk result (λ _. Later machine.old machine.new) }
 {
     machine.context.erase()?;
@@ -50,7 +52,8 @@ pub fn take_tensor(
     requires fits { Fits (parts_of machine.old) }
     requires left { 0 < machine.old.left }
     requires front { IsFront (parts_of machine.old) (FormNode.Tensor first second) rest }
-    ensures attempts { (candidate : Candidate) → IfOk result (Attempts (parts_of machine.old) candidate (parts_of machine.new)) }
+    ensures attempts { (candidate : Candidate)
+        → IfOk result (Attempts (parts_of machine.old) candidate (parts_of machine.new)) }
     ensures later { IfOk result (λ _. Later machine.old machine.new) }
 {
     let items = [Item::Goal(first), Item::Goal(second)];
@@ -90,7 +93,8 @@ pub fn take_with(
     requires fits { Fits (parts_of machine.old) }
     requires left { 0 < machine.old.left }
     requires front { IsFront (parts_of machine.old) (FormNode.With first second) rest }
-    ensures attempts { (candidate : Candidate) → IfOk result (Attempts (parts_of machine.old) candidate (parts_of machine.new)) }
+    ensures attempts { (candidate : Candidate)
+        → IfOk result (Attempts (parts_of machine.old) candidate (parts_of machine.new)) }
     ensures later { IfOk result (λ _. Later machine.old machine.new) }
 {
     let saved = machine.context.save()?;
@@ -109,7 +113,8 @@ pub fn take_bang(machine: &mut Machine<'_>, body: FormAt, rest: Top) -> Result<b
     requires fits { Fits (parts_of machine.old) }
     requires left { 0 < machine.old.left }
     requires front { IsFront (parts_of machine.old) (FormNode.Bang body) rest }
-    ensures attempts { (candidate : Candidate) → IfOk result (Attempts (parts_of machine.old) candidate (parts_of machine.new)) }
+    ensures attempts { (candidate : Candidate)
+        → IfOk result (Attempts (parts_of machine.old) candidate (parts_of machine.new)) }
     ensures later { IfOk result (λ _. Later machine.old machine.new) }
 {
     let saved = machine.context.save()?;
@@ -129,7 +134,8 @@ pub fn take_lolli(
     requires fits { Fits (parts_of machine.old) }
     requires left { 0 < machine.old.left }
     requires front { IsFront (parts_of machine.old) (FormNode.Lolli clause body) rest }
-    ensures attempts { (candidate : Candidate) → IfOk result (Attempts (parts_of machine.old) candidate (parts_of machine.new)) }
+    ensures attempts { (candidate : Candidate)
+        → IfOk result (Attempts (parts_of machine.old) candidate (parts_of machine.new)) }
     ensures later { IfOk result (λ _. Later machine.old machine.new) }
 {
     let flag = machine.context.flag();
@@ -150,7 +156,8 @@ pub fn take_imp(
     requires fits { Fits (parts_of machine.old) }
     requires left { 0 < machine.old.left }
     requires front { IsFront (parts_of machine.old) (FormNode.Imp clause body) rest }
-    ensures attempts { (candidate : Candidate) → IfOk result (Attempts (parts_of machine.old) candidate (parts_of machine.new)) }
+    ensures attempts { (candidate : Candidate)
+        → IfOk result (Attempts (parts_of machine.old) candidate (parts_of machine.new)) }
     ensures later { IfOk result (λ _. Later machine.old machine.new) }
 {
     let key = key_of(&machine.store.bank, clause);

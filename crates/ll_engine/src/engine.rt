@@ -6,7 +6,7 @@ ghost use Rattle.ll_laws.specs.declared.Event.{Event as TheEvent};
 ghost use Rattle.ll_freeze.specs.Frozen.{alternatives_in};
 ghost use Rattle.ll_freeze.specs.Indexed.{IsIndexOf};
 ghost use Rattle.ll_laws.specs.Valid.{IsValid};
-ghost use Rattle.ll_engine.specs.Pointed.{spine_of, IsSound};
+ghost use Rattle.ll_engine.specs.Pointed.{choices_of, IsSound};
 ghost use Rattle.ll_engine.specs.Turned.{Turned, has_none};
 ghost use Rattle.ll_engine.specs.Moves.{ends_in, found_by, made_of, running_of};
 ghost use Rattle.ll_engine.specs.Steps.{Notes, Steps, fresh};
@@ -15,7 +15,7 @@ ghost use Rattle.ll_engine.specs.Healthy.{Healthy};
 ghost use Rattle.ll_engine.specs.Resumes.{Resumes, resumed};
 ghost use Rattle.ll_engine.specs.Splits.{Splits};
 
-use crate::spine::Spine;
+use crate::choices::Choices;
 use ll_bank::OutOfMemory;
 use ll_freeze::Frozen;
 use ll_index::Index;
@@ -58,53 +58,55 @@ enum Move {
 }
 
 // A turn with a state that is to be searched.
-fn search(spine: &mut Spine<'_>) -> Result<Move, OutOfMemory>
-    requires sound { IsSound true spine.old }
-    ensures sound { IfOk result (λ m. IsSound (running_of m) spine.new) }
-    ensures shown { IfOk result (λ m. ends_in m ≡ true → IsSound true spine.new) }
-    ensures turned { IfOk result (λ m. Turned (spine_of spine.old) true (found_by m (spine_of spine.new)) (made_of m) (spine_of spine.new) (running_of m)) }
+fn search(choices: &mut Choices<'_>) -> Result<Move, OutOfMemory>
+    requires sound { IsSound true choices.old }
+    ensures sound { IfOk result (λ m. IsSound (running_of m) choices.new) }
+    ensures shown { IfOk result (λ m. ends_in m ≡ true → IsSound true choices.new) }
+    ensures turned { IfOk result (λ m. Turned (choices_of choices.old) true (found_by m (choices_of choices.new)) (made_of m)
+        (choices_of choices.new) (running_of m)) }
 {
-    if !spine.settle()? {
+    if !choices.settle()? {
         return Ok(Move::Quiet { running: false });
     }
-    if spine.is_empty() {
-        if spine.answers() {
+    if choices.is_empty() {
+        if choices.answers() {
             return Ok(Move::Ends { answers: true });
         }
         return Ok(Move::Quiet { running: false });
     }
-    if spine.left() == 0 {
+    if choices.left() == 0 {
         return Ok(Move::Ends { answers: false });
     }
-    let running = spine.expand()?;
+    let running = choices.expand()?;
     Ok(Move::Inferred { running })
 }
 
 // A turn with the newest choice point.
-fn go_back(spine: &mut Spine<'_>) -> Result<Move, OutOfMemory>
-    requires sound { IsSound false spine.old }
-    requires points { has_none (spine_of spine.old).points ≡ false }
-    ensures sound { IfOk result (λ m. IsSound (running_of m) spine.new) }
-    ensures shown { IfOk result (λ m. ends_in m ≡ true → IsSound true spine.new) }
-    ensures turned { IfOk result (λ m. Turned (spine_of spine.old) false (found_by m (spine_of spine.new)) (made_of m) (spine_of spine.new) (running_of m)) }
+fn go_back(choices: &mut Choices<'_>) -> Result<Move, OutOfMemory>
+    requires sound { IsSound false choices.old }
+    requires points { has_none (choices_of choices.old).points ≡ false }
+    ensures sound { IfOk result (λ m. IsSound (running_of m) choices.new) }
+    ensures shown { IfOk result (λ m. ends_in m ≡ true → IsSound true choices.new) }
+    ensures turned { IfOk result (λ m. Turned (choices_of choices.old) false (found_by m (choices_of choices.new)) (made_of m)
+        (choices_of choices.new) (running_of m)) }
 {
-    let running = spine.retry()?;
+    let running = choices.retry()?;
     Ok(Move::Quiet { running })
 }
 
 // A turn with the state that is to be searched, if there is one, and otherwise with the newest choice point.
-fn turn(spine: &mut Spine<'_>, running: bool) -> Result<Move, OutOfMemory>
-    requires sound { IsSound running spine.old }
-    requires points { running ≡ false → has_none (spine_of spine.old).points ≡ false }
-    ensures sound { IfOk result (λ m. IsSound (running_of m) spine.new) }
-    ensures shown { IfOk result (λ m. ends_in m ≡ true → IsSound true spine.new) }
-    ensures turned { IfOk result (λ m. Turned (spine_of spine.old) running (found_by m (spine_of spine.new)) (made_of m) (spine_of spine.new)
-        (running_of m)) }
+fn turn(choices: &mut Choices<'_>, running: bool) -> Result<Move, OutOfMemory>
+    requires sound { IsSound running choices.old }
+    requires points { running ≡ false → has_none (choices_of choices.old).points ≡ false }
+    ensures sound { IfOk result (λ m. IsSound (running_of m) choices.new) }
+    ensures shown { IfOk result (λ m. ends_in m ≡ true → IsSound true choices.new) }
+    ensures turned { IfOk result (λ m. Turned (choices_of choices.old) running (found_by m (choices_of choices.new))
+        (made_of m) (choices_of choices.new) (running_of m)) }
 {
     if running {
-        search(spine)
+        search(choices)
     } else {
-        go_back(spine)
+        go_back(choices)
     }
 }
 
@@ -112,8 +114,8 @@ fn turn(spine: &mut Spine<'_>, running: bool) -> Result<Move, OutOfMemory>
 /// choice points with a candidate that was not tried, the state in which it began, how many choice points were split off, and how far
 /// it is from its end.
 pub struct Engine<'p> {
-    spine: Spine<'p>,
-    // The state of the spine is still to be searched.
+    choices: Choices<'p>,
+    // The state of the choices is still to be searched.
     running: bool,
     // How many choice points were split off.
     splits: u64,
@@ -125,7 +127,7 @@ pub struct Engine<'p> {
 impl Drop for Engine<'_> {
     fn drop(self) {
         let Engine {
-            spine: _,
+            choices: _,
             running: _,
             splits: _,
             made: _,
@@ -140,26 +142,26 @@ impl<'p> Model for Engine<'p> {
     ghost use Rattle.ll_engine.specs.Codes.{owing_code};
     ghost use Rattle.ll_engine.specs.Owed.{owing};
     ghost use Rattle.ll_engine.specs.Healthy.{Healthy};
-    ghost use Rattle.ll_engine.specs.Pointed.{spine_of, IsSound};
+    ghost use Rattle.ll_engine.specs.Pointed.{choices_of, IsSound};
 
     ghost Value = { Owing };
 
     ghost coded = { owing_code };
 
-    ghost view = { λ e. owing (spine_of e.spine) e.running e.made e.splits e.spent };
+    ghost view = { λ e. owing (choices_of e.choices) e.running e.made e.splits e.spent };
 
-    ghost invariant = { λ e. e.spent ≡ false → (IsSound e.running e.spine × Healthy e.splits e.running (spine_of e.spine)) };
+    ghost invariant = { λ e. e.spent ≡ false → (IsSound e.running e.choices × Healthy e.splits e.running (choices_of e.choices)) };
 }
 
 // The engine of a machine as it began: nothing was split off, and no inference made.
-fn begun<'p>(spine: Spine<'p>) -> Engine<'p>
-    requires sound { IsSound spine.began spine }
-    requires healthy { Healthy 0 spine.began (spine_of spine) }
-    ensures { result ≡ owing (spine_of spine.entry) spine.entry.began 0 0 false }
+fn begun<'p>(choices: Choices<'p>) -> Engine<'p>
+    requires sound { IsSound choices.began choices }
+    requires healthy { Healthy 0 choices.began (choices_of choices) }
+    ensures { result ≡ owing (choices_of choices.entry) choices.entry.began 0 0 false }
 {
-    let running = spine.began;
+    let running = choices.began;
     Engine {
-        spine,
+        choices,
         running,
         splits: 0,
         made: 0,
@@ -187,9 +189,9 @@ impl<'p> Engine<'p> {
         requires index { IsIndexOf problem.now (arc_value index) }
         ensures { IfOk result (λ e. e ≡ fresh problem.entry.now) }
     {
-        let spine = Spine::start(alloc, problem, index)?;
+        let choices = Choices::start(alloc, problem, index)?;
         Ok(Engine {
-            spine,
+            choices,
             running: true,
             splits: 0,
             made: 0,
@@ -207,10 +209,11 @@ impl<'p> Engine<'p> {
         requires inside { k < length (alternatives_in frozen.now) }
         requires of { frozen.now.problem ≡ problem.now }
         ensures resumed { IfOk result (λ e. e ≡ resumed frozen.now k) }
-        ensures owes { IfOk result (λ e. (owes : Owed TheEvent) → slice_get (alternatives_in frozen.now) k ≡ Some owes → Resumes problem.entry.now owes e) }
+        ensures owes { IfOk result (λ e. (owes : Owed TheEvent) → slice_get (alternatives_in frozen.now) k ≡ Some owes
+            → Resumes problem.entry.now owes e) }
     {
-        let spine = Spine::resume(alloc, problem, frozen, k)?;
-        Ok(begun(spine))
+        let choices = Choices::resume(alloc, problem, frozen, k)?;
+        Ok(begun(choices))
     }
 
     /// The same for a batch that the engine keeps: what is split off shares the store of the batch, as long as it would not share with more
@@ -224,11 +227,11 @@ impl<'p> Engine<'p> {
         requires inside { k < length (alternatives_in (arc_value frozen)) }
         requires of { (arc_value frozen).problem ≡ problem.now }
         ensures resumed { IfOk result (λ e. e ≡ resumed (arc_value frozen.entry) k) }
-        ensures owes { IfOk result (λ e. (owes : Owed TheEvent) → slice_get (alternatives_in (arc_value frozen.entry)) k ≡ Some owes
-            → Resumes problem.entry.now owes e) }
+        ensures owes { IfOk result (λ e. (owes : Owed TheEvent)
+            → slice_get (alternatives_in (arc_value frozen.entry)) k ≡ Some owes → Resumes problem.entry.now owes e) }
     {
-        let spine = Spine::resume_shared(alloc, problem, frozen, k)?;
-        Ok(begun(spine))
+        let choices = Choices::resume_shared(alloc, problem, frozen, k)?;
+        Ok(begun(choices))
     }
 
     /// An engine for an alternative of another batch of the same problem, as `resume_shared` gives it. The index and the room for branches
@@ -239,21 +242,21 @@ impl<'p> Engine<'p> {
         requires inside { k < length (alternatives_in (arc_value to)) }
         requires of { (arc_value to).problem ≡ self.problem }
         ensures resumed { IfOk result (λ e. e ≡ resumed (arc_value to.entry) k) }
-        ensures owes { IfOk result (λ e. (owes : Owed TheEvent) → slice_get (alternatives_in (arc_value to.entry)) k ≡ Some owes
-            → Resumes self.entry.problem owes e) }
+        ensures owes { IfOk result (λ e. (owes : Owed TheEvent) → slice_get (alternatives_in (arc_value to.entry)) k
+            ≡ Some owes → Resumes self.entry.problem owes e) }
     {
         let Engine {
-            spine,
+            choices,
             running: _,
             splits: _,
             made: _,
             spent,
         } = self;
         if spent {
-            return Engine::resume_shared(spine.alloc, spine.problem, to, k);
+            return Engine::resume_shared(choices.alloc, choices.problem, to, k);
         }
-        let spine = spine.advance(to, k)?;
-        Ok(begun(spine))
+        let choices = choices.advance(to, k)?;
+        Ok(begun(choices))
     }
 
     /// Goes on by one step. After a refusal the engine is spent: every later step is refused too.
@@ -265,7 +268,7 @@ impl<'p> Engine<'p> {
         ensures refused { OnErr result (self.new.spent ≡ true) }
         ensures step { IfOk result (λ s. Steps self.old s self.new) }
     {
-        let mut events = Vec::new(self.spine.alloc);
+        let mut events = Vec::new(self.choices.alloc);
         match self.note(&mut events)? {
             Progress::Moved => Ok(Step2::Moved),
             Progress::Noted => match events.pop() {
@@ -285,17 +288,18 @@ impl<'p> Engine<'p> {
         ensures spent { self.old.spent ≡ true → IsErr result }
         ensures refused { OnErr result (self.new.spent ≡ true) }
         ensures kept { OnErr result (events.new.items ≡ events.old.items) }
-        ensures step { IfOk result (λ p. Notes self.old p (map E.stands_for events.old.items) (map E.stands_for events.new.items) self.new) }
+        ensures step { IfOk result (λ p. Notes self.old p (map E.stands_for events.old.items)
+            (map E.stands_for events.new.items) self.new) }
     {
         if self.spent {
             return Err(AllocError);
         }
         let made = self.made;
-        if !self.running && self.spine.is_over() {
+        if !self.running && self.choices.is_over() {
             return Ok(Progress::Done);
         }
         self.spent = true;
-        let went = turn(&mut self.spine, self.running)?;
+        let went = turn(&mut self.choices, self.running)?;
         match went {
             Move::Quiet { running } => {
                 self.running = running;
@@ -309,7 +313,7 @@ impl<'p> Engine<'p> {
                 Ok(Progress::Moved)
             }
             Move::Ends { answers } => {
-                let notice = self.spine.notice(answers)?;
+                let notice = self.choices.notice(answers)?;
                 events.push(notice)?;
                 self.running = false;
                 self.spent = false;
@@ -330,14 +334,14 @@ impl<'p> Engine<'p> {
         if self.spent {
             return Err(AllocError);
         }
-        if self.spine.is_over() {
+        if self.choices.is_over() {
             return Ok(None);
         }
         self.spent = true;
         if self.splits == u64::MAX {
             return Err(AllocError);
         }
-        let batch = self.spine.split()?;
+        let batch = self.choices.split()?;
         self.splits += 1;
         self.spent = false;
         Ok(Some(batch))

@@ -2,7 +2,7 @@
 ghost use Rattle.std.specs.Prelude.{◌≡◌, true, IfOk, MatchResult, ◌≤◌};
 ghost use Rattle.ll_bank.specs.Nodes.{term_tree, HasTerm};
 ghost use Rattle.ll_bank.specs.Term.{is_spine};
-ghost use Rattle.ll_bindings.specs.Bindings.{IsTable, IsPlaceOf};
+ghost use Rattle.ll_unify.specs.Bindings.{IsTable, IsPlaceOf};
 ghost use Rattle.ll_store.specs.Tables.{table_of};
 ghost use Rattle.ll_index.specs.First.{sign_of, first_of, signs_clash};
 ghost use Rattle.ll_engine.specs.Leaves.{IsPredicate, has_predicate};
@@ -10,9 +10,9 @@ ghost use Rattle.ll_engine.specs.Taking.{read_in};
 ghost use Rattle.ll_engine.specs.Matches.{Asks, head_fits, HasCellsIn};
 
 use ll_bank::{At, Bank, Head, OutOfMemory, TermView};
-use ll_bindings::walk;
 use ll_index::First;
 use ll_store::Store;
+use ll_unify::walk;
 use std::alloc::AllocError;
 
 /// A head with a number of arguments.

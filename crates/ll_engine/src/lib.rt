@@ -5,6 +5,7 @@ mod ancestor;
 mod answer;
 mod attempt;
 mod candidates;
+mod choices;
 mod connectives;
 mod engine;
 mod found;
@@ -16,7 +17,6 @@ mod quantifiers;
 mod resume;
 mod settle;
 mod shared;
-mod spine;
 mod split;
 mod take;
 

@@ -1,7 +1,7 @@
 //! Inferences on whole-number goals.
 ghost use Rattle.std.specs.Prelude.{◌≡◌, ◌<◌, ℤ, Bool, IfOk};
 ghost use Rattle.ll_bank.specs.Nodes.{Extends};
-ghost use Rattle.ll_bindings.specs.Bindings.{IsTable, IsPlaceOf};
+ghost use Rattle.ll_unify.specs.Bindings.{IsTable, IsPlaceOf};
 ghost use Rattle.ll_store.specs.Tables.{table_of};
 ghost use Rattle.ll_freeze.specs.Parts.{parts_of, Later};
 ghost use Rattle.ll_laws.specs.Number.{operators_of, value_of, compared};
@@ -16,11 +16,11 @@ use crate::attempt::go_on;
 use crate::take::unify_under;
 use ll_agenda::Top;
 use ll_bank::{At, FormNode, Names, OutOfMemory};
-use ll_copy::read_all;
 use ll_freeze::Machine;
 use ll_laws::Step;
 use ll_modules::value;
 use ll_store::Store;
+use ll_unify::read_all;
 use std::alloc::Global;
 
 /// Takes `target is expression`, the goal in front of the agenda, which has `rest` behind it: the target is unified with the value.
@@ -36,7 +36,8 @@ pub fn take_is(
     requires fits { Fits (parts_of machine.old) }
     requires left { 0 < machine.old.left }
     requires front { IsFront (parts_of machine.old) (FormNode.Is target expression) rest }
-    ensures attempts { (candidate : Candidate) → IfOk result (Attempts (parts_of machine.old) candidate (parts_of machine.new)) }
+    ensures attempts { (candidate : Candidate)
+        → IfOk result (Attempts (parts_of machine.old) candidate (parts_of machine.new)) }
     ensures later { IfOk result (λ _. Later machine.old machine.new) }
 {
     let problem = machine.problem;
@@ -65,7 +66,8 @@ pub fn take_less(
     requires fits { Fits (parts_of machine.old) }
     requires left { 0 < machine.old.left }
     requires front { IsFront (parts_of machine.old) (FormNode.Less left right) rest }
-    ensures attempts { (candidate : Candidate) → IfOk result (Attempts (parts_of machine.old) candidate (parts_of machine.new)) }
+    ensures attempts { (candidate : Candidate)
+        → IfOk result (Attempts (parts_of machine.old) candidate (parts_of machine.new)) }
     ensures later { IfOk result (λ _. Later machine.old machine.new) }
 {
     let problem = machine.problem;
@@ -93,7 +95,8 @@ pub fn take_most(
     requires fits { Fits (parts_of machine.old) }
     requires left { 0 < machine.old.left }
     requires front { IsFront (parts_of machine.old) (FormNode.Most left right) rest }
-    ensures attempts { (candidate : Candidate) → IfOk result (Attempts (parts_of machine.old) candidate (parts_of machine.new)) }
+    ensures attempts { (candidate : Candidate)
+        → IfOk result (Attempts (parts_of machine.old) candidate (parts_of machine.new)) }
     ensures later { IfOk result (λ _. Later machine.old machine.new) }
 {
     let problem = machine.problem;
@@ -126,8 +129,9 @@ fn values_under(
     requires table { IsTable store.old.bank (table_of store.old.cells.cells) }
     requires left { IsPlaceOf store.old.bank (table_of store.old.cells.cells) left.0 }
     requires right { IsPlaceOf store.old.bank (table_of store.old.cells.cells) right.0 }
-    ensures values { IfOk result (λ found. (test : ℤ → ℤ → Bool) → tested test found
-        ≡ compared test (value_of (operators_of names.now) (read_in store.old left)) (value_of (operators_of names.now) (read_in store.old right))) }
+    ensures values { IfOk result (λ found. (test : ℤ → ℤ → Bool)
+        → tested test found ≡ compared test (value_of (operators_of names.now) (read_in store.old left))
+        (value_of (operators_of names.now) (read_in store.old right))) }
     ensures keeps { Extends store.old.bank store.new.bank }
     ensures cells { store.new.cells ≡ store.old.cells }
 {

@@ -8,8 +8,7 @@ ghost use Rattle.ll_engine.specs.Opening.{IsClause, Opens, IsSide, Appends};
 
 use crate::candidates::count_leaves;
 use ll_agenda::{Agenda, Top};
-use ll_bank::{At, Bank, FormAt, FormNode, OutOfMemory};
-use ll_close::close_form;
+use ll_bank::{At, Bank, FormAt, FormNode, OutOfMemory, close_form};
 use ll_freeze::Item;
 use std::alloc::Global;
 
@@ -45,8 +44,8 @@ pub fn open_leaf(
     requires top { HasTop agenda.old rest }
     requires terms { AllInTerms bank.old terms.old.items }
     requires variables { term_trees bank.old terms.old.items ≡ vars_from 0 (length terms.old.items) }
-    ensures opened { IfOk result (λ found. Opens bank.old (items_at agenda.old rest) (length terms.old.items) clause.0 leaf bank.new agenda.new terms.new.items
-        found.head found.top) }
+    ensures opened { IfOk result (λ found. Opens bank.old (items_at agenda.old rest)
+        (length terms.old.items) clause.0 leaf bank.new agenda.new terms.new.items found.head found.top) }
     ensures keeps { Extends bank.old bank.new }
     ensures frames { OnOk result (ExtendsFrames agenda.old agenda.new) }
     ensures more { OnOk result (Appends terms.old.items terms.new.items) }

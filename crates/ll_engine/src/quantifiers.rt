@@ -16,20 +16,21 @@ use ll_bank::{At, FormAt, Head, OutOfMemory};
 use ll_freeze::{Item, Machine};
 use ll_laws::{Module, Step};
 use ll_modules::unfold;
-use ll_terms::instantiate;
 
-/// Puts the body of a `forall` in front of the rest, with the next eigenconstant in place of its bound place.
+/// Puts the body of a `forall` in front of the rest, with the next eigenvariable in place of its bound place.
 pub fn take_forall(machine: &mut Machine<'_>, body: FormAt, rest: Top) -> Result<(), OutOfMemory>
     requires rest { HasTop machine.old.agenda rest }
     requires left { 0 < machine.old.left }
     requires eigens { machine.old.eigens < 2 ^ 20 }
     requires body { HasForm machine.old.store.bank body.0 }
-    requires heads { form_applies_heads (instantiate (form_tree machine.old.store.bank body.0) (Con (Eigen machine.old.eigens))) ≡ true }
-    ensures opens { OnOk result (OpensForall (parts_of machine.old) body (items_at machine.old.agenda rest) (parts_of machine.new)) }
+    requires heads { form_applies_heads
+        (instantiate (form_tree machine.old.store.bank body.0) (Con (Eigen machine.old.eigens))) ≡ true }
+    ensures opens { OnOk result (OpensForall (parts_of machine.old) body (items_at machine.old.agenda rest)
+        (parts_of machine.new)) }
     ensures later { OnOk result (Later machine.old machine.new) }
 {
     let value = machine.store.bank.app(Head::Eigen(machine.eigens), &[])?;
-    let goal = instantiate(&mut machine.store.bank, body, value)?;
+    let goal = machine.store.bank.instantiate(body, value)?;
     machine.eigens += 1;
     go_on(machine, &[Item::Goal(goal)], rest, Step::Plain)?;
     Ok(())
@@ -40,13 +41,16 @@ pub fn take_exists(machine: &mut Machine<'_>, body: FormAt, rest: Top) -> Result
     requires rest { HasTop machine.old.agenda rest }
     requires left { 0 < machine.old.left }
     requires body { HasForm machine.old.store.bank body.0 }
-    requires heads { form_applies_heads (instantiate (form_tree machine.old.store.bank body.0) (VarTerm (length (parts_of machine.old).levels))) ≡ true }
-    ensures opens { OnOk result (OpensExists (parts_of machine.old) body (items_at machine.old.agenda rest) (parts_of machine.new)) }
+    requires heads { form_applies_heads
+        (instantiate (form_tree machine.old.store.bank body.0) (VarTerm (length (parts_of machine.old).levels)))
+        ≡ true }
+    ensures opens { OnOk result (OpensExists (parts_of machine.old) body (items_at machine.old.agenda rest)
+        (parts_of machine.new)) }
     ensures later { OnOk result (Later machine.old machine.new) }
 {
     let number = machine.store.fresh(machine.eigens)?;
     let value = machine.store.bank.var(number)?;
-    let goal = instantiate(&mut machine.store.bank, body, value)?;
+    let goal = machine.store.bank.instantiate(body, value)?;
     machine.terms.push(value)?;
     go_on(machine, &[Item::Goal(goal)], rest, Step::Plain)?;
     Ok(())
@@ -67,8 +71,10 @@ pub fn take_load(
     requires count { length args.now ≡ «module».now.params }
     requires closed { AreClosed (term_trees machine.old.store.bank args.now) }
     requires clauses { HasClauses machine.old.store.bank «module».now.clauses.items }
-    requires heads { MayLoad machine.old.store.bank «module».now.clauses.items (term_trees machine.old.store.bank args.now) }
-    ensures loads { OnOk result (Loads (parts_of machine.old) «module».now args.now body (items_at machine.old.agenda rest) (parts_of machine.new)) }
+    requires heads { MayLoad machine.old.store.bank «module».now.clauses.items
+        (term_trees machine.old.store.bank args.now) }
+    ensures loads { OnOk result (Loads (parts_of machine.old) «module».now args.now body
+        (items_at machine.old.agenda rest) (parts_of machine.new)) }
     ensures later { OnOk result (Later machine.old machine.new) }
 {
     let goal = unfold(&mut machine.store.bank, module, args, body)?;

@@ -4,12 +4,12 @@ ghost use Rattle.std.specs.Arc.{arc_value};
 ghost use Rattle.ll_freeze.specs.Parts.{parts_of, Later};
 ghost use Rattle.ll_freeze.specs.Indexed.{IsIndexOf};
 ghost use Rattle.ll_freeze.specs.Frozen.{alternatives_in, Thaws};
-ghost use Rattle.ll_engine.specs.Pointed.{spine_of, IsSound};
+ghost use Rattle.ll_engine.specs.Pointed.{choices_of, IsSound};
 ghost use Rattle.ll_engine.specs.Begun.{BeginsIn, Begins};
 
 use crate::answer::Workshop;
 use crate::attempt::attempt;
-use crate::spine::Spine;
+use crate::choices::Choices;
 use ll_bank::OutOfMemory;
 use ll_freeze::{Frozen, Machine};
 use ll_index::Index;
@@ -19,18 +19,18 @@ use std::collections::VecDeque;
 use std::snapshot::Snapshot;
 use std::sync::Arc;
 
-impl<'p> Spine<'p> {
+impl<'p> Choices<'p> {
     /// The state that an alternative gives, with no choice point; that of the start is the one in which the search starts.
     pub fn resume(
         alloc: Global,
         problem: &'p Problem,
         frozen: &Frozen<'p>,
         k: u32,
-    ) -> Result<Spine<'p>, OutOfMemory>
+    ) -> Result<Choices<'p>, OutOfMemory>
         requires inside { k < length (alternatives_in frozen.now) }
         requires of { frozen.now.problem ≡ problem.now }
         ensures sound { IfOk result (λ z. IsSound z.began z) }
-        ensures begins { IfOk result (λ z. Begins frozen.now k z.began (spine_of z)) }
+        ensures begins { IfOk result (λ z. Begins frozen.now k z.began (choices_of z)) }
     {
         let index = index_of(alloc, problem, frozen)?;
         let machine = frozen.thaw(k)?;
@@ -46,19 +46,19 @@ fn begin_alone<'p>(
     mut machine: Machine<'p>,
     frozen: &Frozen<'p>,
     k: u32,
-) -> Result<Spine<'p>, OutOfMemory>
+) -> Result<Choices<'p>, OutOfMemory>
     requires index { IsIndexOf problem.now (arc_value index) }
     requires thaws { Thaws frozen.now (parts_of machine) }
     requires inside { k < length (alternatives_in frozen.now) }
     requires of { frozen.now.problem ≡ problem.now }
     ensures sound { IfOk result (λ z. IsSound z.began z) }
-    ensures begins { IfOk result (λ z. Begins frozen.now k z.began (spine_of z)) }
+    ensures begins { IfOk result (λ z. Begins frozen.now k z.began (choices_of z)) }
 {
     let began = begin(&mut machine, alloc, frozen, k)?;
     let origin = Snapshot::of(&machine);
     let points = VecDeque::new(alloc);
     let workshop = Workshop::new(alloc);
-    Ok(Spine {
+    Ok(Choices {
         alloc,
         problem,
         index,

@@ -87,7 +87,8 @@ fn second_side(machine: &mut Machine<'_>, saved: Saved, rest: Top) -> Result<(),
     requires going { Going (parts_of machine.old) (parts_of machine.old) }
     requires front { items_of (parts_of machine.old) ≡ Mid saved ∷ items_at machine.old.agenda rest }
     requires rest { HasTop machine.old.agenda rest }
-    ensures reaches { OnOk result (Reaches (parts_of machine.old) (parts_of machine.new) × IsDone (parts_of machine.new)) }
+    ensures reaches { OnOk result (Reaches (parts_of machine.old) (parts_of machine.new)
+        × IsDone (parts_of machine.new)) }
     ensures later { OnOk result (Later machine.old machine.new) }
 {
     let Some((Item::Goal(goal), after)) = machine.agenda.item(rest) else {

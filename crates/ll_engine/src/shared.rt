@@ -4,14 +4,14 @@ ghost use Rattle.std.specs.Arc.{arc_value};
 ghost use Rattle.ll_freeze.specs.Parts.{parts_of};
 ghost use Rattle.ll_freeze.specs.Indexed.{IsIndexOf};
 ghost use Rattle.ll_freeze.specs.Frozen.{alternatives_in, Thaws};
-ghost use Rattle.ll_engine.specs.Pointed.{spine_of, IsSound};
+ghost use Rattle.ll_engine.specs.Pointed.{choices_of, IsSound};
 ghost use Rattle.ll_engine.specs.Based.{IsBased};
 ghost use Rattle.ll_engine.specs.Begun.{Begins};
 
 use crate::ancestor::Ancestor;
 use crate::answer::Workshop;
+use crate::choices::Choices;
 use crate::resume::{begin, index_of};
-use crate::spine::Spine;
 use ll_bank::OutOfMemory;
 use ll_freeze::{Frozen, Machine, advance};
 use ll_index::Index;
@@ -21,18 +21,18 @@ use std::collections::VecDeque;
 use std::snapshot::Snapshot;
 use std::sync::Arc;
 
-impl<'p> Spine<'p> {
+impl<'p> Choices<'p> {
     /// As `resume` gives it, with the batch for what is split off later.
     pub fn resume_shared(
         alloc: Global,
         problem: &'p Problem,
         frozen: Arc<Frozen<'p>>,
         k: u32,
-    ) -> Result<Spine<'p>, OutOfMemory>
+    ) -> Result<Choices<'p>, OutOfMemory>
         requires inside { k < length (alternatives_in (arc_value frozen)) }
         requires of { (arc_value frozen).problem ≡ problem.now }
         ensures sound { IfOk result (λ z. IsSound z.began z) }
-        ensures begins { IfOk result (λ z. Begins (arc_value frozen.entry) k z.began (spine_of z)) }
+        ensures begins { IfOk result (λ z. Begins (arc_value frozen.entry) k z.began (choices_of z)) }
     {
         let index = index_of(alloc, problem, &frozen)?;
         let machine = frozen.thaw(k)?;
@@ -41,15 +41,15 @@ impl<'p> Spine<'p> {
     }
 
     /// The same for an alternative of another batch.
-    pub fn advance(self, to: Arc<Frozen<'p>>, k: u32) -> Result<Spine<'p>, OutOfMemory>
+    pub fn advance(self, to: Arc<Frozen<'p>>, k: u32) -> Result<Choices<'p>, OutOfMemory>
         requires index { IsIndexOf self.problem.now (arc_value self.index) }
         requires based { IsBased self.machine self.points.items self.ancestor }
         requires inside { k < length (alternatives_in (arc_value to)) }
         requires of { (arc_value to).problem ≡ self.problem.now }
         ensures sound { IfOk result (λ z. IsSound z.began z) }
-        ensures begins { IfOk result (λ z. Begins (arc_value to.entry) k z.began (spine_of z)) }
+        ensures begins { IfOk result (λ z. Begins (arc_value to.entry) k z.began (choices_of z)) }
     {
-        let Spine {
+        let Choices {
             alloc,
             problem,
             index,
@@ -89,19 +89,19 @@ fn begin_in<'p>(
     workshop: Workshop,
     frozen: Arc<Frozen<'p>>,
     k: u32,
-) -> Result<Spine<'p>, OutOfMemory>
+) -> Result<Choices<'p>, OutOfMemory>
     requires index { IsIndexOf problem.now (arc_value index) }
     requires thaws { Thaws (arc_value frozen) (parts_of machine) }
     requires inside { k < length (alternatives_in (arc_value frozen)) }
     requires of { (arc_value frozen).problem ≡ problem.now }
     ensures sound { IfOk result (λ z. IsSound z.began z) }
-    ensures begins { IfOk result (λ z. Begins (arc_value frozen.entry) k z.began (spine_of z)) }
+    ensures begins { IfOk result (λ z. Begins (arc_value frozen.entry) k z.began (choices_of z)) }
 {
     let base = machine.mark();
     let began = begin(&mut machine, alloc, &frozen, k)?;
     let origin = Snapshot::of(&machine);
     let points = VecDeque::new(alloc);
-    Ok(Spine {
+    Ok(Choices {
         alloc,
         problem,
         index,

@@ -3,9 +3,9 @@ ghost use Rattle.std.specs.Prelude.{◌≡◌, ◌<◌, ◌≤◌, ℕ, true, �
 ghost use Rattle.std.specs.List.{Contains};
 ghost use Rattle.ll_bank.specs.Term.{close, applies_heads};
 ghost use Rattle.ll_bank.specs.Nodes.{form_tree, term_tree, HasTerm, AllInTerms, Extends};
-ghost use Rattle.ll_close.specs.Closing.{env_of};
-ghost use Rattle.ll_bindings.specs.Bindings.{IsTable, IsPlaceOf, HasCells, count};
-ghost use Rattle.ll_equate.specs.Fresh.{StandsNowhere};
+ghost use Rattle.ll_bank.specs.Closing.{env_of};
+ghost use Rattle.ll_unify.specs.Bindings.{IsTable, IsPlaceOf, HasCells, count};
+ghost use Rattle.ll_unify.specs.Fresh.{StandsNowhere};
 ghost use Rattle.ll_store.specs.Stored.{stored, KeepsMarks};
 ghost use Rattle.ll_store.specs.Tables.{table_of};
 ghost use Rattle.ll_laws.specs.Leaf.{ways};
@@ -91,7 +91,8 @@ fn loaded_place(context: &Context<FormAt>, label: u32) -> Option<usize>
 
 /// Makes so many variables of a level. After a refusal there may be more of them.
 pub fn add_cells(store: &mut Store, level: u32, count: usize) -> Result<(), OutOfMemory>
-    ensures cells { OnOk result (store.new.cells.cells ≡ store.old.cells.cells ++ replicate count (record { to = None; level = level })) }
+    ensures cells { OnOk result (store.new.cells.cells
+        ≡ store.old.cells.cells ++ replicate count (record { to = None; level = level })) }
     ensures bank { store.new.bank ≡ store.old.bank }
     ensures marks { KeepsMarks (stored store.old) (stored store.new) }
 {
@@ -129,8 +130,9 @@ pub fn unify_under(
     requires table { IsTable store.old.bank (table_of store.old.cells.cells) }
     requires left { IsPlaceOf store.old.bank (table_of store.old.cells.cells) left.0 }
     requires right { IsPlaceOf store.old.bank (table_of store.old.cells.cells) right.0 }
-    ensures found { IfOk result (Unifies store.old.bank store.old.bank (table_of store.old.cells.cells) (table_of store.new.cells.cells)
-        (mgu (read_in store.old left ∷ []) (read_in store.old right ∷ []) (table_of store.old.cells.cells).levels)) }
+    ensures found { IfOk result (Unifies store.old.bank store.old.bank (table_of store.old.cells.cells)
+        (table_of store.new.cells.cells) (mgu (read_in store.old left ∷ []) (read_in store.old right ∷ [])
+        (table_of store.old.cells.cells).levels)) }
     ensures bank { store.new.bank ≡ store.old.bank }
     ensures marks { KeepsMarks (stored store.old) (stored store.new) }
 {
@@ -152,12 +154,16 @@ fn unify_leaf(
     requires atom { IsPlaceOf store.old.bank (table_of store.old.cells.cells) atom.0 }
     requires head { HasTerm store.old.bank head.0 }
     requires variables { AllInTerms store.old.bank variables.now }
-    requires heads { applies_heads (close (env_of store.old.bank variables.now) (term_tree store.old.bank head.0)) ≡ true }
-    requires vars { HasCells store.old.bank (table_of store.old.cells.cells) (close (env_of store.old.bank variables.now) (term_tree store.old.bank head.0)) }
+    requires heads { applies_heads (close (env_of store.old.bank variables.now) (term_tree store.old.bank head.0))
+        ≡ true }
+    requires vars { HasCells store.old.bank (table_of store.old.cells.cells)
+        (close (env_of store.old.bank variables.now) (term_tree store.old.bank head.0)) }
     requires new { (x : ℕ) → first ≤ x → x < count (table_of store.old.cells.cells)
         → StandsNowhere store.old.bank (table_of store.old.cells.cells) (term_tree store.old.bank atom.0 ∷ []) x }
-    ensures found { IfOk result (Unifies store.old.bank store.new.bank (table_of store.old.cells.cells) (table_of store.new.cells.cells)
-        (mgu (read_in store.old atom ∷ []) (read_closed store.old variables.now head ∷ []) (table_of store.old.cells.cells).levels)) }
+    ensures found { IfOk result (Unifies store.old.bank store.new.bank (table_of store.old.cells.cells)
+        (table_of store.new.cells.cells)
+        (mgu (read_in store.old atom ∷ []) (read_closed store.old variables.now head ∷ [])
+        (table_of store.old.cells.cells).levels)) }
     ensures keeps { Extends store.old.bank store.new.bank }
     ensures marks { KeepsMarks (stored store.old) (stored store.new) }
 {

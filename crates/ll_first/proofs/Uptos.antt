@@ -1,5 +1,5 @@
 -- The shortest prefix with so many answers.
-use Rattle.std.proofs.Common.{◌≡◌, ℕ, zero, suc, ◌+◌, ◌<◌, ◌≤◌, List, [], ◌∷◌, ◌++◌, length, refl, sym, ap, ◌∙◌, arith, Option, Some, None}
+use Rattle.std.proofs.Common.{◌≡◌, ℕ, zero, suc, ◌+◌, ◌<◌, ◌≤◌, List, [], ◌∷◌, ◌++◌, refl, sym, ap, ◌∙◌, arith, Option, Some, None}
 use Rattle.std.specs.Prelude.{count_by, option_map, if◌then◌else◌}
 use Rattle.std.proofs.lemmas.List.Sums.{sum_by-append, sum_by-cons}
 use Rattle.ll_laws.specs.declared.Event.{Event}
@@ -32,27 +32,6 @@ upto_front (Reached ∷ es) (suc k) front h =
     let m = in_front Reached (upto es (suc k)) front h in
     let i = upto_front es (suc k) m.0 m.1 in
     (i.0, ap (λ l. Reached ∷ l) i.1 ∙ ap (λ l. l ++ i.0) (sym m.2), ap (count_by is_answer) m.2 ∙ (count_reached m.0 ∙ i.2))
-
--- no shorter prefix has as many
-pub upto_shortest : (es : List Event) (k : ℕ) (front : List Event) → upto es k ≡ Some front → (shorter back : List Event) → es ≡ shorter ++ back
-    → k ≤ count_by is_answer shorter → length front ≤ length shorter
-upto_shortest es zero front h shorter back order many = let same : [] ≡ front = cc in let l = ap length same in omega arith
-upto_shortest es (suc k) front h [] back order many = absurd (omega arith)
-upto_shortest [] (suc k) front h (s ∷ shorter) back order many = absurd (cc)
-upto_shortest (Answer a ∷ es) (suc k) front h (s ∷ shorter) back order many =
-    let m = in_front (Answer a) (upto es k) front h in
-    let first : Answer a ≡ s = cc in
-    let rest : es ≡ shorter ++ back = cc in
-    let c = ap (λ e. count_by is_answer (e ∷ shorter)) (sym first) ∙ count_answer a shorter in
-    let i = upto_shortest es k m.0 m.1 shorter back rest (omega arith) in
-    let l = ap length m.2 in omega arith
-upto_shortest (Reached ∷ es) (suc k) front h (s ∷ shorter) back order many =
-    let m = in_front Reached (upto es (suc k)) front h in
-    let first : Reached ≡ s = cc in
-    let rest : es ≡ shorter ++ back = cc in
-    let c = ap (λ e. count_by is_answer (e ∷ shorter)) (sym first) ∙ count_reached shorter in
-    let i = upto_shortest es (suc k) m.0 m.1 shorter back rest (omega arith) in
-    let l = ap length m.2 in omega arith
 
 -- there is none where the events have fewer
 pub upto_none : (es : List Event) (k : ℕ) → count_by is_answer es < k → upto es k ≡ None

@@ -63,7 +63,7 @@ impl<O: Outlet> First<O> {
         }
     }
 
-    /// The outlet within.
+    /// The outlet within. The program does not call it: its outlet is lent.
     pub fn into_inner(self) -> O
         ensures { result ≡ self.out }
     {

@@ -8,7 +8,7 @@ use Rattle.ll_bank.specs.Term.{Term, Var, sub}
 use Rattle.ll_bank.specs.Form.{Form, Top, One, Atom, With, Tensor, Plus, Bang, Lolli, Imp, Forall, Exists, Use, Num, sub_form}
 use Rattle.ll_bank.specs.Nodes.{Nodes, HasForm, term_tree, term_trees, form_tree, Extends}
 use Rattle.std.proofs.lemmas.List.Elements.{All-head, All-tail, All-weaker}
-use Rattle.ll_lists.proofs.CallerLemmas.{map_same}
+use Rattle.ll_list_laws.proofs.CallerLemmas.{map_same}
 use Rattle.ll_bank.proofs.CallerLemmas.{HasForm-extends, form_tree-extends}
 use Rattle.ll_laws.specs.declared.Clause.{Clause}
 use Rattle.ll_laws.specs.declared.Module.{Module}
@@ -95,7 +95,7 @@ pub state_is : (m : Parts) → state_of m ≡ state_by m.bank m.bound m.resource
 unfolding state_of
 state_is m = refl
 
--- with the same terms and eigenconstants formulas may mention the same
+-- with the same terms and eigenvariables formulas may mention the same
 pub same_allowed : (m n : Parts) → SameTerms m n → n.eigens ≡ m.eigens → allowed n ≡ allowed m
 same_allowed m n s e =
     let make : ProblemTree → List ℕ → ℕ → Allowed = λ p ls k. record { modules = p.modules; variables = length ls; eigens = k; opens = true } in

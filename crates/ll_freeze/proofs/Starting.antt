@@ -27,8 +27,8 @@ use Rattle.ll_resources.specs.Resources.{Resources, started, entries_from}
 use Rattle.ll_agenda.specs.Frames.{ShowsItems}
 use Rattle.ll_freeze.specs.Parts.{Parts, table}
 use Rattle.ll_freeze.specs.declared.machine.Item.TheVariants.{Goal}
-use Rattle.ll_bindings.specs.Bindings.{Table, IsOrdered}
-use Rattle.ll_bindings.proofs.CallerLemmas.{followed-free}
+use Rattle.ll_unify.specs.Bindings.{Table, IsOrdered}
+use Rattle.ll_unify.proofs.CallerLemmas.{followed-free}
 use Rattle.ll_store.specs.declared.cells.Cell.{Cell}
 use Rattle.ll_freeze.specs.Reading.{reading, read_term, read_form, HasValue}
 use Rattle.ll_freeze.specs.Shown.{shown_item, shown_entry, items_of, state_of}

@@ -8,7 +8,7 @@ use Rattle.ll_laws.specs.Attempt.{vars_from}
 use Rattle.ll_laws.specs.Valid.{IsValid, Allowed, IsFormula, GoalSide, ClauseSide}
 use Rattle.ll_laws.specs.Consistent.{IsConsistent}
 use Rattle.ll_agenda.specs.Frames.{HasTop}
-use Rattle.ll_bindings.specs.Bindings.{IsOrdered}
+use Rattle.ll_unify.specs.Bindings.{IsOrdered}
 use Rattle.ll_freeze.specs.Parts.{Parts, table}
 use Rattle.ll_freeze.specs.declared.machine.Item.{Item}
 use Rattle.ll_freeze.specs.declared.machine.Item.TheVariants.{Goal, LolliEnd, ImpEnd, Mid, WithEnd, BangEnd}

@@ -59,8 +59,8 @@ abbrev pub StandsBy : Bool → FrozenSight → Type 0
 StandsBy true f = (f.state ≡ start_of f.problem) × (f.left ≡ f.problem.bound) × (f.untried ≡ no_choice ∷ [])
 StandsBy false f = (0 < f.left) × AreTries f.state f.untried
 
-abbrev pub Stands : FrozenSight → Type 0
-Stands f = StandsBy f.starts f
+abbrev pub FrozenStands : FrozenSight → Type 0
+FrozenStands f = StandsBy f.starts f
 
 -- the start of a problem's search, which shares with no other
 abbrev pub opening : ProblemTree → Base → FrozenSight
@@ -73,7 +73,7 @@ sight_of m cs starts depth = record { problem = m.problem; state = state_of m; l
 -- what a frozen choice point keeps
 pub record IsFrozen (m : Parts) (cs : List Candidate) (starts : Bool) (depth : ℕ) : Type 0 where
   pub fits : Fits m
-  pub stands : Stands (sight_of m cs starts depth)
+  pub stands : FrozenStands (sight_of m cs starts depth)
   pub count : length cs < 2 ^ 32
 
 -- the machine is in the state as it was frozen

@@ -3,7 +3,7 @@ use Rattle.std.specs.Prelude.{◌≡◌, ◌≤◌, ◌++◌, ℕ, List, length,
 use Rattle.ll_bank.specs.declared.At.{At}
 use Rattle.ll_bank.specs.declared.FormAt.{FormAt}
 use Rattle.ll_bank.specs.Nodes.{Nodes}
-use Rattle.ll_bindings.specs.Bindings.{Table}
+use Rattle.ll_unify.specs.Bindings.{Table}
 use Rattle.ll_store.specs.Tables.{table_of}
 use Rattle.ll_store.specs.Stored.{stored, state_at, IsGood as IsGoodMark, IsBefore as IsStoreBefore, KeepsMarks as KeepsStoreMarks}
 use Rattle.ll_laws.specs.declared.Module.{Module}

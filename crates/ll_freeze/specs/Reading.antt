@@ -5,7 +5,7 @@ use Rattle.ll_bank.specs.declared.FormAt.{FormAt}
 use Rattle.ll_bank.specs.Term.{Term, sub}
 use Rattle.ll_bank.specs.Form.{Form, sub_form}
 use Rattle.ll_bank.specs.Nodes.{Nodes, HasTerm, term_tree, form_tree}
-use Rattle.ll_bindings.specs.Bindings.{followed}
+use Rattle.ll_unify.specs.Bindings.{followed}
 
 -- what stands for a variable, with all bindings applied
 abbrev pub reading : Nodes → List (Option At) → ℕ → Term

@@ -7,7 +7,7 @@ ghost use Rattle.ll_store.specs.Layered.{segments_of};
 ghost use Rattle.ll_freeze.specs.Parts.{parts_of, parts_at, base_of, IsGood};
 ghost use Rattle.ll_freeze.specs.Shown.{state_of};
 ghost use Rattle.ll_freeze.specs.Fits.{Fits};
-ghost use Rattle.ll_freeze.specs.Frozen.{alternatives_in, sight_of, opening, AreTries, Stands, Thaws};
+ghost use Rattle.ll_freeze.specs.Frozen.{alternatives_in, sight_of, opening, AreTries, FrozenStands, Thaws};
 ghost use Rattle.ll_freeze.specs.Onward.{base_in, LeadOn};
 ghost use Rattle.ll_freeze.specs.Indexed.{IsIndexOf};
 
@@ -153,7 +153,8 @@ impl<'p> Frozen<'p> {
         requires base { base_of (parts_at base machine.now) ≡ ancestor.now.base }
         requires order { IsBefore base.store at.store }
         requires depth { ancestor.now.depth < 64 }
-        ensures { IfOk result (λ f. f ≡ sight_of (parts_at at machine.entry.now) untried.now false (ancestor.entry.now.depth + 1)) }
+        ensures { IfOk result (λ f. f ≡ sight_of (parts_at at machine.entry.now) untried.now false
+            (ancestor.entry.now.depth + 1)) }
     {
         let alloc = *machine.terms.allocator();
         let untried = Vec::from_slice(alloc, untried)?;
@@ -222,7 +223,7 @@ impl<'p> Frozen<'p> {
     /// Whether this is the start of a search. Its state is then the one in which the search starts.
     pub fn is_start(&self) -> bool
         ensures is { result ≡ self.entry.now.starts }
-        ensures stands { Stands self.entry.now }
+        ensures stands { FrozenStands self.entry.now }
     {
         self.starts
     }

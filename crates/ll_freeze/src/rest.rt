@@ -34,7 +34,8 @@ impl<'p> Machine<'p> {
     pub fn rest(&self, mark: ChoiceMark) -> Result<Rest<'p>, OutOfMemory>
         requires good { IsGood mark self.now }
         requires fits { Fits (parts_at mark self.now) }
-        ensures { IfOk result (λ r. IsImage (parts_at mark self.entry.now) (parts_with r (state_at mark.store (stored self.entry.now.store)))) }
+        ensures { IfOk result (λ r. IsImage (parts_at mark self.entry.now)
+            (parts_with r (state_at mark.store (stored self.entry.now.store)))) }
     {
         let context = self.context.image(mark.context)?;
         let (agenda, top) = self.agenda.image(mark.top)?;

@@ -4,7 +4,7 @@ use Rattle.std.specs.Prelude.{◌&&◌, if◌then◌else◌, Option, Some, None,
 use Rattle.std.specs.Ordering.{int_eq}
 use Rattle.std.proofs.Math.Dec.{eqb-suc-suc}
 use Rattle.std.proofs.lemmas.List.Elements.{All-cons}
-use Rattle.ll_lists.proofs.CallerLemmas.{false_from_not as not-true, and_true_left as and_left}
+use Rattle.ll_list_laws.proofs.CallerLemmas.{false_from_not as not-true, and_true_left as and_left}
 use Rattle.ll_bank.specs.declared.Head.{Head}
 use Rattle.ll_bank.specs.declared.Head.TheVariants.{Name, Eigen, Bound}
 use Rattle.ll_bank.specs.Term.{Term, Var, Int, Con, Ap, Env, sub, place, close, head_of, arity, head_eq, same_head, same_predicate}

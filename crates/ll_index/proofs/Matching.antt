@@ -9,8 +9,8 @@ use Rattle.std.proofs.lemmas.List.{map-append}
 use Rattle.std.proofs.lemmas.List.Concat.{flat_map-cons}
 use Rattle.std.proofs.lemmas.List.Elements.{filter-append}
 use Rattle.std.proofs.lemmas.Option.{slice_get-map}
-use Rattle.ll_lists.proofs.CallerLemmas.{same_from_both_ways as same-bools, false_from_not as not-false, true_from_not, or_elim as or_cases}
-use Rattle.ll_lists.proofs.CallerLemmas.{slice_get-append_left as get_left, slice_get-append_right as get_right}
+use Rattle.ll_list_laws.proofs.CallerLemmas.{same_from_both_ways as same-bools, false_from_not as not-false, true_from_not, or_elim as or_cases}
+use Rattle.ll_list_laws.proofs.CallerLemmas.{slice_get-append_left as get_left, slice_get-append_right as get_right}
 use Rattle.ll_bank.specs.declared.Head.{Head}
 use Rattle.ll_bank.specs.declared.Head.TheVariants.{Name, Eigen, Bound}
 use Rattle.ll_bank.specs.Term.{Term, close, head_of, arity, same_head, same_predicate}
@@ -317,10 +317,6 @@ get-numbered label k (l ∷ xs) zero x h =
     (ap (λ v. v.candidate.label) (sym e), ap (λ v. v.candidate.leaf) (sym e) ∙ z, ap (λ v. Some v.standing) e)
 get-numbered label k (l ∷ xs) (suc p) x h =
     let w = get-numbered label (suc k) xs p x h in (w.0, w.1 ∙ (let z : suc k + p ≡ k + suc p = omega arith in z), w.2)
-
-length-numbered : (label k : ℕ) (xs : List StandingLeaf) → length (numbered label k xs) ≡ length xs
-length-numbered label k [] = refl
-length-numbered label k (l ∷ xs) = ap (λ n. suc n) (length-numbered label (suc k) xs)
 
 placed : (n : ℕ) (cs : List ClauseTree) (p : ℕ) (x : Listed) → slice_get (program_leaves n cs) p ≡ Some x → Placed n cs x
 placed n [] p x h = cc

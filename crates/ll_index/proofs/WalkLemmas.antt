@@ -5,9 +5,9 @@ use Rattle.std.proofs.lemmas.List.{append-nil, map-append, length-map, length-ta
 use Rattle.std.proofs.Math.Seq.{take-suc}
 use Rattle.std.proofs.lemmas.List.Sums.{sum_by-append}
 use Rattle.std.proofs.lemmas.List.Elements.{All-head, All-tail, All-push, All-cons, All-append}
-use Rattle.ll_lists.proofs.CallerLemmas.{All-front as All-before, All-last as All-last-of}
+use Rattle.ll_list_laws.proofs.CallerLemmas.{All-front as All-before, All-last as All-last-of}
 use Rattle.ll_bank.specs.declared.FormAt.{FormAt}
-use Rattle.ll_bank.specs.Form.{Form, With, Lolli, Imp, Forall}
+use Rattle.ll_bank.specs.Form.{With, Forall}
 use Rattle.ll_bank.specs.Nodes.{Nodes, form_tree, term_tree, HasForm}
 use Rattle.ll_agenda.specs.Frames.{Frames, items_at, HasTop, ShowsItems, Extends}
 use Rattle.ll_agenda.proofs.CallerLemmas.{HasTop-extends, items_at-extends, Extends-refl, Extends-trans}
@@ -26,13 +26,6 @@ use Rattle.ll_index.specs.Walks.{IsPart, part_leaves, waiting_leaves, walk_size,
 
 All-become : {A : Type 0} (P Q : A → Type 0) → ((x : A) → P x → Q x) → (xs : List A) → All P xs → All Q xs
 All-become P Q f xs h k d l = f _ (h k d l)
-
-walk_size-positive : (f : Form) → 0 < walk_size f
-walk_size-positive (With r s) = omega arith
-walk_size-positive (Lolli g r) = omega arith
-walk_size-positive (Imp g r) = omega arith
-walk_size-positive (Forall r) = omega arith
-walk_size-positive _ = omega arith
 
 -- ---- parts that wait
 

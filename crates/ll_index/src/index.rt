@@ -184,7 +184,8 @@ impl Index {
 
     // The first leaf with a sign, by a walk along the chain of its predicate from its first leaf on.
     fn walked(&self, from: u32, first: First) -> u32
-        ensures { (name arguments : ℕ) → from ≡ first_place self.now.predicates (Named name arguments Open) (length self.now.keys.items)
+        ensures { (name arguments : ℕ)
+            → from ≡ first_place self.now.predicates (Named name arguments Open) (length self.now.keys.items)
             → result ≡ first_place self.now.signs (Named name arguments first) (length self.now.keys.items) }
     {
         let mut at = from;

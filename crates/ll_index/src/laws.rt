@@ -5,7 +5,7 @@ ghost use Rattle.ll_index.specs.First.{ClashesDiffer, ClashesGiveNothing};
 /// The outermost sign of an atom's first argument. Where two of them clash, the atoms have no unifier.
 #[derive(Clone, Copy, PartialEq, Eq, Hash)]
 pub enum First {
-    /// It clashes with no other: there is no first argument, or it is a variable, or its head is a bound place or an eigenconstant.
+    /// It clashes with no other: there is no first argument, or it is a variable, or its head is a bound place or an eigenvariable.
     Open,
     /// A whole number.
     Int(i64),

@@ -52,7 +52,8 @@ pub(crate) fn leaves_of(
     clauses: &[Clause],
 ) -> Result<(Vec<Leaf>, Agenda<Premise>), OutOfMemory>
     requires { HasClauses bank.now clauses.now }
-    ensures leaves { IfOk result (λ made. map (listed bank.now made.1) made.0.items ≡ program_leaves 0 (map (clause_tree bank.now) clauses.now)) }
+    ensures leaves { IfOk result (λ made. map (listed bank.now made.1) made.0.items
+        ≡ program_leaves 0 (map (clause_tree bank.now) clauses.now)) }
     ensures stored { IfOk result (λ made. All (IsStored bank.now made.1) made.0.items) }
 {
     let mut walk = Walk {
@@ -82,7 +83,8 @@ impl Walk {
         requires inside { HasForm bank.now clause.0 }
         requires idle { self.old.waiting.items ≡ [] }
         ensures idle { OnOk result (self.new.waiting.items ≡ []) }
-        ensures added { OnOk result (AddsLeaves bank.now self.old self.new (numbered label 0 (standing_leaves (form_tree bank.now clause.0)))) }
+        ensures added { OnOk result (AddsLeaves bank.now self.old self.new
+            (numbered label 0 (standing_leaves (form_tree bank.now clause.0)))) }
     {
         self.put(clause, 0, Agenda::<Premise>::none())?;
         let mut leaf = 0;
@@ -137,8 +139,11 @@ impl Walk {
 
     /// A part of a clause waits, with what stands round it.
     fn put(&mut self, form: FormAt, quantifiers: u32, premises: Top) -> Result<(), OutOfMemory>
-        ensures waiting { OnOk result (self.new.waiting.items ≡ self.old.waiting.items ++ record { form = form; quantifiers = quantifiers; premises = premises }
-            ∷ []) }
+        ensures waiting { OnOk result (self.new.waiting.items ≡ self.old.waiting.items ++ record {
+          form = form;
+          quantifiers = quantifiers;
+          premises = premises;
+        } ∷ []) }
         ensures leaves { self.new.leaves ≡ self.old.leaves }
         ensures premises { self.new.premises ≡ self.old.premises }
     {
@@ -159,7 +164,11 @@ impl Walk {
         rest: FormAt,
     ) -> Result<(), OutOfMemory>
         requires { HasTop self.old.premises part.premises }
-        ensures { OnOk result (PutsUnder part (record { goal = goal; kind = kind; quantifiers = part.quantifiers }) rest self.old self.new) }
+        ensures { OnOk result (PutsUnder part (record {
+          goal = goal;
+          kind = kind;
+          quantifiers = part.quantifiers;
+        }) rest self.old self.new) }
     {
         let premise = Premise {
             goal,

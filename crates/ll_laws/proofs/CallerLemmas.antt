@@ -70,7 +70,7 @@ pub use Rattle.ll_laws.proofs.search.AnswerSteps.{new_level}
 pub use Rattle.ll_laws.proofs.consistency.ConsistentStates.{levels-replicate}
 -- a variable that occurs in a term is one of those that the term may mention
 pub use Rattle.ll_laws.proofs.search.AnswerSteps.{occurs_below}
--- eigenconstants below a level are below a higher one
+-- eigenvariables below a level are below a higher one
 pub use Rattle.ll_laws.proofs.unification.UnifyLaws.{eigens-mono}
 -- what unification answers is a unifier
 pub use Rattle.ll_laws.proofs.unification.UnifyBest.{found-unifier}
@@ -98,11 +98,11 @@ pub use Rattle.ll_laws.proofs.consistency.ConsistentTerms.{IsHead}
 pub use Rattle.ll_laws.proofs.consistency.ConsistentTerms.{Fit}
 -- each term of a list fits
 pub use Rattle.ll_laws.proofs.consistency.ConsistentTerms.{AllFit}
--- a term without bound places, whose variables and eigenconstants are there, fits
+-- a term without bound places, whose variables and eigenvariables are there, fits
 pub use Rattle.ll_laws.proofs.consistency.ConsistentTerms.{fit_of_made}
 -- a term that fits has no variable beyond those that are there
 pub use Rattle.ll_laws.proofs.consistency.ConsistentTerms.{fit-vars}
--- a term that fits has no eigenconstant beyond those that are there
+-- a term that fits has no eigenvariable beyond those that are there
 pub use Rattle.ll_laws.proofs.consistency.ConsistentTerms.{fit-eigens}
 -- a term that fits has no bound place beyond those of its scope
 pub use Rattle.ll_laws.proofs.consistency.ConsistentTerms.{fit-places}
@@ -115,7 +115,7 @@ pub use Rattle.ll_laws.proofs.consistency.ConsistentTerms.{all_headed}
 -- a term that fits still fits where more is allowed and the scope is wider
 pub use Rattle.ll_laws.proofs.consistency.ConsistentTerms.{fit-more}
 -- each variable that there is goes to a closed term
-pub use Rattle.ll_laws.proofs.consistency.ConsistentTerms.{Goes}
+pub use Rattle.ll_laws.proofs.consistency.ConsistentTerms.{GoesToFitting}
 -- a term that fits still fits under a substitution by terms that fit
 pub use Rattle.ll_laws.proofs.consistency.ConsistentTerms.{fit-sub}
 -- an environment takes terms of the inner scope to the outer one, and what it puts for places are closed terms that fit them
@@ -123,7 +123,7 @@ pub use Rattle.ll_laws.proofs.consistency.ConsistentTerms.{Closes}
 -- ---- formulas of consistent states
 
 -- the formula may stand on this side, and its terms fit
-pub use Rattle.ll_laws.proofs.consistency.ConsistentForms.{Fits}
+pub use Rattle.ll_laws.proofs.consistency.ConsistentForms.{FormFits}
 -- a formula that fits is one in the words of the definitions
 pub use Rattle.ll_laws.proofs.consistency.ConsistentForms.{formula_of_fits}
 -- a formula in the words of the definitions fits

@@ -27,7 +27,7 @@ pub record ShowsClosed (p : ProblemTree) (d : DerivationLines) : Type 0 where
   pub numberless : list_any counts_numbers d.nodes ≡ false
 
 -- What a derivation shows, as many inferences of a run bring to an answer, from the start where its terms for the query's variables
--- have lost their eigenconstants, whatever the variables are named that take their place.
+-- have lost their eigenvariables, whatever the variables are named that take their place.
 abbrev pub ShownRuns : Type 0
 ShownRuns =
     (p : ProblemTree) (d : DerivationLines) (name : Term → ℕ) → IsValid p → ShowsClosed p d
@@ -39,7 +39,7 @@ HiddenCover = (ts : List Term) → list_all is_closed ts ≡ true → (name : Te
 
 -- ---- lifting
 
--- a closed term for each variable, whose eigenconstants are below the variable's level
+-- a closed term for each variable, whose eigenvariables are below the variable's level
 pub record FitLevels (levels : List ℕ) (f : ℕ → Term) : Type 0 where
   pub closed : (x : ℕ) → is_closed (f x) ≡ true
   pub below : (x : ℕ) → x < length levels → eigens_below (slice_index levels x) (f x) ≡ true

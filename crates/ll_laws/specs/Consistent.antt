@@ -62,7 +62,7 @@ abbrev pub AreResources : Allowed → List (Entry Form) → Type 0
 AreResources may [] = Unit {0}
 AreResources may (e ∷ es) = IsFormula may ClauseSide [] e.clause × AreResources may es
 
--- the term is closed, and its variables and eigenconstants are below these numbers
+-- the term is closed, and its variables and eigenvariables are below these numbers
 abbrev pub is_made : ℕ → ℕ → Term → Bool
 is_made variables eigens t = is_closed t && vars_below variables t && eigens_below eigens t
 
@@ -71,7 +71,7 @@ abbrev pub labels_differ : List (Entry Form) → Bool
 labels_differ [] = true
 labels_differ (e ∷ es) = not (list_any (λ d. nat_eq e.label d.label) es) && labels_differ es
 
--- A consistent state: goals and clauses are closed, and their variables and eigenconstants are below the next ones; labels
+-- A consistent state: goals and clauses are closed, and their variables and eigenvariables are below the next ones; labels
 -- are below the next one and distinct; no unbounded entry is live; ends and kept marks belong to the context.
 pub record IsConsistent (m : Setting) (s : State) : Type 0 where
   pub goals : AreGoals (allowed_in m s) s.agenda

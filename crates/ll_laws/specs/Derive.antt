@@ -15,7 +15,7 @@ pub data Dealt {A : Type 0} : List A → List A → List A → Type 0 where
   dealt_left : {x : A} {xs ys zs : List A} → Dealt xs ys zs → Dealt (x ∷ xs) ys (x ∷ zs)
   dealt_right : {x : A} {xs ys zs : List A} → Dealt xs ys zs → Dealt xs (x ∷ ys) (x ∷ zs)
 
--- eigenconstant c stands in none of the formulas
+-- eigenvariable c stands in none of the formulas
 abbrev pub IsNew : ℕ → List Form → Type 0
 IsNew c fs = list_any (form_has_eigen c) fs ≡ false
 

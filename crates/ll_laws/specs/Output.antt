@@ -20,7 +20,7 @@ line bytes = bytes ++ 10 ∷ []
 abbrev pub name_text : List (List ℕ) → ℕ → List ℕ
 name_text names n = slice_index_or names n []
 
--- the text of a head: a name, `#n` for an eigenconstant
+-- the text of a head: a name, `#n` for an eigenvariable
 abbrev pub head_text : List (List ℕ) → Head → List ℕ
 head_text names (Name n) = name_text names n
 head_text names (Eigen n) = codes "#" ++ decimal n

@@ -29,7 +29,7 @@ taken_by s rest label k us ps =
       steps = s.steps ++ ClauseStep label k ∷ [];
     }
 
--- the terms may be chosen where this many eigenconstants have been made
+-- the terms may be chosen where this many eigenvariables have been made
 abbrev pub MayChoose : ℕ → List Term → Type 0
 MayChoose n [] = Unit {0}
 MayChoose n (t ∷ ts) = (is_closed t ≡ true) × (eigens_below n t ≡ true) × MayChoose n ts

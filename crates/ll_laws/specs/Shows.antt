@@ -11,7 +11,7 @@ use Rattle.ll_laws.specs.Number.{holds}
 
 mutual
   -- A node has its rule's name. A tensor node has the labels of each side; a node for `-o` or `=>` the label of what it loads; one for
-  -- `forall` its eigenconstant, and for `exists` its term; a clause node its label, its leaf, the terms on the way to it, and its parts.
+  -- `forall` its eigenvariable, and for `exists` its term; a clause node its label, its leaf, the terms on the way to it, and its parts.
   pub data Tree : Type 0 where
     OneNode : Tree
     EraseNode : Tree

@@ -14,9 +14,9 @@ pub record State : Type 0 where
   pub context : List (Entry Form)
   -- an `erase` may still take what is left
   pub flag : Bool
-  -- for each variable the number of eigenconstants that there were when it was made, or less
+  -- for each variable the number of eigenvariables that there were when it was made, or less
   pub levels : List ℕ
-  -- the number of eigenconstants, which is the next one's number
+  -- the number of eigenvariables, which is the next one's number
   pub eigens : ℕ
   -- for each variable the term that it stands for, those asked for first
   pub terms : List Term

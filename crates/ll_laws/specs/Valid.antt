@@ -104,7 +104,7 @@ abbrev pub is_atom : Scope → Term → Bool
 is_atom scope a = is_spine a && may_head scope (head_of a) && is_headed scope a
 
 -- the atoms of a formula on this side, the arguments of its loads and the sides of its whole-number goals have heads that may be. `opens` says that the bound
--- place of a goal's `forall` may be one, as it may where an eigenconstant takes its place.
+-- place of a goal's `forall` may be one, as it may where an eigenvariable takes its place.
 abbrev pub has_heads : Bool → Side → Scope → Form → Bool
 has_heads opens side scope Top = true
 has_heads opens side scope One = true
@@ -162,7 +162,7 @@ leaves_up_to n _ _ = true
 abbrev pub largest_count : ℕ
 largest_count = 16777216
 
--- what formulas may mention: modules, variables below a number, and eigenconstants below a number; and whether the bound
+-- what formulas may mention: modules, variables below a number, and eigenvariables below a number; and whether the bound
 -- place of a goal's `forall` may be a predicate
 pub record Allowed : Type 0 where
   pub modules : List ModuleTree
@@ -186,7 +186,7 @@ pub record IsWithinLimits (names : ℕ) (side : Side) (f : Form) : Type 0 where
   pub leaves : leaves_up_to largest_count side f ≡ true
   pub arguments : each_term (λ n. arity_up_to largest_count) 0 f ≡ true
 
--- a formula of a problem: it has no eigenconstant, and only the bound place of a module's local may be a predicate
+-- a formula of a problem: it has no eigenvariable, and only the bound place of a module's local may be a predicate
 abbrev pub given : List ModuleTree → ℕ → Allowed
 given modules variables = record { modules = modules; variables = variables; eigens = 0; opens = false }
 

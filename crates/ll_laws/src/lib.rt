@@ -353,7 +353,7 @@ pub enum Rule {
     Lolli(u32),
     /// `R => G`: R gets this label.
     Imp(u32),
-    /// `forall x\ G` with this eigenconstant in place of x.
+    /// `forall x\ G` with this eigenvariable in place of x.
     Forall(u32),
     /// `exists x\ G` with this term in place of x.
     Exists(At),
@@ -435,7 +435,7 @@ pub fn consistent_states()
 {}
 
 /// Unification finds a most general unifier among those that respect the levels, and nothing only where there is none (after
-/// Robinson 1965, with the levels that eigenconstants ask for).
+/// Robinson 1965, with the levels that eigenvariables ask for).
 pub fn unification_is_best()
     ensures unifies { FoundUnifies }
     ensures lowers { FoundLowers }
@@ -468,7 +468,7 @@ pub fn answers_are_shown()
 {}
 
 /// What a derivation without whole-number goals shows of the query of a valid problem, as many inferences of a run bring to an answer. The run
-/// starts with the derivation's terms for the query's variables, but for parts whose head is an eigenconstant: variables stand in their place,
+/// starts with the derivation's terms for the query's variables, but for parts whose head is an eigenvariable: variables stand in their place,
 /// and they can be named so that the derivation's terms are an instance.
 pub fn derivations_are_run()
     ensures runs { ShownRuns }

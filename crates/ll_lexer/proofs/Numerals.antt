@@ -9,7 +9,7 @@ use Rattle.std.specs.Str.Parse.{AllDigits, IsNumeral, digits_value, without_lead
 use Rattle.std.proofs.lemmas.Bool.Decides.{nat_tests, Decides-eqb}
 use Rattle.std.proofs.lemmas.Str.{IsUtf8-from_ascii}
 use Rattle.std.proofs.lemmas.Str.Parse.{IsDigitsTest, IsNumeralModel, numerals_by_value}
-use Rattle.ll_lists.proofs.CallerLemmas.{and_true_both as both}
+use Rattle.ll_list_laws.proofs.CallerLemmas.{and_true_both as both}
 use Rattle.ll_lexer.specs.declared.TokenKind.{TokenKind}
 use Rattle.ll_lexer.specs.Spelling.{is_digit, is_numeral, is_number}
 use Rattle.ll_lexer.specs.Reading.{number_value}

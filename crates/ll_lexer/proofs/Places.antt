@@ -6,7 +6,7 @@ use Rattle.std.proofs.lemmas.Bool.Decides.{nat_tests}
 use Rattle.std.proofs.lemmas.List.{length-take}
 use Rattle.std.proofs.lemmas.List.Sums.{fold-append, fold_more}
 use Rattle.std.proofs.Math.Seq.{take-add}
-use Rattle.ll_lists.proofs.CallerLemmas.{and_true_both as both}
+use Rattle.ll_list_laws.proofs.CallerLemmas.{and_true_both as both}
 use Rattle.ll_lexer.specs.declared.Place.{Place}
 use Rattle.ll_lexer.specs.declared.TokenKind.{TokenKind}
 use Rattle.ll_lexer.specs.Spelling.{is_lower, is_upper, is_digit, is_word_byte, is_name, is_variable, is_numeral, is_number, fixed_spellings, kind_of}

@@ -6,7 +6,7 @@ use Rattle.std.proofs.Math.Seq.{drop-cons, take-length}
 use Rattle.std.proofs.Math.ListN.{drop_of_length-le}
 use Rattle.std.proofs.lemmas.List.{map-append}
 use Rattle.std.proofs.lemmas.List.Sums.{prefix_len-le-length}
-use Rattle.ll_lists.proofs.CallerLemmas.{run_passes as run-passes}
+use Rattle.ll_list_laws.proofs.CallerLemmas.{run_passes as run-passes}
 use Rattle.ll_lexer.specs.declared.Place.{Place}
 use Rattle.ll_lexer.specs.declared.Row.{Row}
 use Rattle.ll_lexer.specs.declared.Token.{Token}
@@ -16,7 +16,7 @@ use Rattle.ll_lexer.specs.Spelling.{IsLongest, HasNone}
 use Rattle.ll_lexer.specs.Reading.{is_blank, is_no_lf, after, place_at, IsGap, blank, comment, HasFlaw, IsSound, HasNoGap, End, done, Lexes, at_end, gap}
 use Rattle.ll_lexer.specs.Reading.{token, flawed, no_token, token_at, IsLexed, HasFault}
 use Rattle.ll_lexer.proofs.Longest.{nonempty}
-use Rattle.ll_lexer.proofs.Places.{Below, columns, begin, place-below, place-step, place-columns, token-no_lf}
+use Rattle.ll_lexer.proofs.Places.{Below, columns, place-below, place-step, place-columns, token-no_lf}
 
 -- the rows are the tokens of the text before byte i, which has this place
 pub record IsReadTo (text : List ℕ) (rows : List Row) (at : Place) (i : ℕ) : Type 0 where
@@ -24,9 +24,6 @@ pub record IsReadTo (text : List ℕ) (rows : List Row) (at : Place) (i : ℕ) :
   pub place : at ≡ place_at text i
   pub below : Below at i
   pub goes_on : (ts : List Token) (e : End) → Lexes text i ts e → Lexes text 0 (map token_of rows ++ ts) e
-
-pub none-read : (text : List ℕ) → IsReadTo text [] begin 0
-none-read text = record { within = omega arith; place = refl; below = record { line = omega arith; column = omega arith }; goes_on = λ ts e l. l }
 
 -- the bytes from i on, as the code passes them
 pub rest-all : (text : List ℕ) (i : ℕ) → take (length text - i) (drop i text) ≡ drop i text

@@ -83,7 +83,7 @@ IsLexed lexed = Lexes lexed.text 0 lexed.tokens (done lexed.end)
 abbrev pub HasFault : List ℕ → Fault → Type 0
 HasFault text f = (ts : List Token) × Lexes text 0 ts (stopped f.kind f.at)
 
--- why a text was not read; want of memory is free
+-- why a text was not read; out of memory is free
 abbrev pub IsCause : List ℕ → TextFault → Type 0
 IsCause text (fault.Text f) = HasFault text f
 IsCause text fault.OutOfMemory = Unit {0}

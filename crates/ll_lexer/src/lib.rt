@@ -34,7 +34,7 @@ pub struct Fault {
     pub kind: u8,
 }
 
-/// Why a text could not be read: its first fault, or want of memory.
+/// Why a text could not be read: its first fault, or that memory ran out.
 #[derive(Clone, Copy, Debug, PartialEq, Eq)]
 pub enum TextFault {
     Text(Fault),

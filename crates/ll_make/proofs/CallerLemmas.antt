@@ -6,7 +6,7 @@ use Rattle.std.proofs.lemmas.Fmt.{length-decimal-le}
 use Rattle.std.proofs.lemmas.Grind.{flat_map-append}
 use Rattle.ll_make.specs.declared.kind.MakeKind.{MakeKind}
 use Rattle.ll_make.specs.declared.kind.MakeKind.TheVariants.{Perm, Choice, Chain}
-use Rattle.ll_make.specs.Kinds.{Fits, query_text}
+use Rattle.ll_make.specs.Kinds.{InRange, query_text}
 use Rattle.ll_make.specs.Numbered.{numbered, names_to, elements_text, list_argument, goals}
 use Rattle.ll_make.specs.Programs.{line, lines_text, link, links, program_text}
 
@@ -66,7 +66,7 @@ links-short (suc k) h =
     omega (arith, length-append (line (link (k + 1))) (lines_text (links k)))
 
 -- a program is no longer than a text may be
-pub program_short : (kind : MakeKind) (n : ℕ) → Fits kind n → length (program_text kind n) ≤ 16777216
+pub program_short : (kind : MakeKind) (n : ℕ) → InRange kind n → length (program_text kind n) ≤ 16777216
 program_short Perm n h = let d = argument-short [] n (let m = h.1 in omega arith) in simp length-append (let m = h.1 in omega arith)
 program_short Choice n h =
     let d = argument-short (codes "X") n (let m = h.1 in omega arith) in

@@ -16,8 +16,8 @@ greatest_number Choice = 16
 greatest_number Chain = 100000
 
 -- there is a program of this kind for this number
-abbrev pub Fits : MakeKind → ℕ → Type 0
-Fits kind n = (least_number kind ≤ n) × (n ≤ greatest_number kind)
+abbrev pub InRange : MakeKind → ℕ → Type 0
+InRange kind n = (least_number kind ≤ n) × (n ≤ greatest_number kind)
 
 -- the query
 abbrev pub query_text : MakeKind → List ℕ

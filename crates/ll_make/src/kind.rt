@@ -1,6 +1,6 @@
 //! The kinds of programs that are made, their numbers and their queries.
 ghost use Rattle.std.specs.Prelude.{◌≡◌, ◌↔◌, IsTrue};
-ghost use Rattle.ll_make.specs.Kinds.{least_number, greatest_number, Fits, query_text};
+ghost use Rattle.ll_make.specs.Kinds.{least_number, greatest_number, InRange, query_text};
 
 /// What a program that is made does.
 #[derive(Clone, Copy)]
@@ -37,7 +37,7 @@ pub fn greatest_number(kind: MakeKind) -> u32
 
 /// Whether there is a program of this kind for this number.
 pub fn fits(kind: MakeKind, n: u32) -> bool
-    ensures { IsTrue result ↔ Fits kind n }
+    ensures { IsTrue result ↔ InRange kind n }
 {
     least_number(kind) <= n && n <= greatest_number(kind)
 }

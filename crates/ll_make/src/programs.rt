@@ -1,6 +1,6 @@
 //! The lines of the programs that are made.
 ghost use Rattle.std.specs.Prelude.{◌≡◌, ◌≤◌, ◌<◌, ◌^◌, ◌+◌, ◌++◌, IfOk, OnOk};
-ghost use Rattle.ll_make.specs.Kinds.{Fits};
+ghost use Rattle.ll_make.specs.Kinds.{InRange};
 ghost use Rattle.ll_make.specs.Programs.{program_text, lines_text, line, perm_lines, choice_lines, chain_lines, link};
 
 use crate::MakeKind;
@@ -12,7 +12,7 @@ pub type OutOfMemory = AllocError;
 
 /// The text of the program of this kind for a number that fits it.
 pub fn program(alloc: Global, kind: MakeKind, n: u32) -> Result<Vec<u8>, OutOfMemory>
-    requires { Fits kind n }
+    requires { InRange kind n }
     ensures { IfOk result (λ text. text.items ≡ program_text kind n) }
 {
     let mut text = Vec::new(alloc);

@@ -9,7 +9,7 @@ use Rattle.ll_bank.specs.Term.{Term, Con, Ap, apply, app}
 use Rattle.ll_bank.specs.Nodes.{Nodes, term_tree, term_trees, HasTerm, AllInTerms}
 use Rattle.std.specs.Prelude.{slice_index_or, All}
 use Rattle.ll_bank.specs.Opened.{term_size}
-use Rattle.ll_terms.proofs.CallerLemmas.{image_here, image_there}
+use Rattle.ll_bank.proofs.CallerLemmas.{image_here, image_there}
 use Rattle.ll_bank.proofs.CallerLemmas.{term_size-some}
 use Rattle.ll_laws.specs.Number.{Operators, operator_of, value_of, combined, operated, exactly}
 use Rattle.ll_modules.specs.declared.evaluate.Operator.{Operator as SeenOperator}

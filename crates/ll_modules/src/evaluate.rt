@@ -77,7 +77,8 @@ fn enter(
     requires place { HasTerm bank.now at.0 }
     requires frames { AreInside bank.now frames.old.items }
     requires known { AreKnown (operators_of names.now) bank.now (get nat_cmp known.now) }
-    ensures { IfOk result (IsStep (operators_of names.now) bank.now frames.old.items (value_of (operators_of names.now) (term_tree bank.now at.0))
+    ensures { IfOk result (IsStep (operators_of names.now) bank.now frames.old.items
+        (value_of (operators_of names.now) (term_tree bank.now at.0))
         (2 * term_size (term_tree bank.now at.0)) frames.new.items) }
 {
     match bank.term_at(at) {
@@ -119,9 +120,11 @@ fn leave(
     known: &mut BTreeMap<usize, i64>,
     frames: &mut Vec<Frame>,
 ) -> Result<Todo, OutOfMemory>
-    ensures known { OnOk result ((ops : Operators) → (bank : Nodes) → AreNoted ops bank (frames.old.items ++ frame ∷ []) value
-        → AreKnown ops bank (get nat_cmp known.old) → AreKnown ops bank (get nat_cmp known.new)) }
-    ensures step { IfOk result (λ todo. (ops : Operators) → (bank : Nodes) → AreInside bank (frames.old.items ++ frame ∷ [])
+    ensures known { OnOk result ((ops : Operators) → (bank : Nodes)
+        → AreNoted ops bank (frames.old.items ++ frame ∷ []) value → AreKnown ops bank (get nat_cmp known.old)
+        → AreKnown ops bank (get nat_cmp known.new)) }
+    ensures step { IfOk result (λ todo. (ops : Operators) → (bank : Nodes)
+        → AreInside bank (frames.old.items ++ frame ∷ [])
         → IsStep ops bank (frames.old.items ++ frame ∷ []) value 0 frames.new.items todo) }
 {
     let Some(number) = value else {

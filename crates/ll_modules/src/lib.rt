@@ -13,7 +13,6 @@ ghost use Rattle.ll_modules.specs.Loads.{arguments_env, AreClosed, MayLoad};
 pub use evaluate::value;
 use ll_bank::{At, Bank, FormAt, FormNode, OutOfMemory};
 use ll_laws::{Clause, Kind, Module};
-use ll_terms::instantiate;
 
 /// The goal that a load of the module with these arguments stands for, round a goal: a `forall` for each local, and under them each
 /// clause as a resource, the arguments in place of its parameters, the first clause of the text in front.
@@ -65,7 +64,8 @@ fn load_clauses(
     requires clauses { HasClauses bank.old clauses.now }
     requires heads { MayLoad bank.old clauses.now (term_trees bank.old args.now) }
     ensures shows { IfOk result (λ at. ShowsForm bank.new at.0
-        (load_all (arguments_env (term_trees bank.old args.now)) (map (clause_tree bank.old) clauses.now) (form_tree bank.old goal.0))) }
+        (load_all (arguments_env (term_trees bank.old args.now)) (map (clause_tree bank.old) clauses.now)
+        (form_tree bank.old goal.0))) }
     ensures keeps { Extends bank.old bank.new }
 {
     let mut at = goal;
@@ -86,9 +86,11 @@ fn load_clause(
     requires goal { HasForm bank.old goal.0 }
     requires places { AllInTerms bank.old args.now }
     requires closed { AreClosed (term_trees bank.old args.now) }
-    requires heads { form_applies_heads (close_form (arguments_env (term_trees bank.old args.now)) (form_tree bank.old clause.form.0)) ≡ true }
+    requires heads { form_applies_heads (close_form (arguments_env (term_trees bank.old args.now))
+        (form_tree bank.old clause.form.0)) ≡ true }
     ensures shows { IfOk result (λ at. ShowsForm bank.new at.0
-        (load clause.kind (close_form (arguments_env (term_trees bank.old args.now)) (form_tree bank.old clause.form.0)) (form_tree bank.old goal.0))) }
+        (load clause.kind (close_form (arguments_env (term_trees bank.old args.now))
+        (form_tree bank.old clause.form.0)) (form_tree bank.old goal.0))) }
     ensures keeps { Extends bank.old bank.new }
 {
     let form = close_clause(bank, clause.form, args)?;
@@ -103,13 +105,15 @@ fn close_clause(bank: &mut Bank, form: FormAt, args: &[At]) -> Result<FormAt, Ou
     requires form { HasForm bank.old form.0 }
     requires places { AllInTerms bank.old args.now }
     requires closed { AreClosed (term_trees bank.old args.now) }
-    requires heads { form_applies_heads (close_form (arguments_env (term_trees bank.old args.now)) (form_tree bank.old form.0)) ≡ true }
-    ensures shows { IfOk result (λ at. ShowsForm bank.new at.0 (close_form (arguments_env (term_trees bank.old args.now)) (form_tree bank.old form.0))) }
+    requires heads { form_applies_heads (close_form (arguments_env (term_trees bank.old args.now))
+        (form_tree bank.old form.0)) ≡ true }
+    ensures shows { IfOk result (λ at. ShowsForm bank.new at.0
+        (close_form (arguments_env (term_trees bank.old args.now)) (form_tree bank.old form.0))) }
     ensures keeps { Extends bank.old bank.new }
 {
     let mut at = form;
     for i in (0..args.len()).rev() {
-        at = instantiate(bank, at, args[i])?;
+        at = bank.instantiate(at, args[i])?;
     }
     Ok(at)
 }

@@ -1,7 +1,7 @@
 -- Events that are given one after the other.
 use Rattle.std.proofs.Common.{◌≡◌, ℕ, ◌+◌, ◌≤◌, List, [], ◌∷◌, ◌++◌, Bool, refl, sym, ap, ◌∙◌, subst, arith, append_assoc, append-nil, Some, Ok, Err}
 use Rattle.std.specs.Prelude.{count_by, flat_map, sum_by, slice_get}
-use Rattle.std.proofs.Math.Nat.{min-le_right, min-eq_left}
+use Rattle.std.proofs.Math.Nat.{min-eq_left}
 use Rattle.std.proofs.lemmas.List.Sums.{sum_by-append}
 use Rattle.std.proofs.lemmas.List.Concat.{flat_map-append}
 use Rattle.ll_laws.specs.declared.Event.{Event}
@@ -130,9 +130,6 @@ module _ {N O : Type 0} (alternatives : N → List (Owed Event)) (takes breaks :
         subst (λ l. Gives takes before (flat_map (λ (o : Owed Event). o.events) l) out) (sym all) d.given,
         subst (λ l. CountsOf counts (flat_map (λ (o : Owed Event). o.events) l) (sum_by (λ (o : Owed Event). o.cost) l)) (sym all) d.counted,
       )
-
-pub few_count : (n m : ℕ) → n ≡ cut_count m → n ≤ 18446744073709551615
-few_count n m e = subst (λ k. k ≤ 18446744073709551615) (sym e) (min-le_right m 18446744073709551615)
 
 pub ok_not_err : {T E : Type 0} (x : T) (y : E) → Ok x ≡ Err y → ⊥
 ok_not_err x y e = cc

@@ -5,7 +5,7 @@ use Rattle.std.specs.Prelude.{flat_map, slice_get}
 use Rattle.std.specs.List.{list_all}
 use Rattle.std.proofs.lemmas.Bool.{cases_Bool, and_parts, false≢true}
 use Rattle.std.proofs.lemmas.List.Concat.{flat_map-append}
-use Rattle.ll_lists.proofs.CallerLemmas.{none_not_some, some_is}
+use Rattle.ll_list_laws.proofs.CallerLemmas.{none_not_some, some_is}
 use Rattle.ll_laws.specs.Pool.{Owed, Closed, Taken, Piece, PoolData, Alternative, place}
 use Rattle.ll_laws.specs.Spread.{piece_of, kids_of, published_by, length_of, walk, is_of}
 use Rattle.ll_laws.specs.Sound.{Every, Shaped, is_open, is_taken, is_taken_status}

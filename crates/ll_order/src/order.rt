@@ -24,7 +24,8 @@ pub fn drain<N: Batch<Found = O::Found>, O: Outlet>(
     requires done { (pool.old.untried ≡ 0) × (pool.old.busy ≡ 0) }
     requires welcome { Every (O.welcome out.old) (events_left N.alternatives pool.old) }
     ensures given { OnOk result (Gives O.takes out.old (events_left N.alternatives pool.old) out.new) }
-    ensures counts { IfOk result (λ counts. CountsOf counts (events_left N.alternatives pool.old) (cost_left N.alternatives pool.old)) }
+    ensures counts { IfOk result (λ counts. CountsOf counts (events_left N.alternatives pool.old)
+        (cost_left N.alternatives pool.old)) }
     ensures all { OnOk result (Each pool.new.pieces (λ x. x.status ≡ Taken)) }
     ensures refused { OnErr result (Refuses O.takes O.breaks out.old (events_left N.alternatives pool.old) out.new) }
     ensures write { result ≡ Err Write → Rose (O.faults out.old) (O.faults out.new) }
@@ -64,8 +65,10 @@ pub fn give<O: Outlet>(
     requires welcome { Every (O.welcome out.old) (map O.Found.stands_for events.items) }
     requires few { (counts.answers ≤ 18446744073709551615) × (counts.reached ≤ 18446744073709551615) }
     ensures given { OnOk result (Gives O.takes out.old (map O.Found.stands_for events.items) out.new) }
-    ensures answers { IfOk result (λ new. new.answers ≡ cut_count (counts.answers + count_by is_answer (map O.Found.stands_for events.items))) }
-    ensures reached { IfOk result (λ new. new.reached ≡ cut_count (counts.reached + count_by is_reached (map O.Found.stands_for events.items))) }
+    ensures answers { IfOk result (λ new. new.answers
+        ≡ cut_count (counts.answers + count_by is_answer (map O.Found.stands_for events.items))) }
+    ensures reached { IfOk result (λ new. new.reached
+        ≡ cut_count (counts.reached + count_by is_reached (map O.Found.stands_for events.items))) }
     ensures refused { OnErr result (Refuses O.takes O.breaks out.old (map O.Found.stands_for events.items) out.new) }
     ensures write { result ≡ Err Write → Rose (O.faults out.old) (O.faults out.new) }
     ensures quiet { ¬ (result ≡ Err Write) → O.faults out.new ≡ O.faults out.old }

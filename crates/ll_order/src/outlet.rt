@@ -14,7 +14,7 @@ pub enum OutFault {
     /// Writing failed: the outlet's count of faults rose.
     #[error("a write failed")]
     Write,
-    /// Memory was wanting.
+    /// Memory ran out.
     #[error("out of memory")]
     OutOfMemory,
 }
@@ -56,7 +56,8 @@ pub trait Outlet {
     fn events(&mut self, events: &mut Vec<Self::Found>) -> Result<(), OutFault>
         requires { Every (welcome self.old) (map Self.Found.stands_for events.old.items) }
         ensures taken { OnOk result (Gives takes self.old (map Self.Found.stands_for events.old.items) self.new) }
-        ensures refused { OnErr result (Refuses takes breaks self.old (map Self.Found.stands_for events.old.items) self.new) }
+        ensures refused { OnErr result
+            (Refuses takes breaks self.old (map Self.Found.stands_for events.old.items) self.new) }
         ensures write { result ≡ Err Write → Rose (faults self.old) (faults self.new) }
         ensures quiet { ¬ (result ≡ Err Write) → faults self.new ≡ faults self.old }
         ensures faults_kept { faults self.old ≤ faults self.new }

@@ -13,7 +13,7 @@ use Rattle.ll_parser.specs.Raw.{Raw, ModuleTree, ProgramTree}
 use Rattle.ll_parser.specs.FlatText.{Phase as FlatPhase, boundary, wanting, inside, heading, params, localizing, locals, FlatProgram, add_clause, close_module}
 use Rattle.ll_parser.specs.FlatText.{FlatQuery, asking, ended}
 use Rattle.ll_parser.specs.Nodes.{Node, shown_clause, shown_module, shown_program}
-use Rattle.ll_parser.specs.Waiting.{known, tree, mode_view, Fits, IsNode, IsNew, ModeFits}
+use Rattle.ll_parser.specs.Waiting.{known, tree, mode_view, IsSound, IsNode, IsNew, ModeFits}
 
 -- ---- queries
 
@@ -23,7 +23,7 @@ stage_view texts w (stage.Ended at) = ended (tree texts w at)
 
 abbrev pub StageFits : Waiting → Stage → Type 0
 StageFits w (stage.Formula m) = ModeFits w m
-StageFits w (stage.Ended at) = Fits w × IsNode w at
+StageFits w (stage.Ended at) = IsSound w × IsNode w at
 
 -- the next state is that of the stage, or there is none, whatever the texts of the names are
 abbrev pub GivesStage : Waiting → Option Stage → (List (List ℕ) → Option FlatQuery) → Type 0
@@ -59,7 +59,7 @@ draft_view texts d p = record { whole = whole_view texts d; current = current_vi
 
 -- nothing waits
 pub record IsIdle (w : Waiting) : Type 0 where
-  pub fits : Fits w
+  pub fits : IsSound w
   pub frames : w.frames.items ≡ []
 
 abbrev pub PhaseFits : Waiting → Phase → Type 0

@@ -37,7 +37,7 @@ abbrev pub IsWhole : (l : Language) → l.Tree → Type 0
 IsWhole l tree = (ts : List Tok) × (length ts ≤ 16777216) × All IsSpelled ts × Reads l 1000 ts tree
 
 -- token number i is t, and the tokens before it begin a text of the language within the limit
-pub record Stands (l : Language) (limit : ℕ) (ts : List Tok) (i : ℕ) (t : Tok) : Type 0 where
+pub record IsTokenAt (l : Language) (limit : ℕ) (ts : List Tok) (i : ℕ) (t : Tok) : Type 0 where
   pub after : List Tok
   pub split : ts ≡ take i ts ++ t ∷ after
   pub within : Within limit (take i ts)
@@ -53,12 +53,13 @@ opens _ = false
 -- it no text of the language begins. Kind 5: the tokens begin a text of the language and are none. Kind 6: a bracket that the
 -- grammar admits, while as many as the limit are open.
 pub data HasFault (l : Language) (limit : ℕ) (ts : List Tok) (end : Place) : Fault → Type 0 where
-  bad_token : (i : ℕ) (t : Tok) → Stands l limit ts i t → (Begins l (take i ts ++ t ∷ []) → ⊥) → HasFault l limit ts end (record { at = tok_place t; kind = 4 })
+  bad_token : (i : ℕ) (t : Tok) → IsTokenAt l limit ts i t → (Begins l (take i ts ++ t ∷ []) → ⊥)
+      → HasFault l limit ts end (record { at = tok_place t; kind = 4 })
   ends_early : Begins l ts → Within limit ts → ((tree : l.Tree) → Derives l ts tree → ⊥) → HasFault l limit ts end (record { at = end; kind = 5 })
-  too_many_open : (i : ℕ) (t : Tok) → Stands l limit ts i t → Begins l (take i ts ++ t ∷ []) → opens t ≡ true → open_after 0 (take i ts) ≡ limit
+  too_many_open : (i : ℕ) (t : Tok) → IsTokenAt l limit ts i t → Begins l (take i ts ++ t ∷ []) → opens t ≡ true → open_after 0 (take i ts) ≡ limit
       → HasFault l limit ts end (record { at = tok_place t; kind = 6 })
 
--- why a token list was not read; want of memory is free
+-- why a token list was not read; out of memory is free
 abbrev pub IsCause : Language → ℕ → List Tok → Place → TextFault → Type 0
 IsCause l limit ts end (fault.Text f) = HasFault l limit ts end f
 IsCause l limit ts end fault.OutOfMemory = Unit {0}

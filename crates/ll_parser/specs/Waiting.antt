@@ -182,8 +182,8 @@ abbrev pub FitsBelow : Waiting → ℕ → Type 0
 FitsBelow w n = FitsTo (length w.forms) n w.args.items w.frames.items
 
 -- and all arguments
-abbrev pub Fits : Waiting → Type 0
-Fits w = FitsBelow w (length w.args.items)
+abbrev pub IsSound : Waiting → Type 0
+IsSound w = FitsBelow w (length w.args.items)
 
 -- nothing was read
 pub record IsNew (w : Waiting) : Type 0 where
@@ -202,19 +202,19 @@ pub record CanWait (w : Waiting) (f : Frame) : Type 0 where
 
 -- the places of a mode are those of nodes, and its arguments wait
 abbrev pub ModeFits : Waiting → Mode → Type 0
-ModeFits w mode.Operand = Fits w
+ModeFits w mode.Operand = IsSound w
 ModeFits w (mode.Atom x from) = FitsBelow w from
-ModeFits w (mode.Formula at) = Fits w × IsNode w at
-ModeFits w (mode.Binder q at) = Fits w
-ModeFits w (mode.Slash q at x) = Fits w
-ModeFits w mode.Term = Fits w
+ModeFits w (mode.Formula at) = IsSound w × IsNode w at
+ModeFits w (mode.Binder q at) = IsSound w
+ModeFits w (mode.Slash q at x) = IsSound w
+ModeFits w mode.Term = IsSound w
 ModeFits w (mode.Application x from) = FitsBelow w from
-ModeFits w (mode.WholeTerm at) = Fits w × IsNode w at
-ModeFits w (mode.Plain at) = Fits w × IsNode w at
-ModeFits w mode.LeadUnit = Fits w
-ModeFits w (mode.Lead at) = Fits w × IsNode w at
-ModeFits w mode.Unit = Fits w
-ModeFits w (mode.Expression at) = Fits w × IsNode w at
+ModeFits w (mode.WholeTerm at) = IsSound w × IsNode w at
+ModeFits w (mode.Plain at) = IsSound w × IsNode w at
+ModeFits w mode.LeadUnit = IsSound w
+ModeFits w (mode.Lead at) = IsSound w × IsNode w at
+ModeFits w mode.Unit = IsSound w
+ModeFits w (mode.Expression at) = IsSound w × IsNode w at
 
 -- ---- what calls leave, whatever the texts of the names are
 
@@ -235,7 +235,7 @@ Gives w (Some m) next = ModeFits w m × ((texts : List (List ℕ)) → next (kno
 -- nothing waits, and the tree is that at the place; or there is none
 abbrev pub GivesTree : Waiting → Option RawAt → (List (List ℕ) → Option Raw) → Type 0
 GivesTree w None next = (texts : List (List ℕ)) → next (known texts) ≡ None
-GivesTree w (Some at) next = (Fits w × IsNode w at × (w.frames.items ≡ [])) × ((texts : List (List ℕ)) → next (known texts) ≡ Some (tree (known texts) w at))
+GivesTree w (Some at) next = (IsSound w × IsNode w at × (w.frames.items ≡ [])) × ((texts : List (List ℕ)) → next (known texts) ≡ Some (tree (known texts) w at))
 
 -- a node was added, whose tree is this one; all else shows what it showed
 pub record Added (old new : Waiting) (at : RawAt) (raw : List (List ℕ) → Raw) : Type 0 where
@@ -243,9 +243,9 @@ pub record Added (old new : Waiting) (at : RawAt) (raw : List (List ℕ) → Raw
   pub is : (texts : List (List ℕ)) → tree (known texts) new at ≡ raw (known texts)
   pub nodes : (i : RawAt) → IsNode old i → IsNode new i
   pub trees : (texts : List (List ℕ)) (i : RawAt) → IsNode old i → tree (known texts) new i ≡ tree (known texts) old i
-  pub fits : Fits old → Fits new
+  pub fits : IsSound old → IsSound new
   pub fits_below : (n : ℕ) → FitsBelow old n → FitsBelow new n
-  pub waits : (texts : List (List ℕ)) → Fits old → waiting (known texts) new ≡ waiting (known texts) old
+  pub waits : (texts : List (List ℕ)) → IsSound old → waiting (known texts) new ≡ waiting (known texts) old
   pub waits_below : (texts : List (List ℕ)) (n : ℕ) → FitsBelow old n → waiting_below (known texts) new n ≡ waiting_below (known texts) old n
   pub arguments : (texts : List (List ℕ)) (n : ℕ) → FitsBelow old n → args_from (known texts) new n ≡ args_from (known texts) old n
   pub args : new.args.items ≡ old.args.items
@@ -253,27 +253,27 @@ pub record Added (old new : Waiting) (at : RawAt) (raw : List (List ℕ) → Raw
 
 -- a frame was put on
 pub record Pushed (old new : Waiting) (f : Frame) : Type 0 where
-  pub fits : Fits new
+  pub fits : IsSound new
   pub forms : new.forms ≡ old.forms
   pub waits : (texts : List (List ℕ)) → waiting (known texts) new ≡ pushed (known texts) old f
 
 -- the newest frame was taken off
 pub record Dropped (old new : Waiting) (f : Frame) : Type 0 where
-  pub can : Fits old → CanWait new f
+  pub can : IsSound old → CanWait new f
   pub forms : new.forms ≡ old.forms
   pub waits : (texts : List (List ℕ)) → waiting (known texts) old ≡ pushed (known texts) new f
   pub smaller : length new.frames.items < length old.frames.items
 
 -- a place shows this tree, and this waits
-pub record Leaves (w : Waiting) (at : RawAt) (raw : List (List ℕ) → Raw) (rest : List (List ℕ) → List Pending) : Type 0 where
-  pub fits : Fits w
+pub record ShowsTree (w : Waiting) (at : RawAt) (raw : List (List ℕ) → Raw) (rest : List (List ℕ) → List Pending) : Type 0 where
+  pub fits : IsSound w
   pub inside : IsNode w at
   pub is : (texts : List (List ℕ)) → tree (known texts) w at ≡ raw (known texts)
   pub waits : (texts : List (List ℕ)) → waiting (known texts) w ≡ rest (known texts)
 
 -- and the frames are the same
 pub record IsBuilt (old new : Waiting) (at : RawAt) (raw : List (List ℕ) → Raw) (rest : List (List ℕ) → List Pending) : Type 0 where
-  pub leaves : Leaves new at raw rest
+  pub leaves : ShowsTree new at raw rest
   pub frames : new.frames.items ≡ old.frames.items
 
 -- the head at work has one more argument
@@ -293,20 +293,20 @@ pub record Popped (level : Level) (old new : Waiting) (p : Prefix) : Type 0 wher
 
 -- an operand with all that the level takes
 pub record Reduced (level : Level) (old new : Waiting) (i j : RawAt) : Type 0 where
-  pub fits : Fits new
+  pub fits : IsSound new
   pub inside : IsNode new j
   pub reduces : (texts : List (List ℕ)) → reduce level (tree (known texts) old i) (waiting (known texts) old)
       ≡ (tree (known texts) new j, waiting (known texts) new)
 
 -- a term with all cells
 pub record Gathered (old new : Waiting) (i j : RawAt) : Type 0 where
-  pub fits : Fits new
+  pub fits : IsSound new
   pub inside : IsNode new j
   pub gathers : (texts : List (List ℕ)) → gather (tree (known texts) old i) (waiting (known texts) old) ≡ (tree (known texts) new j, waiting (known texts) new)
 
 -- a cell was taken off
 pub record PoppedCell (old new : Waiting) (at : Place) (first : RawAt) : Type 0 where
-  pub fits : Fits new
+  pub fits : IsSound new
   pub inside : IsNode new first
   pub forms : new.forms ≡ old.forms
   pub gathers : (texts : List (List ℕ)) (r : Raw) → gather r (waiting (known texts) old)
@@ -326,14 +326,14 @@ pub record TakesNone (level : Level) (old new : Waiting) : Type 0 where
 -- ---- whole-number goals
 
 -- an expression with what it ends, where this is what it takes
-pub record Takes (take : Raw → List Pending → Raw × List Pending) (old new : Waiting) (i j : RawAt) : Type 0 where
-  pub fits : Fits new
+pub record EndsWith (take : Raw → List Pending → Raw × List Pending) (old new : Waiting) (i j : RawAt) : Type 0 where
+  pub fits : IsSound new
   pub inside : IsNode new j
   pub takes : (texts : List (List ℕ)) → take (tree (known texts) old i) (waiting (known texts) old) ≡ (tree (known texts) new j, waiting (known texts) new)
 
 -- a sign was taken off, with what stands in front of it
 pub record PoppedSign (take : Raw → List Pending → Raw × List Pending) (sign : List ℕ) (old new : Waiting) (at : Place) (left : RawAt) : Type 0 where
-  pub fits : Fits new
+  pub fits : IsSound new
   pub inside : IsNode new left
   pub forms : new.forms ≡ old.forms
   pub takes : (texts : List (List ℕ)) (r : Raw)
@@ -346,7 +346,7 @@ pub record TakesNothing (take : Raw → List Pending → Raw × List Pending) (o
 
 -- a place shows the goal that an expression ends, and its sign waits no more
 pub record IsGoal (old new : Waiting) (i j : RawAt) : Type 0 where
-  pub fits : Fits new
+  pub fits : IsSound new
   pub inside : IsNode new j
   pub goes_on : (texts : List (List ℕ)) (t : Tok)
       → end_expression (tree (known texts) old i) (waiting (known texts) old) t ≡ operate (tree (known texts) new j) (waiting (known texts) new) t

@@ -9,7 +9,8 @@ ghost use Rattle.ll_parser.specs.Flat.{close_bracket, close_brace, operate, end_
 ghost use Rattle.ll_parser.specs.Nodes.{identifier, build_raw, raw_trees};
 ghost use Rattle.ll_parser.specs.Seen.{node_of, HasPartsBelow};
 ghost use Rattle.ll_parser.specs.Symbols.{symbol_tok};
-ghost use Rattle.ll_parser.specs.Waiting.{word_view, frame_view, tree, waiting, args_from, waiting_below, pushed, mode_view, Fits, FitsBelow, IsNode, CanWait};
+ghost use Rattle.ll_parser.specs.Waiting.{word_view, frame_view, tree, waiting, args_from, waiting_below};
+ghost use Rattle.ll_parser.specs.Waiting.{pushed, mode_view, IsSound, FitsBelow, IsNode, CanWait};
 ghost use Rattle.ll_parser.specs.Waiting.{Grows, ModeFits, Gives, GivesTree};
 
 use crate::symbols::Symbol;
@@ -53,7 +54,8 @@ impl Waiting {
     /// What a token does, if the grammar admits it.
     pub fn step(&mut self, mode: Mode, symbol: Symbol) -> Result<Option<Mode>, OutOfMemory>
         requires { ModeFits self.old mode }
-        ensures gives { IfOk result (λ o. Gives self.new o (λ texts. flat_step (mode_view texts self.old mode) (symbol_tok texts symbol))) }
+        ensures gives { IfOk result (λ o. Gives self.new o
+            (λ texts. flat_step (mode_view texts self.old mode) (symbol_tok texts symbol))) }
         ensures grows { IfOk result (λ _. Grows self.old.forms self.new.forms) }
     {
         match mode {
@@ -95,10 +97,11 @@ impl Waiting {
 
     // A primary formula of one node.
     fn primary(&mut self, at: Place, node: RawNode<'_>) -> Result<Option<Mode>, OutOfMemory>
-        requires fits { Fits self.old }
+        requires fits { IsSound self.old }
         requires parts { HasPartsBelow (length self.old.forms) node }
-        ensures gives { IfOk result (λ o. Gives self.new o (λ texts.
-            Some (whole (build_raw texts (raw_trees texts self.old.forms) (node_of at node.entry)) (waiting texts self.old)))) }
+        ensures gives { IfOk result (λ o. Gives self.new o
+            (λ texts. Some (whole (build_raw texts (raw_trees texts self.old.forms) (node_of at node.entry))
+            (waiting texts self.old)))) }
         ensures grows { IfOk result (λ _. Grows self.old.forms self.new.forms) }
     {
         let formula = self.add(at, node)?;
@@ -107,8 +110,9 @@ impl Waiting {
 
     // The first token of a primary formula.
     fn begin_operand(&mut self, symbol: Symbol) -> Result<Option<Mode>, OutOfMemory>
-        requires { Fits self.old }
-        ensures gives { IfOk result (λ o. Gives self.new o (λ texts. flat_step (want (waiting texts self.old)) (symbol_tok texts symbol))) }
+        requires { IsSound self.old }
+        ensures gives { IfOk result (λ o. Gives self.new o
+            (λ texts. flat_step (want (waiting texts self.old)) (symbol_tok texts symbol))) }
         ensures grows { IfOk result (λ _. Grows self.old.forms self.new.forms) }
     {
         match symbol {
@@ -134,9 +138,10 @@ impl Waiting {
         word: Word,
         symbol: Symbol,
     ) -> Result<Option<Mode>, OutOfMemory>
-        requires { Fits self.old }
-        ensures gives { IfOk result (λ o. Gives self.new o (λ texts.
-            flat_step (slash quantifier at (word_view texts word) (waiting texts self.old)) (symbol_tok texts symbol))) }
+        requires { IsSound self.old }
+        ensures gives { IfOk result (λ o. Gives self.new o
+            (λ texts. flat_step (slash quantifier at (word_view texts word) (waiting texts self.old))
+            (symbol_tok texts symbol))) }
         ensures grows { IfOk result (λ _. Grows self.old.forms self.new.forms) }
     {
         match symbol {
@@ -157,9 +162,11 @@ impl Waiting {
     ) -> Result<Option<Mode>, OutOfMemory>
         requires fits { FitsBelow self.old from }
         requires parts { HasPartsBelow (length self.old.forms) node }
-        ensures gives { IfOk result (λ o. Gives self.new o (λ texts.
-            Some (part (word_view texts word) (raws_then (args_from texts self.old from)
-            (build_raw texts (raw_trees texts self.old.forms) (node_of at node.entry))) (waiting_below texts self.old from)))) }
+        ensures gives { IfOk result (λ o. Gives self.new o
+            (λ texts. Some (part (word_view texts word)
+            (raws_then (args_from texts self.old from)
+            (build_raw texts (raw_trees texts self.old.forms) (node_of at node.entry)))
+            (waiting_below texts self.old from)))) }
         ensures grows { IfOk result (λ _. Grows self.old.forms self.new.forms) }
     {
         self.add_argument(at, node)?;
@@ -174,8 +181,9 @@ impl Waiting {
         symbol: Symbol,
     ) -> Result<Option<Mode>, OutOfMemory>
         requires { FitsBelow self.old from }
-        ensures gives { IfOk result (λ o. Gives self.new o (λ texts.
-            flat_step (part (word_view texts word) (args_from texts self.old from) (waiting_below texts self.old from)) (symbol_tok texts symbol))) }
+        ensures gives { IfOk result (λ o. Gives self.new o
+            (λ texts. flat_step (part (word_view texts word) (args_from texts self.old from)
+            (waiting_below texts self.old from)) (symbol_tok texts symbol))) }
         ensures grows { IfOk result (λ _. Grows self.old.forms self.new.forms) }
     {
         match symbol {
@@ -240,7 +248,7 @@ impl Waiting {
         operand: RawAt,
         symbol: Symbol,
     ) -> Result<Option<Mode>, OutOfMemory>
-        requires fits { Fits self.old }
+        requires fits { IsSound self.old }
         requires operand { IsNode self.old operand }
         ensures gives { IfOk result (λ o. Gives self.new o (λ texts.
             operate (tree texts self.old operand) (waiting texts self.old) (symbol_tok texts symbol))) }
@@ -274,7 +282,7 @@ impl Waiting {
         at: Place,
         operand: RawAt,
     ) -> Result<Option<Mode>, OutOfMemory>
-        requires fits { Fits self.old }
+        requires fits { IsSound self.old }
         requires operand { IsNode self.old operand }
         ensures gives { IfOk result (λ o. Gives self.new o (λ texts.
             push_operator op at (reduce level (tree texts self.old operand) (waiting texts self.old)))) }
@@ -286,9 +294,10 @@ impl Waiting {
 
     // `)` behind a formula.
     fn close_bracket(&mut self, formula: RawAt) -> Option<Mode>
-        requires fits { Fits self.old }
+        requires fits { IsSound self.old }
         requires formula { IsNode self.old formula }
-        ensures gives { Gives self.new result (λ texts. close_bracket (tree texts self.old formula) (waiting texts self.old)) }
+        ensures gives { Gives self.new result
+            (λ texts. close_bracket (tree texts self.old formula) (waiting texts self.old)) }
         ensures grows { Grows self.old.forms self.new.forms }
     {
         match newest(&self.frames) {
@@ -305,9 +314,10 @@ impl Waiting {
 
     // `}` behind a formula.
     fn close_brace(&mut self, formula: RawAt) -> Result<Option<Mode>, OutOfMemory>
-        requires fits { Fits self.old }
+        requires fits { IsSound self.old }
         requires formula { IsNode self.old formula }
-        ensures gives { IfOk result (λ o. Gives self.new o (λ texts. close_brace (tree texts self.old formula) (waiting texts self.old))) }
+        ensures gives { IfOk result (λ o. Gives self.new o
+            (λ texts. close_brace (tree texts self.old formula) (waiting texts self.old))) }
         ensures grows { IfOk result (λ _. Grows self.old.forms self.new.forms) }
     {
         match newest(&self.frames) {
@@ -341,7 +351,7 @@ impl Waiting {
 
     // The whole formula that ends with an expression, if no bracket is open.
     fn finish_expression(&mut self, unit: RawAt) -> Result<Option<RawAt>, OutOfMemory>
-        requires fits { Fits self.old }
+        requires fits { IsSound self.old }
         requires unit { IsNode self.old unit }
         ensures gives { IfOk result (λ o. GivesTree self.new o (λ texts.
             let q = take_both (tree texts self.old unit) (waiting texts self.old) in final_expression q.0 q.1)) }
@@ -356,9 +366,10 @@ impl Waiting {
 
     // The whole formula that ends with an operand, if no bracket is open.
     fn finish_operand(&mut self, operand: RawAt) -> Result<Option<RawAt>, OutOfMemory>
-        requires fits { Fits self.old }
+        requires fits { IsSound self.old }
         requires operand { IsNode self.old operand }
-        ensures gives { IfOk result (λ o. GivesTree self.new o (λ texts. let q = reduce Close (tree texts self.old operand) (waiting texts self.old) in
+        ensures gives { IfOk result (λ o. GivesTree self.new o
+            (λ texts. let q = reduce Close (tree texts self.old operand) (waiting texts self.old) in
             end_with q.0 q.1)) }
         ensures grows { IfOk result (λ _. Grows self.old.forms self.new.forms) }
     {
@@ -372,7 +383,8 @@ impl Waiting {
 
 // The word that a quantifier binds.
 fn bind(quantifier: Quantifier, at: Place, symbol: Symbol) -> Option<Mode>
-    ensures { (w : Waiting) → Fits w → Gives w result (λ texts. flat_step (binder quantifier at (waiting texts w)) (symbol_tok texts symbol)) }
+    ensures { (w : Waiting) → IsSound w
+        → Gives w result (λ texts. flat_step (binder quantifier at (waiting texts w)) (symbol_tok texts symbol)) }
 {
     match symbol {
         Symbol::Name(name) => Some(Mode::Slash(quantifier, at, Word::Name(name))),

@@ -6,7 +6,7 @@ ghost use Rattle.ll_parser.specs.Flat.{after_word, after_led, after_item, close_
 ghost use Rattle.ll_parser.specs.Nodes.{build_raw, raw_trees};
 ghost use Rattle.ll_parser.specs.Seen.{node_of, HasPartsBelow};
 ghost use Rattle.ll_parser.specs.Symbols.{symbol_tok};
-ghost use Rattle.ll_parser.specs.Waiting.{word_view, tree, waiting, args_from, waiting_below, pushed, Fits, FitsBelow, IsNode, CanWait, Grows, Gives};
+ghost use Rattle.ll_parser.specs.Waiting.{word_view, tree, waiting, args_from, waiting_below, pushed, IsSound, FitsBelow, IsNode, CanWait, Grows, Gives};
 
 use crate::formulas::Mode;
 use crate::symbols::Symbol;
@@ -38,10 +38,11 @@ impl Waiting {
 
     /// `_` or a number with which a formula begins.
     pub fn plain(&mut self, at: Place, node: RawNode<'_>) -> Result<Option<Mode>, OutOfMemory>
-        requires fits { Fits self.old }
+        requires fits { IsSound self.old }
         requires parts { HasPartsBelow (length self.old.forms) node }
-        ensures gives { IfOk result (λ o. Gives self.new o (λ texts.
-            Some (plain (build_raw texts (raw_trees texts self.old.forms) (node_of at node.entry)) (waiting texts self.old)))) }
+        ensures gives { IfOk result (λ o. Gives self.new o
+            (λ texts. Some (plain (build_raw texts (raw_trees texts self.old.forms) (node_of at node.entry))
+            (waiting texts self.old)))) }
         ensures grows { IfOk result (λ _. Grows self.old.forms self.new.forms) }
     {
         let unit = self.add(at, node)?;
@@ -50,7 +51,7 @@ impl Waiting {
 
     /// The token behind a plain term with which a formula begins: the sign of a whole-number goal or of an expression.
     pub fn after_plain(&mut self, unit: RawAt, symbol: Symbol) -> Result<Option<Mode>, OutOfMemory>
-        requires fits { Fits self.old }
+        requires fits { IsSound self.old }
         requires unit { IsNode self.old unit }
         ensures gives { IfOk result (λ o. Gives self.new o (λ texts.
             after_plain (tree texts self.old unit) (waiting texts self.old) (symbol_tok texts symbol))) }
@@ -75,8 +76,9 @@ impl Waiting {
         symbol: Symbol,
     ) -> Result<Option<Mode>, OutOfMemory>
         requires { FitsBelow self.old from }
-        ensures gives { IfOk result (λ o. Gives self.new o (λ texts.
-            after_word (word_view texts word) (args_from texts self.old from) (waiting_below texts self.old from) (symbol_tok texts symbol))) }
+        ensures gives { IfOk result (λ o. Gives self.new o
+            (λ texts. after_word (word_view texts word) (args_from texts self.old from)
+            (waiting_below texts self.old from) (symbol_tok texts symbol))) }
         ensures grows { IfOk result (λ _. Grows self.old.forms self.new.forms) }
     {
         if self.args.len() == from {
@@ -89,10 +91,11 @@ impl Waiting {
 
     // A unit of the left side of a comparison.
     fn lead(&mut self, at: Place, node: RawNode<'_>) -> Result<Option<Mode>, OutOfMemory>
-        requires fits { Fits self.old }
+        requires fits { IsSound self.old }
         requires parts { HasPartsBelow (length self.old.forms) node }
-        ensures gives { IfOk result (λ o. Gives self.new o (λ texts.
-            Some (led (build_raw texts (raw_trees texts self.old.forms) (node_of at node.entry)) (waiting texts self.old)))) }
+        ensures gives { IfOk result (λ o. Gives self.new o
+            (λ texts. Some (led (build_raw texts (raw_trees texts self.old.forms) (node_of at node.entry))
+            (waiting texts self.old)))) }
         ensures grows { IfOk result (λ _. Grows self.old.forms self.new.forms) }
     {
         let unit = self.add(at, node)?;
@@ -101,8 +104,9 @@ impl Waiting {
 
     /// The first token of a unit of the left side of a comparison.
     pub fn begin_lead_unit(&mut self, symbol: Symbol) -> Result<Option<Mode>, OutOfMemory>
-        requires { Fits self.old }
-        ensures gives { IfOk result (λ o. Gives self.new o (λ texts. flat_step (lead_want (waiting texts self.old)) (symbol_tok texts symbol))) }
+        requires { IsSound self.old }
+        ensures gives { IfOk result (λ o. Gives self.new o (λ texts. flat_step (lead_want (waiting texts self.old))
+            (symbol_tok texts symbol))) }
         ensures grows { IfOk result (λ _. Grows self.old.forms self.new.forms) }
     {
         match symbol {
@@ -117,7 +121,7 @@ impl Waiting {
 
     // The sign `*` in the left side of a comparison.
     fn multiply_lead(&mut self, at: Place, unit: RawAt) -> Result<Option<Mode>, OutOfMemory>
-        requires fits { Fits self.old }
+        requires fits { IsSound self.old }
         requires unit { IsNode self.old unit }
         ensures gives { IfOk result (λ o. Gives self.new o (λ texts.
             multiply lead_want at (take_product (tree texts self.old unit) (waiting texts self.old)))) }
@@ -129,7 +133,7 @@ impl Waiting {
 
     // The sign of a sum in the left side of a comparison.
     fn add_lead(&mut self, op: SumOp, at: Place, unit: RawAt) -> Result<Option<Mode>, OutOfMemory>
-        requires fits { Fits self.old }
+        requires fits { IsSound self.old }
         requires unit { IsNode self.old unit }
         ensures gives { IfOk result (λ o. Gives self.new o (λ texts.
             add_operand lead_want op at (take_both (tree texts self.old unit) (waiting texts self.old)))) }
@@ -141,9 +145,10 @@ impl Waiting {
 
     // The sign of a comparison behind its left side.
     fn compare(&mut self, op: TestOp, at: Place, unit: RawAt) -> Result<Option<Mode>, OutOfMemory>
-        requires fits { Fits self.old }
+        requires fits { IsSound self.old }
         requires unit { IsNode self.old unit }
-        ensures gives { IfOk result (λ o. Gives self.new o (λ texts. test op at (take_both (tree texts self.old unit) (waiting texts self.old)))) }
+        ensures gives { IfOk result (λ o. Gives self.new o
+            (λ texts. test op at (take_both (tree texts self.old unit) (waiting texts self.old)))) }
         ensures grows { IfOk result (λ _. Grows self.old.forms self.new.forms) }
     {
         let left = self.take_both(unit)?;
@@ -152,9 +157,10 @@ impl Waiting {
 
     /// The token behind a unit of the left side of a comparison.
     pub fn after_lead(&mut self, unit: RawAt, symbol: Symbol) -> Result<Option<Mode>, OutOfMemory>
-        requires fits { Fits self.old }
+        requires fits { IsSound self.old }
         requires unit { IsNode self.old unit }
-        ensures gives { IfOk result (λ o. Gives self.new o (λ texts. after_led (tree texts self.old unit) (waiting texts self.old) (symbol_tok texts symbol))) }
+        ensures gives { IfOk result (λ o. Gives self.new o
+            (λ texts. after_led (tree texts self.old unit) (waiting texts self.old) (symbol_tok texts symbol))) }
         ensures grows { IfOk result (λ _. Grows self.old.forms self.new.forms) }
     {
         match symbol {
@@ -169,10 +175,11 @@ impl Waiting {
 
     // A unit of any other expression.
     fn unit(&mut self, at: Place, node: RawNode<'_>) -> Result<Option<Mode>, OutOfMemory>
-        requires fits { Fits self.old }
+        requires fits { IsSound self.old }
         requires parts { HasPartsBelow (length self.old.forms) node }
-        ensures gives { IfOk result (λ o. Gives self.new o (λ texts.
-            Some (item (build_raw texts (raw_trees texts self.old.forms) (node_of at node.entry)) (waiting texts self.old)))) }
+        ensures gives { IfOk result (λ o. Gives self.new o
+            (λ texts. Some (item (build_raw texts (raw_trees texts self.old.forms) (node_of at node.entry))
+            (waiting texts self.old)))) }
         ensures grows { IfOk result (λ _. Grows self.old.forms self.new.forms) }
     {
         let unit = self.add(at, node)?;
@@ -181,8 +188,9 @@ impl Waiting {
 
     /// The first token of a unit of any other expression.
     pub fn begin_unit(&mut self, symbol: Symbol) -> Result<Option<Mode>, OutOfMemory>
-        requires { Fits self.old }
-        ensures gives { IfOk result (λ o. Gives self.new o (λ texts. flat_step (item_want (waiting texts self.old)) (symbol_tok texts symbol))) }
+        requires { IsSound self.old }
+        ensures gives { IfOk result (λ o. Gives self.new o (λ texts. flat_step (item_want (waiting texts self.old))
+            (symbol_tok texts symbol))) }
         ensures grows { IfOk result (λ _. Grows self.old.forms self.new.forms) }
     {
         match symbol {
@@ -197,7 +205,7 @@ impl Waiting {
 
     // The sign `*` in any other expression.
     fn multiply_unit(&mut self, at: Place, unit: RawAt) -> Result<Option<Mode>, OutOfMemory>
-        requires fits { Fits self.old }
+        requires fits { IsSound self.old }
         requires unit { IsNode self.old unit }
         ensures gives { IfOk result (λ o. Gives self.new o (λ texts.
             multiply item_want at (take_product (tree texts self.old unit) (waiting texts self.old)))) }
@@ -209,7 +217,7 @@ impl Waiting {
 
     // The sign of a sum in any other expression.
     fn add_unit(&mut self, op: SumOp, at: Place, unit: RawAt) -> Result<Option<Mode>, OutOfMemory>
-        requires fits { Fits self.old }
+        requires fits { IsSound self.old }
         requires unit { IsNode self.old unit }
         ensures gives { IfOk result (λ o. Gives self.new o (λ texts.
             add_operand item_want op at (take_both (tree texts self.old unit) (waiting texts self.old)))) }
@@ -221,7 +229,7 @@ impl Waiting {
 
     /// The token behind a unit of any other expression: one of its signs, or what ends it.
     pub fn after_unit(&mut self, unit: RawAt, symbol: Symbol) -> Result<Option<Mode>, OutOfMemory>
-        requires fits { Fits self.old }
+        requires fits { IsSound self.old }
         requires unit { IsNode self.old unit }
         ensures gives { IfOk result (λ o. Gives self.new o (λ texts.
             after_item (tree texts self.old unit) (waiting texts self.old) (symbol_tok texts symbol))) }
@@ -244,7 +252,7 @@ impl Waiting {
         expression: RawAt,
         symbol: Symbol,
     ) -> Result<Option<Mode>, OutOfMemory>
-        requires fits { Fits self.old }
+        requires fits { IsSound self.old }
         requires expression { IsNode self.old expression }
         ensures gives { IfOk result (λ o. Gives self.new o (λ texts.
             end_expression (tree texts self.old expression) (waiting texts self.old) (symbol_tok texts symbol))) }
@@ -258,9 +266,10 @@ impl Waiting {
 
     // `)` behind an expression.
     fn close_number(&mut self, expression: RawAt, symbol: Symbol) -> Option<Mode>
-        requires fits { Fits self.old }
+        requires fits { IsSound self.old }
         requires expression { IsNode self.old expression }
-        ensures gives { Gives self.new result (λ texts. close_number (tree texts self.old expression) (waiting texts self.old) (symbol_tok texts symbol)) }
+        ensures gives { Gives self.new result (λ texts. close_number (tree texts self.old expression)
+            (waiting texts self.old) (symbol_tok texts symbol)) }
         ensures grows { Grows self.old.forms self.new.forms }
     {
         match newest(&self.frames) {

@@ -5,8 +5,9 @@ ghost use Rattle.ll_parser.specs.Grammar.{add_sign, star, test_raw};
 ghost use Rattle.ll_parser.specs.Flat.{build, take_product, take_sum, take_both};
 ghost use Rattle.ll_parser.specs.Raw.{load, cons_raw, sign_raw};
 ghost use Rattle.ll_parser.specs.Nodes.{identifier, raw_trees};
-ghost use Rattle.ll_parser.specs.Waiting.{tree, waiting, args_from, waiting_below, pending, prefix_view, prefix_left, Fits, FitsBelow, IsNode, CanWait, Grows};
-ghost use Rattle.ll_parser.specs.Waiting.{Leaves, IsBuilt, Popped, Reduced, Gathered, PoppedCell, HasNoCell, TakesNone, Takes, PoppedSign, TakesNothing};
+ghost use Rattle.ll_parser.specs.Waiting.{tree, waiting, args_from, waiting_below, pending, prefix_view};
+ghost use Rattle.ll_parser.specs.Waiting.{prefix_left, IsSound, FitsBelow, IsNode, CanWait, Grows};
+ghost use Rattle.ll_parser.specs.Waiting.{ShowsTree, IsBuilt, Popped, Reduced, Gathered, PoppedCell, HasNoCell, TakesNone, EndsWith, PoppedSign, TakesNothing};
 ghost use Rattle.ll_parser.specs.Waiting.{IsGoal, HasNoGoal, known};
 
 use crate::waiting::{CONS, Frame, MINUS, PLUS, Prefix, STAR, Waiting, newest, takes};
@@ -51,7 +52,8 @@ impl Waiting {
         requires front { CanWait self.old (Front front) }
         requires operand { IsNode self.old operand }
         ensures gives { IfOk result (λ i. IsBuilt self.old self.new i
-            (λ texts. build (prefix_view texts (raw_trees texts self.old.forms) self.old.args.items front) (tree texts self.old operand))
+            (λ texts. build (prefix_view texts (raw_trees texts self.old.forms) self.old.args.items front)
+            (tree texts self.old operand))
             (λ texts. pending texts self.old.forms (prefix_left self.old.args.items front) self.old.frames.items)) }
         ensures grows { IfOk result (λ _. Grows self.old.forms self.new.forms) }
     {
@@ -67,9 +69,9 @@ impl Waiting {
         }
     }
 
-    // Takes the newest front of a formula off, if the level takes it.
+    // EndsWith the newest front of a formula off, if the level takes it.
     fn pop(&mut self, level: Level) -> Option<Prefix>
-        requires { Fits self.old }
+        requires { IsSound self.old }
         ensures none { IfNone result (TakesNone level self.old self.new) }
         ensures some { IfSome result (λ p. Popped level self.old self.new p) }
         ensures grows { Grows self.old.forms self.new.forms }
@@ -90,9 +92,9 @@ impl Waiting {
         }
     }
 
-    /// Takes the operand together with all that the level takes.
+    /// EndsWith the operand together with all that the level takes.
     pub fn reduce(&mut self, level: Level, operand: RawAt) -> Result<RawAt, OutOfMemory>
-        requires fits { Fits self.old }
+        requires fits { IsSound self.old }
         requires operand { IsNode self.old operand }
         ensures gives { IfOk result (λ i. Reduced level self.old self.new operand i) }
         ensures grows { IfOk result (λ _. Grows self.old.forms self.new.forms) }
@@ -104,9 +106,9 @@ impl Waiting {
         Ok(at)
     }
 
-    // Takes the newest cell off, if one is the newest.
+    // EndsWith the newest cell off, if one is the newest.
     fn pop_cell(&mut self) -> Option<(Place, RawAt)>
-        requires { Fits self.old }
+        requires { IsSound self.old }
         ensures none { IfNone result (HasNoCell self.old self.new) }
         ensures some { IfSome result (λ cell. PoppedCell self.old self.new cell.0 cell.1) }
         ensures grows { Grows self.old.forms self.new.forms }
@@ -125,10 +127,11 @@ impl Waiting {
 
     // The list of a term and the one behind its sign.
     fn cons(&mut self, at: Place, first: RawAt, rest: RawAt) -> Result<RawAt, OutOfMemory>
-        requires fits { Fits self.old }
+        requires fits { IsSound self.old }
         requires first { IsNode self.old first }
         requires rest { IsNode self.old rest }
-        ensures gives { IfOk result (λ i. IsBuilt self.old self.new i (λ texts. cons_raw at (tree texts self.old first) (tree texts self.old rest))
+        ensures gives { IfOk result (λ i. IsBuilt self.old self.new i
+            (λ texts. cons_raw at (tree texts self.old first) (tree texts self.old rest))
             (λ texts. waiting texts self.old)) }
         ensures grows { IfOk result (λ _. Grows self.old.forms self.new.forms) }
     {
@@ -139,21 +142,21 @@ impl Waiting {
 
     // A sign with a term on each side.
     fn pair(&mut self, sign: Named, left: RawAt, right: RawAt) -> Result<RawAt, OutOfMemory>
-        requires fits { Fits self.old }
+        requires fits { IsSound self.old }
         requires left { IsNode self.old left }
         requires right { IsNode self.old right }
         ensures gives { IfOk result (λ i. IsBuilt self.old self.new i
-            (λ texts. sign_raw (identifier texts sign).text sign.at (tree texts self.old left) (tree texts self.old right))
-            (λ texts. waiting texts self.old)) }
+            (λ texts. sign_raw (identifier texts sign).text sign.at (tree texts self.old left)
+            (tree texts self.old right)) (λ texts. waiting texts self.old)) }
         ensures grows { IfOk result (λ _. Grows self.old.forms self.new.forms) }
     {
         let pair = self.add(sign.at, RawNode::Head(sign, &[left, right]))?;
         Ok(pair)
     }
 
-    // Takes `*` and what stands in front of it off, if they are the newest.
+    // EndsWith `*` and what stands in front of it off, if they are the newest.
     fn pop_product(&mut self) -> Option<(Place, RawAt)>
-        requires { Fits self.old }
+        requires { IsSound self.old }
         ensures none { IfNone result (TakesNothing take_product self.old self.new) }
         ensures some { IfSome result (λ product. PoppedSign take_product star self.old self.new product.0 product.1) }
         ensures grows { Grows self.old.forms self.new.forms }
@@ -172,9 +175,9 @@ impl Waiting {
 
     /// A unit with the product that it ends.
     pub fn take_product(&mut self, unit: RawAt) -> Result<RawAt, OutOfMemory>
-        requires fits { Fits self.old }
+        requires fits { IsSound self.old }
         requires unit { IsNode self.old unit }
-        ensures gives { IfOk result (λ i. Takes take_product self.old self.new unit i) }
+        ensures gives { IfOk result (λ i. EndsWith take_product self.old self.new unit i) }
         ensures grows { IfOk result (λ _. Grows self.old.forms self.new.forms) }
     {
         match self.pop_product() {
@@ -186,9 +189,9 @@ impl Waiting {
         }
     }
 
-    // Takes `+` or `-` and what stands in front of it off, if they are the newest.
+    // EndsWith `+` or `-` and what stands in front of it off, if they are the newest.
     fn pop_sum(&mut self) -> Option<(SumOp, Place, RawAt)>
-        requires { Fits self.old }
+        requires { IsSound self.old }
         ensures none { IfNone result (TakesNothing take_sum self.old self.new) }
         ensures some { IfSome result (λ sum. PoppedSign take_sum (add_sign sum.0) self.old self.new sum.1 sum.2) }
         ensures grows { Grows self.old.forms self.new.forms }
@@ -207,9 +210,9 @@ impl Waiting {
 
     // A product with the sum that it ends.
     fn take_sum(&mut self, product: RawAt) -> Result<RawAt, OutOfMemory>
-        requires fits { Fits self.old }
+        requires fits { IsSound self.old }
         requires product { IsNode self.old product }
-        ensures gives { IfOk result (λ i. Takes take_sum self.old self.new product i) }
+        ensures gives { IfOk result (λ i. EndsWith take_sum self.old self.new product i) }
         ensures grows { IfOk result (λ _. Grows self.old.forms self.new.forms) }
     {
         match self.pop_sum() {
@@ -224,9 +227,9 @@ impl Waiting {
 
     /// A unit with the product that it ends, and with the sum that this ends.
     pub fn take_both(&mut self, unit: RawAt) -> Result<RawAt, OutOfMemory>
-        requires fits { Fits self.old }
+        requires fits { IsSound self.old }
         requires unit { IsNode self.old unit }
-        ensures gives { IfOk result (λ i. Takes take_both self.old self.new unit i) }
+        ensures gives { IfOk result (λ i. EndsWith take_both self.old self.new unit i) }
         ensures grows { IfOk result (λ _. Grows self.old.forms self.new.forms) }
     {
         let product = self.take_product(unit)?;
@@ -241,11 +244,12 @@ impl Waiting {
         left: RawAt,
         right: RawAt,
     ) -> Result<RawAt, OutOfMemory>
-        requires fits { Fits self.old }
+        requires fits { IsSound self.old }
         requires left { IsNode self.old left }
         requires right { IsNode self.old right }
         ensures gives { IfOk result (λ i. IsBuilt self.old self.new i
-            (λ texts. test_raw op at (tree texts self.old left) (tree texts self.old right)) (λ texts. waiting texts self.old)) }
+            (λ texts. test_raw op at (tree texts self.old left) (tree texts self.old right))
+            (λ texts. waiting texts self.old)) }
         ensures grows { IfOk result (λ _. Grows self.old.forms self.new.forms) }
     {
         match op {
@@ -256,9 +260,10 @@ impl Waiting {
 
     /// The whole-number goal that an expression ends, if one is the newest that waits for it.
     pub fn goal(&mut self, expression: RawAt) -> Result<Option<RawAt>, OutOfMemory>
-        requires fits { Fits self.old }
+        requires fits { IsSound self.old }
         requires expression { IsNode self.old expression }
-        ensures gives { IfOk result (λ o. MatchOption o (HasNoGoal self.old self.new) (λ i. IsGoal self.old self.new expression i)) }
+        ensures gives { IfOk result (λ o. MatchOption o (HasNoGoal self.old self.new)
+            (λ i. IsGoal self.old self.new expression i)) }
         ensures grows { IfOk result (λ _. Grows self.old.forms self.new.forms) }
     {
         match newest(&self.frames) {
@@ -281,7 +286,7 @@ impl Waiting {
 
     /// The list of all newest cells and the term behind them.
     pub fn gather(&mut self, term: RawAt) -> Result<RawAt, OutOfMemory>
-        requires fits { Fits self.old }
+        requires fits { IsSound self.old }
         requires term { IsNode self.old term }
         ensures gives { IfOk result (λ i. Gathered self.old self.new term i) }
         ensures grows { IfOk result (λ _. Grows self.old.forms self.new.forms) }

@@ -32,7 +32,8 @@ fn first_names(alloc: Global) -> Result<Names, OutOfMemory>
 // How many brackets are open behind a token, or `None` past the limit.
 fn opened(depth: usize, symbol: Symbol) -> Option<usize>
     requires { depth ≤ MOST_OPEN }
-    ensures { (texts : List (List ℕ)) → MatchOption result ((opens (symbol_tok texts symbol) ≡ true) × (depth ≡ MOST_OPEN))
+    ensures { (texts : List (List ℕ))
+        → MatchOption result ((opens (symbol_tok texts symbol) ≡ true) × (depth ≡ MOST_OPEN))
         (λ n. (n ≡ open_after depth (symbol_tok texts symbol ∷ [])) × (n ≤ MOST_OPEN)) }
 {
     match symbol {
@@ -58,7 +59,8 @@ fn read_program(
     requires text { length tokens.now.text ≤ 16777216 }
     requires names { names.old ≡ known [] }
     requires draft { IsNewDraft draft.old }
-    ensures read { MatchResult result (λ _. Reads programs MOST_OPEN (toks_of tokens.now) (whole_view names.new draft.new))
+    ensures read { MatchResult result
+        (λ _. Reads programs MOST_OPEN (toks_of tokens.now) (whole_view names.new draft.new))
         (λ e. IsCause programs MOST_OPEN (toks_of tokens.now) tokens.now.end e) }
     ensures whole { IfOk result (λ _. IsWhole programs (whole_view names.new draft.new)) }
     ensures clauses { IfOk result (λ _. DraftFits draft.new) }
@@ -98,7 +100,8 @@ fn read_query(
     requires text { length tokens.now.text ≤ 16777216 }
     requires names { names.old ≡ known [] }
     requires waiting { IsNew waiting.old }
-    ensures read { MatchResult result (λ goal. Reads queries MOST_OPEN (toks_of tokens.now) (tree names.new waiting.new goal))
+    ensures read { MatchResult result
+        (λ goal. Reads queries MOST_OPEN (toks_of tokens.now) (tree names.new waiting.new goal))
         (λ e. IsCause queries MOST_OPEN (toks_of tokens.now) tokens.now.end e) }
     ensures whole { IfOk result (λ goal. IsWhole queries (tree names.new waiting.new goal)) }
     ensures goal { IfOk result (λ goal. IsNode waiting.new goal) }

@@ -52,7 +52,8 @@ pub fn symbol_at(tokens: &TokenList<'_>, i: usize, names: &mut Names) -> Result<
     requires token { i < length tokens.now.tokens }
     requires room { length names.old < 2 ^ 32 }
     ensures names { IfOk result (λ _. AddsOne names.old names.new) }
-    ensures token { IfOk result (λ s. (more : List (List ℕ)) → slice_get (toks_of tokens.now) i ≡ Some (symbol_tok (names.new ++ more) s)) }
+    ensures token { IfOk result (λ s. (more : List (List ℕ)) → slice_get (toks_of tokens.now) i
+        ≡ Some (symbol_tok (names.new ++ more) s)) }
 {
     let token = tokens.get(i);
     let at = token.at;
@@ -98,7 +99,8 @@ fn word(bytes: &[u8], at: Place, names: &mut Names) -> Result<Named, OutOfMemory
     requires ascii { IsAscii bytes.now }
     requires room { length names.old < 2 ^ 32 }
     ensures names { IfOk result (λ _. AddsOne names.old names.new) }
-    ensures text { IfOk result (λ n. (more : List (List ℕ)) → identifier (names.new ++ more) n ≡ record { text = bytes.now; at = at }) }
+    ensures text { IfOk result (λ n. (more : List (List ℕ)) → identifier (names.new ++ more) n
+        ≡ record { text = bytes.now; at = at }) }
 {
     let text = str::from_utf8(bytes).unwrap();
     let name = names.add(text)?;

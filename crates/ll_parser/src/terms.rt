@@ -5,7 +5,7 @@ ghost use Rattle.ll_parser.specs.Flat.{term_want, term_part, term_whole, term_op
 ghost use Rattle.ll_parser.specs.Nodes.{build_raw, raw_trees};
 ghost use Rattle.ll_parser.specs.Seen.{node_of, HasPartsBelow};
 ghost use Rattle.ll_parser.specs.Symbols.{symbol_tok};
-ghost use Rattle.ll_parser.specs.Waiting.{word_view, tree, waiting, args_from, waiting_below, Fits, FitsBelow, IsNode, Grows, Gives};
+ghost use Rattle.ll_parser.specs.Waiting.{word_view, tree, waiting, args_from, waiting_below, IsSound, FitsBelow, IsNode, Grows, Gives};
 
 use crate::formulas::Mode;
 use crate::symbols::Symbol;
@@ -17,10 +17,11 @@ use ll_lexer::Place;
 impl Waiting {
     // A term of one node.
     fn constant(&mut self, at: Place, node: RawNode<'_>) -> Result<Option<Mode>, OutOfMemory>
-        requires fits { Fits self.old }
+        requires fits { IsSound self.old }
         requires parts { HasPartsBelow (length self.old.forms) node }
-        ensures gives { IfOk result (λ o. Gives self.new o (λ texts.
-            Some (term_whole (build_raw texts (raw_trees texts self.old.forms) (node_of at node.entry)) (waiting texts self.old)))) }
+        ensures gives { IfOk result (λ o. Gives self.new o
+            (λ texts. Some (term_whole (build_raw texts (raw_trees texts self.old.forms) (node_of at node.entry))
+            (waiting texts self.old)))) }
         ensures grows { IfOk result (λ _. Grows self.old.forms self.new.forms) }
     {
         let term = self.add(at, node)?;
@@ -29,8 +30,9 @@ impl Waiting {
 
     /// The first token of a term.
     pub fn begin_term(&mut self, symbol: Symbol) -> Result<Option<Mode>, OutOfMemory>
-        requires { Fits self.old }
-        ensures gives { IfOk result (λ o. Gives self.new o (λ texts. flat_step (term_want (waiting texts self.old)) (symbol_tok texts symbol))) }
+        requires { IsSound self.old }
+        ensures gives { IfOk result (λ o. Gives self.new o (λ texts. flat_step (term_want (waiting texts self.old))
+            (symbol_tok texts symbol))) }
         ensures grows { IfOk result (λ _. Grows self.old.forms self.new.forms) }
     {
         match symbol {
@@ -55,9 +57,11 @@ impl Waiting {
     ) -> Result<Option<Mode>, OutOfMemory>
         requires fits { FitsBelow self.old from }
         requires parts { HasPartsBelow (length self.old.forms) node }
-        ensures gives { IfOk result (λ o. Gives self.new o (λ texts.
-            Some (term_part (word_view texts word) (raws_then (args_from texts self.old from)
-            (build_raw texts (raw_trees texts self.old.forms) (node_of at node.entry))) (waiting_below texts self.old from)))) }
+        ensures gives { IfOk result (λ o. Gives self.new o
+            (λ texts. Some (term_part (word_view texts word)
+            (raws_then (args_from texts self.old from)
+            (build_raw texts (raw_trees texts self.old.forms) (node_of at node.entry)))
+            (waiting_below texts self.old from)))) }
         ensures grows { IfOk result (λ _. Grows self.old.forms self.new.forms) }
     {
         self.add_argument(at, node)?;
@@ -72,8 +76,9 @@ impl Waiting {
         symbol: Symbol,
     ) -> Result<Option<Mode>, OutOfMemory>
         requires { FitsBelow self.old from }
-        ensures gives { IfOk result (λ o. Gives self.new o (λ texts.
-            flat_step (term_part (word_view texts word) (args_from texts self.old from) (waiting_below texts self.old from)) (symbol_tok texts symbol))) }
+        ensures gives { IfOk result (λ o. Gives self.new o
+            (λ texts. flat_step (term_part (word_view texts word) (args_from texts self.old from)
+            (waiting_below texts self.old from)) (symbol_tok texts symbol))) }
         ensures grows { IfOk result (λ _. Grows self.old.forms self.new.forms) }
     {
         match symbol {
@@ -97,7 +102,7 @@ impl Waiting {
 
     /// The token behind a term: `::`, or the bracket that closes round it.
     pub fn after_term(&mut self, term: RawAt, symbol: Symbol) -> Result<Option<Mode>, OutOfMemory>
-        requires fits { Fits self.old }
+        requires fits { IsSound self.old }
         requires term { IsNode self.old term }
         ensures gives { IfOk result (λ o. Gives self.new o (λ texts.
             term_operate (tree texts self.old term) (waiting texts self.old) (symbol_tok texts symbol))) }
@@ -115,9 +120,10 @@ impl Waiting {
 
     // `)` behind a term.
     fn close_term(&mut self, term: RawAt) -> Result<Option<Mode>, OutOfMemory>
-        requires fits { Fits self.old }
+        requires fits { IsSound self.old }
         requires term { IsNode self.old term }
-        ensures gives { IfOk result (λ o. Gives self.new o (λ texts. close_term (tree texts self.old term) (waiting texts self.old))) }
+        ensures gives { IfOk result (λ o. Gives self.new o
+            (λ texts. close_term (tree texts self.old term) (waiting texts self.old))) }
         ensures grows { IfOk result (λ _. Grows self.old.forms self.new.forms) }
     {
         match newest(&self.frames) {

@@ -77,7 +77,8 @@ impl Draft {
     ) -> Result<Option<Phase>, OutOfMemory>
         requires clauses { DraftFits self.old }
         requires phase { PhaseFits self.old.waiting phase }
-        ensures { IfOk result (λ o. GivesPhase self.new o (λ texts. program_step (draft_view texts self.old phase) (symbol_tok texts symbol))) }
+        ensures { IfOk result (λ o. GivesPhase self.new o (λ texts. program_step (draft_view texts self.old phase)
+            (symbol_tok texts symbol))) }
     {
         match phase {
             Phase::Boundary => self.begin(symbol),
@@ -165,9 +166,9 @@ impl Draft {
     ) -> Result<Option<Phase>, OutOfMemory>
         requires clauses { DraftFits self.old }
         requires mode { ModeFits self.old.waiting mode }
-        ensures { IfOk result (λ o. GivesPhase self.new o (λ texts.
-            phase_step (whole_view texts self.old) (current_view texts self.old) (inside linear (mode_view texts self.old.waiting mode))
-            (symbol_tok texts symbol))) }
+        ensures { IfOk result (λ o. GivesPhase self.new o
+            (λ texts. phase_step (whole_view texts self.old) (current_view texts self.old)
+            (inside linear (mode_view texts self.old.waiting mode)) (symbol_tok texts symbol))) }
     {
         match symbol {
             Symbol::Dot(_) => self.end_clause(linear, mode),
@@ -182,8 +183,9 @@ impl Draft {
     fn end_clause(&mut self, linear: bool, mode: Mode) -> Result<Option<Phase>, OutOfMemory>
         requires clauses { DraftFits self.old }
         requires mode { ModeFits self.old.waiting mode }
-        ensures { IfOk result (λ o. GivesPhase self.new o (λ texts.
-            end_clause (whole_view texts self.old) (current_view texts self.old) linear (flat_final (mode_view texts self.old.waiting mode)))) }
+        ensures { IfOk result (λ o. GivesPhase self.new o
+            (λ texts. end_clause (whole_view texts self.old) (current_view texts self.old) linear
+            (flat_final (mode_view texts self.old.waiting mode)))) }
     {
         match self.waiting.finish(mode)? {
             Some(form) => {
@@ -282,7 +284,8 @@ impl Waiting {
     /// What a token does to a query, if the grammar admits it.
     pub fn query_step(&mut self, stage: Stage, symbol: Symbol) -> Result<Option<Stage>, OutOfMemory>
         requires { StageFits self.old stage }
-        ensures { IfOk result (λ o. GivesStage self.new o (λ texts. query_step (stage_view texts self.old stage) (symbol_tok texts symbol))) }
+        ensures { IfOk result (λ o. GivesStage self.new o
+            (λ texts. query_step (stage_view texts self.old stage) (symbol_tok texts symbol))) }
     {
         match stage {
             Stage::Formula(mode) => match symbol {

@@ -114,7 +114,8 @@ fn takes_operator(level: Level, op: Op) -> bool
 
 /// Whether the level takes the front of a formula.
 pub fn takes(level: Level, front: Prefix) -> bool
-    ensures { (texts : List (List ℕ)) (trees : List Raw) (args : List RawAt) → result ≡ taken level (prefix_view texts trees args front) }
+    ensures { (texts : List (List ℕ)) (trees : List Raw) (args : List RawAt)
+        → result ≡ taken level (prefix_view texts trees args front) }
 {
     match front {
         Prefix::Operator(op, _, _) => takes_operator(level, op),
@@ -140,7 +141,7 @@ pub fn newest(frames: &[Frame]) -> Option<Frame>
 }
 
 impl Waiting {
-    ghost use Rattle.ll_parser.specs.Waiting.{tree, args_from, waiting_below, FitsBelow, IsNode, IsNew, CanWait, Grows, Added, Pushed, Dropped, Leaves};
+    ghost use Rattle.ll_parser.specs.Waiting.{tree, args_from, waiting_below, FitsBelow, IsNode, IsNew, CanWait, Grows, Added, Pushed, Dropped, ShowsTree};
     ghost use Rattle.ll_parser.specs.Waiting.{HasMore};
 
     /// Nothing.
@@ -157,7 +158,8 @@ impl Waiting {
     /// Adds a node.
     pub fn add(&mut self, at: Place, node: RawNode<'_>) -> Result<RawAt, OutOfMemory>
         requires { HasPartsBelow (length self.old.forms) node }
-        ensures gives { IfOk result (λ i. Added self.old self.new i (λ texts. build_raw texts (raw_trees texts self.old.forms) (node_of at node.entry))) }
+        ensures gives { IfOk result (λ i. Added self.old self.new i
+            (λ texts. build_raw texts (raw_trees texts self.old.forms) (node_of at node.entry))) }
         ensures grows { IfOk result (λ _. Grows self.old.forms self.new.forms) }
     {
         let place = self.forms.add(at, node)?;
@@ -177,7 +179,8 @@ impl Waiting {
     /// Takes the newest frame off.
     pub fn drop_newest(&mut self)
         requires { 0 < length self.old.frames.items }
-        ensures gives { (rest : List Frame) (f : Frame) → self.old.frames.items ≡ rest ++ f ∷ [] → Dropped self.old self.new f }
+        ensures gives { (rest : List Frame) (f : Frame) → self.old.frames.items ≡ rest ++ f ∷ []
+            → Dropped self.old self.new f }
         ensures grows { Grows self.old.forms self.new.forms }
     {
         let n = self.frames.len();
@@ -187,7 +190,8 @@ impl Waiting {
     /// One more argument of the head at work.
     pub fn push_argument(&mut self, arg: RawAt) -> Result<(), OutOfMemory>
         requires { IsNode self.old arg }
-        ensures gives { IfOk result (λ _. (from : ℕ) → FitsBelow self.old from → HasMore self.old self.new from (λ texts. tree texts self.old arg)) }
+        ensures gives { IfOk result (λ _. (from : ℕ) → FitsBelow self.old from
+            → HasMore self.old self.new from (λ texts. tree texts self.old arg)) }
         ensures grows { IfOk result (λ _. Grows self.old.forms self.new.forms) }
     {
         self.args.push(arg)?;
@@ -198,7 +202,8 @@ impl Waiting {
     pub fn add_argument(&mut self, at: Place, node: RawNode<'_>) -> Result<(), OutOfMemory>
         requires { HasPartsBelow (length self.old.forms) node }
         ensures gives { IfOk result (λ _. (from : ℕ) → FitsBelow self.old from
-            → HasMore self.old self.new from (λ texts. build_raw texts (raw_trees texts self.old.forms) (node_of at node.entry))) }
+            → HasMore self.old self.new from (λ texts. build_raw texts (raw_trees texts self.old.forms)
+            (node_of at node.entry))) }
         ensures grows { IfOk result (λ _. Grows self.old.forms self.new.forms) }
     {
         let arg = self.add(at, node)?;
@@ -209,7 +214,8 @@ impl Waiting {
     /// The head with the arguments that wait from a place on, which wait no more.
     pub fn finish_head(&mut self, name: Named, from: usize) -> Result<RawAt, OutOfMemory>
         requires { FitsBelow self.old from }
-        ensures gives { IfOk result (λ i. Leaves self.new i (λ texts. head (identifier texts name) (args_from texts self.old from))
+        ensures gives { IfOk result (λ i. ShowsTree self.new i
+            (λ texts. head (identifier texts name) (args_from texts self.old from))
             (λ texts. waiting_below texts self.old from)) }
         ensures grows { IfOk result (λ _. Grows self.old.forms self.new.forms) }
     {

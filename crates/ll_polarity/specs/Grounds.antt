@@ -1,5 +1,5 @@
 -- The text that formulas are read from, as their trees see it.
-use Rattle.ll_polarity.specs.declared.put_forms.Text.{Text}
+use Rattle.ll_polarity.specs.declared.text.Text.{Text}
 use Rattle.ll_polarity.specs.Places.{place_in}
 use Rattle.ll_polarity.specs.Frames.{Ground}
 

@@ -13,6 +13,7 @@ pub mod Calls
 pub mod Places
 pub mod Frames
 pub mod Grounds
+pub mod Spots
 pub mod Pending
 pub mod Ready
 pub mod Causes

@@ -23,13 +23,14 @@ use crate::front::Met;
 use crate::judge::{judge_query, known_headings};
 use crate::modules::Modules;
 use crate::part::Loaded;
-use crate::put_forms::{Text, form};
+use crate::put_forms::{Formula, form};
 use crate::scope::Binders;
+use crate::text::Text;
 use crate::variables::Variables;
 use ll_bank::{Bank, FormAt, Names, OutOfMemory};
 use ll_laws::{Module, Problem};
 use ll_lexer::{Fault, TextFault};
-use ll_parser::{RawAt, RawQuery, Raws};
+use ll_parser::{RawAt, RawQuery};
 use std::alloc::Global;
 
 /// What a query adds to a part.
@@ -59,7 +60,8 @@ fn asked_name(
 ) -> Result<Option<u32>, OutOfMemory>
     requires room { length names.old < 2 ^ 32 }
     ensures asked { IfOk result (λ n. n ∷ [] ≡ (read_asked names.old (variables_of texts.now (variable ∷ []))).it) }
-    ensures names { IfOk result (λ _. names.new ≡ (read_asked names.old (variables_of texts.now (variable ∷ []))).names) }
+    ensures names { IfOk result (λ _. names.new
+        ≡ (read_asked names.old (variables_of texts.now (variable ∷ []))).names) }
 {
     match variable {
         None => Ok(None),
@@ -120,34 +122,33 @@ fn places_by<'a>(alloc: Global, texts: &'a [String]) -> Result<Modules<'a>, OutO
 
 /// The goal of a query, which stands at this place of the forms, where the modules have these places.
 fn goal_of(
-    alloc: Global,
-    places: &Modules<'_>,
-    texts: &Names,
-    forms: &Raws,
+    text: &Text<'_>,
     at: RawAt,
     met: &mut Met,
     bank: &mut Bank,
 ) -> Result<FormAt, OutOfMemory>
-    requires whole { IsWhole queries (raw_at texts.now forms.now at.0) }
-    requires goal { at.0 < length forms.now }
+    requires whole { IsWhole queries (raw_at text.now.names.now text.now.forms.now at.0) }
+    requires goal { at.0 < length text.now.forms.now }
     requires few { length met.old.names ≤ 16777216 }
     requires first { met.old.variables ≡ [] }
-    ensures shows { IfOk result (λ form. (ms : List (List ℕ)) (heads : List Heading) → FindsFirst places.now.places ms
-        → query_faults heads (raw_at texts.now forms.now at.0) ≡ []
-        → form_tree bank.new form.0 ≡ (read_form ms [] (record { names = met.old.names; variables = [] }) (raw_at texts.now forms.now at.0)).it) }
-    ensures met { IfOk result (λ _. (ms : List (List ℕ)) → met_of texts.now met.new
-        ≡ (read_form ms [] (record { names = met.old.names; variables = [] }) (raw_at texts.now forms.now at.0)).met) }
+    ensures shows { IfOk result (λ form. (ms : List (List ℕ)) (heads : List Heading)
+        → FindsFirst text.now.modules.now.places ms
+        → query_faults heads (raw_at text.now.names.now text.now.forms.now at.0) ≡ [] → form_tree bank.new form.0
+        ≡ (read_form ms [] (record { names = met.old.names; variables = [] })
+        (raw_at text.now.names.now text.now.forms.now at.0)).it) }
+    ensures met { IfOk result (λ _. (ms : List (List ℕ)) → met_of text.now.names.now met.new
+        ≡ (read_form ms [] (record { names = met.old.names; variables = [] })
+        (raw_at text.now.names.now text.now.forms.now at.0)).met) }
     ensures inside { IfOk result (λ form. HasForm bank.new form.0) }
     ensures keeps { Extends bank.old bank.new }
 {
-    let text = Text {
-        names: texts,
-        forms,
-        modules: places,
+    let _texts = text.names.len();
+    let mut binders = Binders::new(text.alloc, text.names)?;
+    let formula = Formula {
+        at,
+        quantified: None,
     };
-    let _texts = texts.len();
-    let mut binders = Binders::new(alloc, texts)?;
-    let goal = form(alloc, &text, &mut binders, None, met, bank, at)?;
+    let goal = form(text, &mut binders, met, bank, formula)?;
     Ok(goal)
 }
 
@@ -162,24 +163,25 @@ fn added_over(
     requires whole { IsWhole queries query.now }
     requires few { length met.old.names ≤ 16777216 }
     requires first { met.old.variables ≡ [] }
-    ensures shows { IfOk result (λ p. (ms : List (List ℕ)) (heads : List Heading) → FindsFirst places.now.places ms → query_faults heads query.now ≡ []
-        → form_tree bank.new p.goal.0 ≡ (read_form ms [] (record { names = met.old.names; variables = [] }) query.now).it) }
-    ensures asked { IfOk result (λ p. (ms : List (List ℕ)) → let after = (read_form ms [] (record { names = met.old.names; variables = [] }) query.now).met in
+    ensures shows { IfOk result (λ p. (ms : List (List ℕ)) (heads : List Heading) → FindsFirst places.now.places ms
+        → query_faults heads query.now ≡ [] → form_tree bank.new p.goal.0
+        ≡ (read_form ms [] (record { names = met.old.names; variables = [] }) query.now).it) }
+    ensures asked { IfOk result (λ p. (ms : List (List ℕ))
+        → let after = (read_form ms [] (record { names = met.old.names; variables = [] }) query.now).met in
         p.asked.items ≡ (read_asked after.names after.variables).it) }
-    ensures names { IfOk result (λ _. (ms : List (List ℕ)) → let after = (read_form ms [] (record { names = met.old.names; variables = [] }) query.now).met in
+    ensures names { IfOk result (λ _. (ms : List (List ℕ))
+        → let after = (read_form ms [] (record { names = met.old.names; variables = [] }) query.now).met in
         met.new.names ≡ (read_asked after.names after.variables).names) }
     ensures inside { IfOk result (λ p. HasForm bank.new p.goal.0) }
     ensures keeps { Extends bank.old bank.new }
 {
-    let goal = goal_of(
+    let text = Text {
         alloc,
-        places,
-        &query.names,
-        &query.forms,
-        query.goal,
-        met,
-        bank,
-    )?;
+        names: &query.names,
+        forms: &query.forms,
+        modules: places,
+    };
+    let goal = goal_of(&text, query.goal, met, bank)?;
     let asked = asked(alloc, &query.names, &mut met.names, met.variables.order())?;
     Ok(Addition { goal, asked })
 }
@@ -195,11 +197,15 @@ fn added(
     requires whole { IsWhole queries query.now }
     requires numbered { IsNumbered met.old.names modules.now }
     requires first { met.old.variables ≡ [] }
-    ensures shows { IfOk result (λ p. (heads : List Heading) → query_faults heads query.now ≡ [] → form_tree bank.new p.goal.0
-        ≡ (read_form (map (λ m. text_of met.old.names m.name) modules.now) [] (record { names = met.old.names; variables = [] }) query.now).it) }
-    ensures asked { IfOk result (λ p. (ms : List (List ℕ)) → let after = (read_form ms [] (record { names = met.old.names; variables = [] }) query.now).met in
+    ensures shows { IfOk result (λ p. (heads : List Heading) → query_faults heads query.now ≡ []
+        → form_tree bank.new p.goal.0
+        ≡ (read_form (map (λ m. text_of met.old.names m.name) modules.now) []
+        (record { names = met.old.names; variables = [] }) query.now).it) }
+    ensures asked { IfOk result (λ p. (ms : List (List ℕ))
+        → let after = (read_form ms [] (record { names = met.old.names; variables = [] }) query.now).met in
         p.asked.items ≡ (read_asked after.names after.variables).it) }
-    ensures names { IfOk result (λ _. (ms : List (List ℕ)) → let after = (read_form ms [] (record { names = met.old.names; variables = [] }) query.now).met in
+    ensures names { IfOk result (λ _. (ms : List (List ℕ))
+        → let after = (read_form ms [] (record { names = met.old.names; variables = [] }) query.now).met in
         met.new.names ≡ (read_asked after.names after.variables).names) }
     ensures inside { IfOk result (λ p. HasForm bank.new p.goal.0) }
     ensures keeps { Extends bank.old bank.new }
@@ -238,14 +244,18 @@ fn judged(
     requires first { met.old.variables ≡ [] }
     ensures faultless { IfOk result (λ _. query_faults (map (known_heading met.old.names) modules.now) query.now ≡ []) }
     ensures shows { IfOk result (λ p. form_tree bank.new p.goal.0
-        ≡ (read_form (map (λ m. text_of met.old.names m.name) modules.now) [] (record { names = met.old.names; variables = [] }) query.now).it) }
-    ensures asked { IfOk result (λ p. (ms : List (List ℕ)) → let after = (read_form ms [] (record { names = met.old.names; variables = [] }) query.now).met in
+        ≡ (read_form (map (λ m. text_of met.old.names m.name) modules.now) []
+        (record { names = met.old.names; variables = [] }) query.now).it) }
+    ensures asked { IfOk result (λ p. (ms : List (List ℕ))
+        → let after = (read_form ms [] (record { names = met.old.names; variables = [] }) query.now).met in
         p.asked.items ≡ (read_asked after.names after.variables).it) }
-    ensures names { IfOk result (λ _. (ms : List (List ℕ)) → let after = (read_form ms [] (record { names = met.old.names; variables = [] }) query.now).met in
+    ensures names { IfOk result (λ _. (ms : List (List ℕ))
+        → let after = (read_form ms [] (record { names = met.old.names; variables = [] }) query.now).met in
         met.new.names ≡ (read_asked after.names after.variables).names) }
     ensures inside { IfOk result (λ p. HasForm bank.new p.goal.0) }
     ensures keeps { Extends bank.old bank.new }
-    ensures cause { IfErr result (IsCauseOf (λ fault. IsFirst fault (query_faults (map (known_heading met.old.names) modules.now) query.now))) }
+    ensures cause { IfErr result (IsCauseOf
+        (λ fault. IsFirst fault (query_faults (map (known_heading met.old.names) modules.now) query.now))) }
 {
     if let Some(fault) = query_fault(alloc, &met.names, modules, query)? {
         return Err(TextFault::Text(fault));
@@ -266,12 +276,13 @@ pub fn ask(
     requires bound { bound ≤ 1000000 }
     ensures problem { IfOk result (λ problem. problem ≡ problem_with loaded query.now bound) }
     ensures faultless { IfOk result (λ _. query_faults (headings_of loaded) query.now ≡ []) }
-    ensures asks { IfOk result (λ problem. (program : ProgramTree) → program_faults program ≡ [] → loaded ≡ part_of program
-        → Asks program query.now bound problem) }
-    ensures valid { IfOk result (λ problem. (program : ProgramTree) → IsWhole programs program → program_faults program ≡ [] → loaded ≡ part_of program
-        → IsValid problem) }
+    ensures asks { IfOk result (λ problem. (program : ProgramTree) → program_faults program ≡ []
+        → loaded ≡ part_of program → Asks program query.now bound problem) }
+    ensures valid { IfOk result (λ problem. (program : ProgramTree) → IsWhole programs program
+        → program_faults program ≡ [] → loaded ≡ part_of program → IsValid problem) }
     ensures cause { IfErr result (IsCauseOf (λ fault. IsFirst fault (query_faults (headings_of loaded) query.now))) }
-    ensures fault { IfErr result (IsCauseOf (λ fault. (program : ProgramTree) → loaded ≡ part_of program → HasQueryFault program query.now fault)) }
+    ensures fault { IfErr result (IsCauseOf (λ fault. (program : ProgramTree) → loaded ≡ part_of program
+        → HasQueryFault program query.now fault)) }
 {
     let Loaded {
         mut bank,

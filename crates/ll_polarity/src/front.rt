@@ -4,13 +4,13 @@ ghost use Rattle.std.specs.Prelude.{◌≡◌, ◌+◌, ◌^◌, ◌<◌, length
 ghost use Rattle.ll_bank.specs.Term.{Var, Con, app as app_term};
 ghost use Rattle.ll_bank.specs.Nodes.{term_trees, AllInTerms, ShowsTerm, Extends};
 ghost use Rattle.ll_bank.specs.declared.Head.TheVariants.{Bound as BoundHead};
-ghost use Rattle.ll_polarity.specs.Scope.{meaning};
-ghost use Rattle.ll_polarity.specs.Reading.{read_name};
 ghost use Rattle.ll_polarity.specs.Numbered.{text_of};
 ghost use Rattle.ll_polarity.specs.Built.{put_term, applied};
-ghost use Rattle.ll_polarity.specs.Standing.{met_of, front_term, HasRoom, StandsIn};
+ghost use Rattle.ll_polarity.specs.Standing.{met_of, front_term, HasRoom};
+ghost use Rattle.ll_polarity.specs.Spots.{Stands, texts_of, name_at};
 
-use crate::scope::{Binders, Meaning};
+use crate::scope::Meaning;
+use crate::text::Spot;
 use crate::variables::Variables;
 use ll_bank::{At, Bank, Head, Names, OutOfMemory};
 
@@ -74,31 +74,24 @@ impl Place {
 }
 
 /// What a name stands for.
-pub fn front_of(
-    names: &Names,
-    binders: &Binders<'_>,
-    place: Place,
-    met: &mut Met,
-    name: u32,
-) -> Result<Front, OutOfMemory>
-    requires stands { StandsIn names.now binders.now place }
-    requires name { name < length names.now }
-    requires text { 0 < length (text_of names.now name) }
-    requires room { HasRoom (read_name (meaning binders.now.scope (text_of names.now name)) (met_of names.now met.old) (text_of names.now name)).met }
-    ensures front { IfOk result (λ f. front_term f ≡ put_term place.quantified place.depth
-        (read_name (meaning binders.now.scope (text_of names.now name)) (met_of names.now met.old) (text_of names.now name)).it) }
-    ensures met { IfOk result (λ _. met_of names.now met.new
-        ≡ (read_name (meaning binders.now.scope (text_of names.now name)) (met_of names.now met.old) (text_of names.now name)).met) }
+pub fn front_of(spot: &Spot<'_>, met: &mut Met, name: u32) -> Result<Front, OutOfMemory>
+    requires stands { Stands spot.now }
+    requires name { name < length (texts_of spot.now) }
+    requires text { 0 < length (text_of (texts_of spot.now) name) }
+    requires room { HasRoom (name_at spot.now met.old name).met }
+    ensures front { IfOk result (λ f. front_term f
+        ≡ put_term spot.now.place.quantified spot.now.place.depth (name_at spot.now met.old name).it) }
+    ensures met { IfOk result (λ _. met_of (texts_of spot.now) met.new ≡ (name_at spot.now met.old name).met) }
 {
-    match binders.meaning(name) {
-        Meaning::Bound(further) => Ok(place.binder(further)),
-        Meaning::Local(further) => Ok(place.binder(further)),
+    match spot.binders.meaning(name) {
+        Meaning::Bound(further) => Ok(spot.place.binder(further)),
+        Meaning::Local(further) => Ok(spot.place.binder(further)),
         Meaning::Free => {
             let number = met.variables.add(name)?;
-            Ok(place.variable(number))
+            Ok(spot.place.variable(number))
         }
         Meaning::Constant => {
-            let number = met.names.add(names.text(name))?;
+            let number = met.names.add(spot.text.names.text(name))?;
             Ok(Front::Head(Head::Name(number)))
         }
     }
@@ -107,7 +100,8 @@ pub fn front_of(
 /// A front with arguments.
 pub fn with_arguments(bank: &mut Bank, front: Front, args: &[At]) -> Result<At, OutOfMemory>
     requires { AllInTerms bank.old args.now }
-    ensures shows { IfOk result (λ at. ShowsTerm bank.new at.0 (applied (front_term front) (term_trees bank.old args.now))) }
+    ensures shows { IfOk result (λ at. ShowsTerm bank.new at.0
+        (applied (front_term front) (term_trees bank.old args.now))) }
     ensures keeps { Extends bank.old bank.new }
 {
     match front {

@@ -41,7 +41,8 @@ impl<'a> Headings<'a> {
     /// The fault of a load with so many arguments, whose module's name has this text and place.
     pub fn load_fault(&self, name: &str, at: Place, count: usize) -> Option<Fault>
         ensures { (ms : List Heading) → AreFound self.now.params ms
-            → option_to_list result ≡ load_fault (find (is_named name.now) ms) (record { text = name.now; at = at }) count }
+            → option_to_list result ≡ load_fault (find (is_named name.now) ms)
+            (record { text = name.now; at = at }) count }
     {
         match self.params.get(&name) {
             None => Some(Fault { at, kind: 10 }),

@@ -34,7 +34,8 @@ fn clauses_fault(
     requires ready { AreClausesReady source.now.names.now source.now.forms.now clauses.now }
     requires texts { binders.old.texts ≡ source.now.names.now }
     ensures first { IfOk result (λ fault. (ms : List Heading) → AreFound source.now.headings.now.params ms
-        → IsHead fault (clauses_faults ms binders.old.scope (map (shown_clause source.now.names.now source.now.forms.now) clauses.now))) }
+        → IsHead fault (clauses_faults ms binders.old.scope
+        (map (shown_clause source.now.names.now source.now.forms.now) clauses.now))) }
     ensures binders { IfOk result (λ fault. IfNone fault (binders.new ≡ binders.old)) }
 {
     for clause in clauses {
@@ -50,9 +51,10 @@ fn clauses_fault(
 fn repeated_fault(binders: &mut Binders<'_>, names: &[Named]) -> Result<Option<Fault>, OutOfMemory>
     requires { AreNumbers binders.old.texts names.now }
     ensures first { IfOk result (λ fault. (more : List Identifier)
-        → MatchOption fault (repeated (map (λ b. b.text) binders.old.scope) (map (identifier binders.old.texts) names.now ++ more)
-        ≡ repeated (map (λ b. b.text) binders.new.scope) more)
-        (λ f. IsFirst f (repeated (map (λ b. b.text) binders.old.scope) (map (identifier binders.old.texts) names.now ++ more)))) }
+        → MatchOption fault (repeated (map (λ b. b.text) binders.old.scope)
+        (map (identifier binders.old.texts) names.now ++ more) ≡ repeated (map (λ b. b.text) binders.new.scope) more)
+        (λ f. IsFirst f (repeated (map (λ b. b.text) binders.old.scope) (map (identifier binders.old.texts) names.now
+        ++ more)))) }
     ensures texts { IfOk result (λ fault. binders.new.texts ≡ binders.old.texts) }
 {
     for name in names {
@@ -75,8 +77,9 @@ fn own_names_fault(
     requires scope { binders.old.scope ≡ [] }
     requires params { AreNumbers binders.old.texts body.now.params.items }
     requires locals { AreNumbers binders.old.texts body.now.locals.items }
-    ensures first { IfOk result (λ fault. IsHead fault (repeated []
-        (map (identifier binders.old.texts) body.now.params.items ++ map (identifier binders.old.texts) body.now.locals.items))) }
+    ensures first { IfOk result (λ fault. IsHead fault
+        (repeated [] (map (identifier binders.old.texts) body.now.params.items
+        ++ map (identifier binders.old.texts) body.now.locals.items))) }
     ensures binders { IfOk result (λ fault. IfNone fault (binders.new ≡ binders.old)) }
 {
     let fault = repeated_fault(binders, &body.params)?;
@@ -91,10 +94,11 @@ fn own_names_fault(
 /// More binders, the last one innermost.
 pub fn open_all(binders: &mut Binders<'_>, names: &[Named], local: bool) -> Result<(), OutOfMemory>
     requires { AreNumbers binders.old.texts names.now }
-    ensures { OnOk result (binders.new ≡ record binders.old {
-      scope =
-          map (λ n. record { text = n.text; local = local }) (reverse (map (identifier binders.old.texts) names.now)) ++ binders.old.scope;
-    }) }
+    ensures { OnOk result (binders.new
+        ≡ record binders.old {
+          scope = map (λ n. record { text = n.text; local = local })
+              (reverse (map (identifier binders.old.texts) names.now)) ++ binders.old.scope;
+        }) }
 {
     for name in names {
         binders.open(name.name, local)?;
@@ -139,7 +143,8 @@ fn fault_among(
     requires earlier { earlier.old ≡ record { texts = source.now.names.now; scope = [] } }
     requires binders { binders.old ≡ record { texts = source.now.names.now; scope = [] } }
     ensures { IfOk result (λ fault. (ms : List Heading) → AreFound source.now.headings.now.params ms
-        → IsHead fault (modules_faults ms [] (map (shown_module source.now.names.now source.now.forms.now) modules.now))) }
+        → IsHead fault (modules_faults ms []
+        (map (shown_module source.now.names.now source.now.forms.now) modules.now))) }
 {
     for module in modules {
         if earlier.has(module.name.name) {
@@ -165,7 +170,8 @@ fn modules_fault(
 ) -> Result<Option<Fault>, OutOfMemory>
     requires { All (IsModuleReady source.now.names.now source.now.forms.now) modules.now }
     ensures { IfOk result (λ fault. (ms : List Heading) → AreFound source.now.headings.now.params ms
-        → IsHead fault (modules_faults ms [] (map (shown_module source.now.names.now source.now.forms.now) modules.now))) }
+        → IsHead fault (modules_faults ms []
+        (map (shown_module source.now.names.now source.now.forms.now) modules.now))) }
 {
     let mut earlier = Binders::new(alloc, source.names)?;
     let mut binders = Binders::new(alloc, source.names)?;
@@ -246,7 +252,8 @@ pub fn judge_query(
     query: &RawQuery,
 ) -> Result<Option<Fault>, OutOfMemory>
     requires whole { IsWhole queries query.now }
-    ensures { IfOk result (λ fault. (ms : List Heading) → AreFound headings.now.params ms → IsHead fault (query_faults ms query.now)) }
+    ensures { IfOk result (λ fault. (ms : List Heading) → AreFound headings.now.params ms
+        → IsHead fault (query_faults ms query.now)) }
 {
     let source = Source {
         names: &query.names,

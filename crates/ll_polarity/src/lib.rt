@@ -16,6 +16,7 @@ mod put_forms;
 mod put_modules;
 mod put_terms;
 mod scope;
+mod text;
 mod variables;
 mod walk;
 

@@ -15,9 +15,9 @@ use crate::judge::judge_program;
 use crate::modules::{Modules, places_of};
 use crate::part::Loaded;
 use crate::put_clauses::clauses;
-use crate::put_forms::Text;
 use crate::put_modules::modules;
 use crate::scope::Binders;
+use crate::text::Text;
 use crate::variables::Variables;
 use ll_bank::{Bank, Names, OutOfMemory};
 use ll_laws::{Clause, Module};
@@ -54,14 +54,15 @@ fn put_rows(
     ensures numbered { IfOk result (λ rows. IsNumbered met.new.names rows.modules.items) }
 {
     let text = Text {
+        alloc,
         names: &program.names,
         forms: &program.forms,
         modules: places,
     };
     let mut binders = Binders::new(alloc, &program.names)?;
     let _texts = program.names.len();
-    let clauses = clauses(alloc, &text, &mut binders, met, bank, &program.clauses)?;
-    let modules = modules(alloc, &text, &mut binders, met, bank, &program.modules)?;
+    let clauses = clauses(&text, &mut binders, met, bank, &program.clauses)?;
+    let modules = modules(&text, &mut binders, met, bank, &program.modules)?;
     Ok(Rows { modules, clauses })
 }
 

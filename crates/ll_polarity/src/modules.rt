@@ -27,7 +27,8 @@ impl<'a> Modules<'a> {
 
     /// The module at a place behind the others. After a refusal all is as before.
     pub fn add(&mut self, name: &'a str, place: u32) -> Result<(), OutOfMemory>
-        ensures { OnOk result ((ms : List (List ℕ)) → length ms ≡ place → FindsFirst self.old.places ms → FindsFirst self.new.places (ms ++ name.now ∷ [])) }
+        ensures { OnOk result ((ms : List (List ℕ)) → length ms ≡ place → FindsFirst self.old.places ms
+            → FindsFirst self.new.places (ms ++ name.now ∷ [])) }
     {
         if !self.places.contains_key(&name) {
             self.places.insert(name, place)?;

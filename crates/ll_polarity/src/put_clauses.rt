@@ -15,13 +15,13 @@ ghost use Rattle.ll_polarity.specs.Calls.{IsReady};
 ghost use Rattle.ll_polarity.specs.Grounds.{ground};
 
 use crate::front::Met;
-use crate::put_forms::{Text, form};
+use crate::put_forms::{Formula, form};
 use crate::scope::Binders;
+use crate::text::Text;
 use crate::variables::Variables;
 use ll_bank::{Bank, FormAt, FormNode, OutOfMemory};
 use ll_laws::{Clause, Kind};
 use ll_parser::RawClause;
-use std::alloc::Global;
 
 /// A formula under so many quantifiers.
 fn under(bank: &mut Bank, count: u32, body: FormAt) -> Result<FormAt, OutOfMemory>
@@ -38,7 +38,6 @@ fn under(bank: &mut Bank, count: u32, body: FormAt) -> Result<FormAt, OutOfMemor
 
 /// How many variables a clause has, by a reading into a bank of its own. It meets the names of the clause.
 fn counted(
-    alloc: Global,
     text: &Text<'_>,
     binders: &mut Binders<'_>,
     met: &mut Met,
@@ -46,19 +45,26 @@ fn counted(
 ) -> Result<u32, OutOfMemory>
     requires stands { StandsIn text.now.names.now binders.old (record { quantified = None; depth = 0 }) }
     requires ready { IsReady text.now.names.now text.now.forms.now clause.form.0 }
-    requires room { length met.old.names + length binders.old.scope + 6 * weight (raw_at text.now.names.now text.now.forms.now clause.form.0) < 2 ^ 32 }
-    ensures count { IfOk result (λ count. (ms : List (List ℕ)) → count ≡ length (read_form ms binders.old.scope
-        (record { names = met.old.names; variables = [] }) (raw_at text.now.names.now text.now.forms.now clause.form.0)).met.variables) }
-    ensures names { IfOk result (λ _. (ms : List (List ℕ)) → met.new.names ≡ (read_form ms binders.old.scope
-        (record { names = met.old.names; variables = [] }) (raw_at text.now.names.now text.now.forms.now clause.form.0)).met.names) }
+    requires room { length met.old.names + length binders.old.scope + 6 * weight
+        (raw_at text.now.names.now text.now.forms.now clause.form.0) < 2 ^ 32 }
+    ensures count { IfOk result (λ count. (ms : List (List ℕ))
+        → count ≡ length (read_form ms binders.old.scope (record { names = met.old.names; variables = [] })
+        (raw_at text.now.names.now text.now.forms.now clause.form.0)).met.variables) }
+    ensures names { IfOk result (λ _. (ms : List (List ℕ))
+        → met.new.names ≡ (read_form ms binders.old.scope (record { names = met.old.names; variables = [] })
+        (raw_at text.now.names.now text.now.forms.now clause.form.0)).met.names) }
     ensures few { IfOk result (λ count. length met.new.names + count ≤ length met.old.names
         + weight (raw_at text.now.names.now text.now.forms.now clause.form.0)) }
     ensures scope { IfOk result (λ _. binders.new.scope ≡ binders.old.scope) }
     ensures texts { IfOk result (λ _. binders.new.texts ≡ text.now.names.now) }
 {
-    let mut scratch = Bank::new(alloc);
-    met.variables = Variables::new(alloc);
-    form(alloc, text, binders, None, met, &mut scratch, clause.form)?;
+    let mut scratch = Bank::new(text.alloc);
+    met.variables = Variables::new(text.alloc);
+    let formula = Formula {
+        at: clause.form,
+        quantified: None,
+    };
+    form(text, binders, met, &mut scratch, formula)?;
     let count = met.variables.len() as u32;
     Ok(count)
 }
@@ -67,7 +73,6 @@ fn counted(
 ///
 /// A first reading counts the variables; in a second one each stands for the place of its quantifier.
 fn quantified(
-    alloc: Global,
     text: &Text<'_>,
     binders: &mut Binders<'_>,
     met: &mut Met,
@@ -76,27 +81,35 @@ fn quantified(
 ) -> Result<FormAt, OutOfMemory>
     requires stands { StandsIn text.now.names.now binders.old (record { quantified = None; depth = 0 }) }
     requires ready { IsReady text.now.names.now text.now.forms.now clause.form.0 }
-    requires room { length met.old.names + length binders.old.scope + 6 * weight (raw_at text.now.names.now text.now.forms.now clause.form.0) < 2 ^ 32 }
-    ensures shows { IfOk result (λ form. (ms : List (List ℕ)) (heads : List Heading) → ((w : List ℕ) → (ground text.now).modules w ≡ module_in ms w)
-        → form_faults heads ClauseSide binders.old.scope (raw_at text.now.names.now text.now.forms.now clause.form.0) ≡ []
-        → ShowsForm bank.new form.0 (read_clause ms binders.old.scope met.old.names (shown_clause text.now.names.now text.now.forms.now clause)).it.form) }
-    ensures names { IfOk result (λ _. (ms : List (List ℕ)) → met.new.names
-        ≡ (read_clause ms binders.old.scope met.old.names (shown_clause text.now.names.now text.now.forms.now clause)).names) }
+    requires room { length met.old.names + length binders.old.scope + 6 * weight
+        (raw_at text.now.names.now text.now.forms.now clause.form.0) < 2 ^ 32 }
+    ensures shows { IfOk result (λ form. (ms : List (List ℕ)) (heads : List Heading)
+        → ((w : List ℕ) → (ground text.now).modules w ≡ module_in ms w)
+        → form_faults heads ClauseSide binders.old.scope (raw_at text.now.names.now text.now.forms.now clause.form.0)
+        ≡ [] → ShowsForm bank.new form.0
+        (read_clause ms binders.old.scope met.old.names
+        (shown_clause text.now.names.now text.now.forms.now clause)).it.form) }
+    ensures names { IfOk result (λ _. (ms : List (List ℕ))
+        → met.new.names ≡ (read_clause ms binders.old.scope met.old.names
+        (shown_clause text.now.names.now text.now.forms.now clause)).names) }
     ensures inside { IfOk result (λ form. HasForm bank.new form.0) }
     ensures scope { IfOk result (λ _. binders.new.scope ≡ binders.old.scope) }
     ensures texts { IfOk result (λ _. binders.new.texts ≡ text.now.names.now) }
     ensures keeps { Extends bank.old bank.new }
 {
-    let count = counted(alloc, text, binders, met, clause)?;
+    let count = counted(text, binders, met, clause)?;
     let _known = met.names.len();
-    met.variables = Variables::new(alloc);
-    let body = form(alloc, text, binders, Some(count), met, bank, clause.form)?;
+    met.variables = Variables::new(text.alloc);
+    let formula = Formula {
+        at: clause.form,
+        quantified: Some(count),
+    };
+    let body = form(text, binders, met, bank, formula)?;
     under(bank, count, body)
 }
 
 /// A clause, put into the bank.
 fn clause(
-    alloc: Global,
     text: &Text<'_>,
     binders: &mut Binders<'_>,
     met: &mut Met,
@@ -105,18 +118,23 @@ fn clause(
 ) -> Result<Clause, OutOfMemory>
     requires stands { StandsIn text.now.names.now binders.old (record { quantified = None; depth = 0 }) }
     requires ready { IsReady text.now.names.now text.now.forms.now clause.form.0 }
-    requires room { length met.old.names + length binders.old.scope + 6 * weight (raw_at text.now.names.now text.now.forms.now clause.form.0) < 2 ^ 32 }
-    ensures shows { IfOk result (λ put. (ms : List (List ℕ)) (heads : List Heading) → ((w : List ℕ) → (ground text.now).modules w ≡ module_in ms w)
-        → form_faults heads ClauseSide binders.old.scope (raw_at text.now.names.now text.now.forms.now clause.form.0) ≡ []
-        → clause_tree bank.new put ≡ (read_clause ms binders.old.scope met.old.names (shown_clause text.now.names.now text.now.forms.now clause)).it) }
-    ensures names { IfOk result (λ _. (ms : List (List ℕ)) → met.new.names
-        ≡ (read_clause ms binders.old.scope met.old.names (shown_clause text.now.names.now text.now.forms.now clause)).names) }
+    requires room { length met.old.names + length binders.old.scope + 6 * weight
+        (raw_at text.now.names.now text.now.forms.now clause.form.0) < 2 ^ 32 }
+    ensures shows { IfOk result (λ put. (ms : List (List ℕ)) (heads : List Heading)
+        → ((w : List ℕ) → (ground text.now).modules w ≡ module_in ms w)
+        → form_faults heads ClauseSide binders.old.scope (raw_at text.now.names.now text.now.forms.now clause.form.0)
+        ≡ [] → clause_tree bank.new put
+        ≡ (read_clause ms binders.old.scope met.old.names
+        (shown_clause text.now.names.now text.now.forms.now clause)).it) }
+    ensures names { IfOk result (λ _. (ms : List (List ℕ))
+        → met.new.names ≡ (read_clause ms binders.old.scope met.old.names
+        (shown_clause text.now.names.now text.now.forms.now clause)).names) }
     ensures inside { IfOk result (λ put. HasForm bank.new put.form.0) }
     ensures scope { IfOk result (λ _. binders.new.scope ≡ binders.old.scope) }
     ensures texts { IfOk result (λ _. binders.new.texts ≡ text.now.names.now) }
     ensures keeps { Extends bank.old bank.new }
 {
-    let form = quantified(alloc, text, binders, met, bank, clause)?;
+    let form = quantified(text, binders, met, bank, clause)?;
     let kind = kind_of(clause.linear);
     Ok(Clause { kind, form })
 }
@@ -134,7 +152,6 @@ fn kind_of(linear: bool) -> Kind
 
 /// Clauses, put into the bank in the order of the text.
 pub fn clauses(
-    alloc: Global,
     text: &Text<'_>,
     binders: &mut Binders<'_>,
     met: &mut Met,
@@ -145,20 +162,23 @@ pub fn clauses(
     requires ready { All (λ c. IsReady text.now.names.now text.now.forms.now c.form.0) from.now }
     requires room { length met.old.names + length binders.old.scope
         + 6 * clauses_weight (map (shown_clause text.now.names.now text.now.forms.now) from.now) < 2 ^ 32 }
-    ensures shows { IfOk result (λ put. (ms : List (List ℕ)) (heads : List Heading) → ((w : List ℕ) → (ground text.now).modules w ≡ module_in ms w)
-        → clauses_faults heads binders.old.scope (map (shown_clause text.now.names.now text.now.forms.now) from.now) ≡ []
-        → map (clause_tree bank.new) put.items ≡ (read_clauses ms binders.old.scope met.old.names
+    ensures shows { IfOk result (λ put. (ms : List (List ℕ)) (heads : List Heading)
+        → ((w : List ℕ) → (ground text.now).modules w ≡ module_in ms w)
+        → clauses_faults heads binders.old.scope (map (shown_clause text.now.names.now text.now.forms.now) from.now)
+        ≡ [] → map (clause_tree bank.new) put.items
+        ≡ (read_clauses ms binders.old.scope met.old.names
         (map (shown_clause text.now.names.now text.now.forms.now) from.now)).it) }
-    ensures names { IfOk result (λ _. (ms : List (List ℕ)) → met.new.names
-        ≡ (read_clauses ms binders.old.scope met.old.names (map (shown_clause text.now.names.now text.now.forms.now) from.now)).names) }
+    ensures names { IfOk result (λ _. (ms : List (List ℕ))
+        → met.new.names ≡ (read_clauses ms binders.old.scope met.old.names
+        (map (shown_clause text.now.names.now text.now.forms.now) from.now)).names) }
     ensures inside { IfOk result (λ put. HasClauses bank.new put.items) }
     ensures scope { IfOk result (λ _. binders.new.scope ≡ binders.old.scope) }
     ensures texts { IfOk result (λ _. binders.new.texts ≡ text.now.names.now) }
     ensures keeps { Extends bank.old bank.new }
 {
-    let mut put = Vec::new(alloc);
+    let mut put = Vec::new(text.alloc);
     for raw in from {
-        let next = clause(alloc, text, binders, met, bank, *raw)?;
+        let next = clause(text, binders, met, bank, *raw)?;
         put.push(next)?;
     }
     Ok(put)

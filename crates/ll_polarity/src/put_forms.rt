@@ -2,7 +2,7 @@
 
 ghost use Rattle.std.specs.Prelude.{◌≡◌, ◌*◌, ◌+◌, ◌-◌, ◌^◌, ◌<◌, ◌≤◌, false, ℕ, List, [], ◌∷◌, ◌++◌, length, unwrap_or, slice_index_or, IfOk};
 ghost use Rattle.ll_bank.specs.Nodes.{HasForm, HasParts, ShowsForm, ShowsTerm, form_of, form_tree, Extends};
-ghost use Rattle.ll_lexer.specs.declared.Place.{Place as Spot};
+ghost use Rattle.ll_lexer.specs.declared.Place.{Place as TextPlace};
 ghost use Rattle.ll_parser.specs.Nodes.{raw_at, identifier};
 ghost use Rattle.ll_parser.specs.Raw.{load, RawList};
 ghost use Rattle.ll_parser.specs.Weights.{weight};
@@ -17,14 +17,14 @@ ghost use Rattle.ll_polarity.specs.Calls.{IsReady};
 ghost use Rattle.ll_polarity.specs.Places.{place_in};
 ghost use Rattle.ll_polarity.specs.Frames.{Ground, left_built, right_built, FrameHas, FrameFits, Advances, wraps, within, frame_left};
 ghost use Rattle.ll_polarity.specs.Grounds.{ground};
+ghost use Rattle.ll_polarity.specs.Spots.{Stands, CanRead, texts_of, site, raw_in, term_at, form_at, left_at, right_at};
 
 use crate::front::{Met, Place};
-use crate::modules::Modules;
 use crate::put_terms::{arguments_of, term};
 use crate::scope::Binders;
-use ll_bank::{At, Bank, FormAt, FormNode, Names, OutOfMemory};
-use ll_parser::{Named, Op, RawAt, RawNode, Raws};
-use std::alloc::Global;
+use crate::text::{Spot, Text};
+use ll_bank::{At, Bank, FormAt, FormNode, OutOfMemory};
+use ll_parser::{Named, Op, RawAt, RawNode};
 
 /// The front of a formula, which waits for a part.
 #[derive(Drop)]
@@ -52,12 +52,19 @@ pub enum Step {
     Give(FormAt),
 }
 
-/// The text that formulas are read from, and the places of the program's modules.
+/// The fronts that wait, and where the part stands that the last one waits for.
 #[derive(Drop)]
-pub struct Text<'a> {
-    pub names: &'a Names,
-    pub forms: &'a Raws,
-    pub modules: &'a Modules<'a>,
+struct Fronts {
+    frames: Vec<Frame>,
+    place: Place,
+}
+
+/// A formula of a text: the place of its raw tree, and how many quantifiers are put round it for its variables, `None`
+/// where these stay.
+#[derive(Clone, Copy)]
+pub struct Formula {
+    pub at: RawAt,
+    pub quantified: Option<u32>,
 }
 
 /// Goes into a quantifier that binds a name.
@@ -88,7 +95,8 @@ fn left(binders: &mut Binders<'_>, place: &mut Place)
 fn joined(bank: &mut Bank, op: Op, left: FormAt, right: FormAt) -> Result<FormAt, OutOfMemory>
     requires left { HasForm bank.old left.0 }
     requires right { HasForm bank.old right.0 }
-    ensures shows { IfOk result (λ at. ShowsForm bank.new at.0 (joined op (form_tree bank.old left.0) (form_tree bank.old right.0))) }
+    ensures shows { IfOk result (λ at. ShowsForm bank.new at.0
+        (joined op (form_tree bank.old left.0) (form_tree bank.old right.0))) }
     ensures keeps { Extends bank.old bank.new }
 {
     match op {
@@ -103,26 +111,17 @@ fn joined(bank: &mut Bank, op: Op, left: FormAt, right: FormAt) -> Result<FormAt
 }
 
 /// The term at a place, as an atom.
-fn atom(
-    alloc: Global,
-    text: &Text<'_>,
-    binders: &Binders<'_>,
-    place: Place,
-    met: &mut Met,
-    bank: &mut Bank,
-    at: RawAt,
-) -> Result<FormAt, OutOfMemory>
-    requires stands { StandsIn text.now.names.now binders.now place }
-    requires ready { IsReady text.now.names.now text.now.forms.now at.0 }
-    requires room { HasRoom (built_term (around place binders.now.scope) (met_of text.now.names.now met.old)
-        (raw_at text.now.names.now text.now.forms.now at.0)).met }
+fn atom(spot: &Spot<'_>, met: &mut Met, bank: &mut Bank, at: RawAt) -> Result<FormAt, OutOfMemory>
+    requires stands { Stands spot.now }
+    requires ready { CanRead spot.now at.0 }
+    requires room { HasRoom (term_at spot.now met.old at.0).met }
     ensures shows { IfOk result (λ form. ShowsForm bank.new form.0
-        (Atom (built_term (around place binders.now.scope) (met_of text.now.names.now met.old) (raw_at text.now.names.now text.now.forms.now at.0)).it)) }
-    ensures met { IfOk result (λ _. met_of text.now.names.now met.new
-        ≡ (built_term (around place binders.now.scope) (met_of text.now.names.now met.old) (raw_at text.now.names.now text.now.forms.now at.0)).met) }
+        (Atom (term_at spot.now met.old at.0).it)) }
+    ensures met { IfOk result (λ _. met_of (texts_of spot.now) met.new
+        ≡ (term_at spot.now met.old at.0).met) }
     ensures keeps { Extends bank.old bank.new }
 {
-    let term = term(alloc, text.names, text.forms, binders, place, met, bank, at)?;
+    let term = term(spot, met, bank, at)?;
     bank.form(FormNode::Atom(term))
 }
 
@@ -135,41 +134,37 @@ struct Sides {
 
 /// The terms at two places, from left to right.
 fn both_sides(
-    alloc: Global,
-    text: &Text<'_>,
-    binders: &Binders<'_>,
-    place: Place,
+    spot: &Spot<'_>,
     met: &mut Met,
     bank: &mut Bank,
     left: RawAt,
     right: RawAt,
 ) -> Result<Sides, OutOfMemory>
-    requires stands { StandsIn text.now.names.now binders.now place }
-    requires left { IsReady text.now.names.now text.now.forms.now left.0 }
-    requires right { IsReady text.now.names.now text.now.forms.now right.0 }
-    requires room { HasRoom (right_built (ground text.now) (around place binders.now.scope) (met_of text.now.names.now met.old) left right).met }
+    requires stands { Stands spot.now }
+    requires left { CanRead spot.now left.0 }
+    requires right { CanRead spot.now right.0 }
+    requires room { HasRoom (right_at spot.now met.old left right).met }
     ensures left { IfOk result (λ sides. ShowsTerm bank.new sides.left.0
-        (left_built (ground text.now) (around place binders.now.scope) (met_of text.now.names.now met.old) left).it) }
+        (left_at spot.now met.old left).it) }
     ensures right { IfOk result (λ sides. ShowsTerm bank.new sides.right.0
-        (right_built (ground text.now) (around place binders.now.scope) (met_of text.now.names.now met.old) left right).it) }
-    ensures met { IfOk result (λ _. met_of text.now.names.now met.new
-        ≡ (right_built (ground text.now) (around place binders.now.scope) (met_of text.now.names.now met.old) left right).met) }
+        (right_at spot.now met.old left right).it) }
+    ensures met { IfOk result (λ _. met_of (texts_of spot.now) met.new
+        ≡ (right_at spot.now met.old left right).met) }
     ensures keeps { Extends bank.old bank.new }
 {
-    let left = term(
-        alloc, text.names, text.forms, binders, place, met, bank, left,
-    )?;
-    let right = term(
-        alloc, text.names, text.forms, binders, place, met, bank, right,
-    )?;
+    let left = term(spot, met, bank, left)?;
+    let right = term(spot, met, bank, right)?;
     Ok(Sides { left, right })
 }
 
 /// Gives the formula with this sign to what waits for it.
 fn gives(bank: &mut Bank, node: FormNode<'_>) -> Result<Step, OutOfMemory>
     requires { HasParts bank.old node }
-    ensures step { IfOk result (λ step. (g : Ground) (a : Around) (met : MetView) (left : ℕ) (frames : List FrameView) → 2 < left
-        → Advances g bank.new a (record { it = form_of bank.old node.entry; met = met }) left frames frames step met a) }
+    ensures step { IfOk result (λ step. (g : Ground) (a : Around) (met : MetView) (left : ℕ) (frames : List FrameView)
+        → 2 < left → Advances g bank.new a (record {
+          it = form_of bank.old node.entry;
+          met = met;
+        }) left frames frames step met a) }
     ensures keeps { Extends bank.old bank.new }
 {
     let form = bank.form(node)?;
@@ -188,90 +183,91 @@ fn waits(frames: &mut Vec<Frame>, frame: Frame, part: RawAt) -> Result<Step, Out
 /// Goes into a quantifier, whose front this is, and reads its body.
 fn goes_in(
     binders: &mut Binders<'_>,
-    place: &mut Place,
-    frames: &mut Vec<Frame>,
+    fronts: &mut Fronts,
     frame: Frame,
     name: u32,
     body: RawAt,
 ) -> Result<Step, OutOfMemory>
     requires name { name < length binders.old.texts }
-    requires depth { place.old.depth < 4294967295 }
+    requires depth { fronts.old.place.depth < 4294967295 }
     ensures step { IfOk result (λ step. step ≡ ReadStep body) }
-    ensures frames { IfOk result (λ _. frames.new.items ≡ frames.old.items ++ frame ∷ []) }
+    ensures frames { IfOk result (λ _. fronts.new.frames.items ≡ fronts.old.frames.items ++ frame ∷ []) }
     ensures binders { IfOk result (λ _. binders.new ≡ record binders.old {
       scope =
           record { text = slice_index_or binders.old.texts name []; local = false } ∷ binders.old.scope;
     }) }
-    ensures place { place.new ≡ record place.old { depth = place.old.depth + 1 } }
+    ensures place { fronts.new.place ≡ record fronts.old.place { depth = fronts.old.place.depth + 1 } }
 {
-    entered(binders, place, name)?;
-    waits(frames, frame, body)
+    entered(binders, &mut fronts.place, name)?;
+    waits(&mut fronts.frames, frame, body)
+}
+
+/// A load: its place, the name of its module, and its goal.
+#[derive(Clone, Copy)]
+struct Load {
+    at: RawAt,
+    name: Named,
+    goal: RawAt,
 }
 
 /// Puts on a load, with the arguments at its place, and reads its goal.
 fn loads(
-    alloc: Global,
-    text: &Text<'_>,
-    binders: &Binders<'_>,
-    place: Place,
+    spot: &Spot<'_>,
     met: &mut Met,
     bank: &mut Bank,
     frames: &mut Vec<Frame>,
-    at: RawAt,
-    name: Named,
-    goal: RawAt,
+    call: &Load,
 ) -> Result<Step, OutOfMemory>
-    requires stands { StandsIn text.now.names.now binders.now place }
-    requires ready { IsReady text.now.names.now text.now.forms.now at.0 }
-    requires room { HasRoom (built_form (ground text.now).modules (around place binders.now.scope) (met_of text.now.names.now met.old)
-        (raw_at text.now.names.now text.now.forms.now at.0)).met }
-    requires load { (there : Spot) × (args : RawList) × (raw_at text.now.names.now text.now.forms.now at.0
-        ≡ load there (identifier text.now.names.now name) args (raw_at text.now.names.now text.now.forms.now goal.0)) }
-    requires name { name.name < length text.now.names.now }
-    requires goal { goal.0 < at.0 }
-    ensures step { IfOk result (λ step. Advances (ground text.now) bank.new (around place binders.now.scope)
-        (built_form (ground text.now).modules (around place binders.now.scope) (met_of text.now.names.now met.old)
-        (raw_at text.now.names.now text.now.forms.now at.0)) (5 * weight (raw_at text.now.names.now text.now.forms.now at.0)) frames.old.items frames.new.items
-        step (met_of text.now.names.now met.new) (around place binders.now.scope)) }
+    requires stands { Stands spot.now }
+    requires ready { CanRead spot.now call.now.at.0 }
+    requires room { HasRoom (form_at spot.now met.old call.now.at.0).met }
+    requires load { (there : TextPlace) × (args : RawList) × (raw_in spot.now call.now.at.0
+        ≡ load there (identifier (texts_of spot.now) call.now.name) args (raw_in spot.now call.now.goal.0)) }
+    requires name { call.now.name.name < length (texts_of spot.now) }
+    requires goal { call.now.goal.0 < call.now.at.0 }
+    ensures step { IfOk result (λ step. Advances (ground spot.now.text.now) bank.new (site spot.now).around
+        (form_at spot.now met.old call.now.at.0)
+        (5 * weight (raw_in spot.now call.now.at.0)) frames.old.items frames.new.items step
+        (met_of (texts_of spot.now) met.new) (site spot.now).around) }
     ensures keeps { Extends bank.old bank.new }
 {
-    let module = text.modules.place_of(text.names.text(name.name));
-    let args = arguments_of(alloc, text.names, text.forms, binders, place, met, bank, at)?;
-    waits(frames, Frame::Load(module, args), goal)
+    let module = spot
+        .text
+        .modules
+        .place_of(spot.text.names.text(call.name.name));
+    let args = arguments_of(spot, met, bank, call.at)?;
+    waits(frames, Frame::Load(module, args), call.goal)
 }
 
 /// Gives the whole-number goal at a place to what waits for it.
 fn number_goal(
-    alloc: Global,
-    text: &Text<'_>,
-    binders: &Binders<'_>,
-    place: Place,
+    spot: &Spot<'_>,
     met: &mut Met,
     bank: &mut Bank,
     at: RawAt,
 ) -> Result<Step, OutOfMemory>
-    requires stands { StandsIn text.now.names.now binders.now place }
-    requires ready { IsReady text.now.names.now text.now.forms.now at.0 }
-    requires number { IsNumberGoal (raw_at text.now.names.now text.now.forms.now at.0) }
-    requires room { HasRoom (built_form (ground text.now).modules (around place binders.now.scope) (met_of text.now.names.now met.old)
-        (raw_at text.now.names.now text.now.forms.now at.0)).met }
-    ensures step { (frames : List FrameView) → IfOk result (λ step. Advances (ground text.now) bank.new (around place binders.now.scope)
-        (built_form (ground text.now).modules (around place binders.now.scope) (met_of text.now.names.now met.old)
-        (raw_at text.now.names.now text.now.forms.now at.0)) (5 * weight (raw_at text.now.names.now text.now.forms.now at.0)) frames frames step
-        (met_of text.now.names.now met.new) (around place binders.now.scope)) }
+    requires stands { Stands spot.now }
+    requires ready { CanRead spot.now at.0 }
+    requires number { IsNumberGoal (raw_in spot.now at.0) }
+    requires room { HasRoom (form_at spot.now met.old at.0).met }
+    ensures step { (frames : List FrameView)
+        → IfOk result (λ step. Advances (ground spot.now.text.now) bank.new (site spot.now).around
+        (form_at spot.now met.old at.0)
+        (5 * weight (raw_in spot.now at.0)) frames frames step
+        (met_of (texts_of spot.now) met.new) (site spot.now).around) }
     ensures keeps { Extends bank.old bank.new }
 {
-    match text.forms.node(at) {
+    match spot.text.forms.node(at) {
         RawNode::Is(left, right) => {
-            let sides = both_sides(alloc, text, binders, place, met, bank, left, right)?;
+            let sides = both_sides(spot, met, bank, left, right)?;
             gives(bank, FormNode::Is(sides.left, sides.right))
         }
         RawNode::Less(left, right) => {
-            let sides = both_sides(alloc, text, binders, place, met, bank, left, right)?;
+            let sides = both_sides(spot, met, bank, left, right)?;
             gives(bank, FormNode::Less(sides.left, sides.right))
         }
         RawNode::Most(left, right) => {
-            let sides = both_sides(alloc, text, binders, place, met, bank, left, right)?;
+            let sides = both_sides(spot, met, bank, left, right)?;
             gives(bank, FormNode::Most(sides.left, sides.right))
         }
         _ => unreachable!(),
@@ -280,84 +276,91 @@ fn number_goal(
 
 /// Begins the formula at a place.
 fn begun(
-    alloc: Global,
     text: &Text<'_>,
     binders: &mut Binders<'_>,
-    place: &mut Place,
+    fronts: &mut Fronts,
     met: &mut Met,
     bank: &mut Bank,
-    frames: &mut Vec<Frame>,
     at: RawAt,
 ) -> Result<Step, OutOfMemory>
-    requires stands { StandsIn text.now.names.now binders.old place.old }
+    requires stands { StandsIn text.now.names.now binders.old fronts.old.place }
     requires ready { IsReady text.now.names.now text.now.forms.now at.0 }
-    requires high { length binders.old.scope + unwrap_or place.old.quantified 0 + 5 * weight (raw_at text.now.names.now text.now.forms.now at.0) < 2 ^ 32 }
-    requires room { HasRoom (built_form (ground text.now).modules (around place.old binders.old.scope) (met_of text.now.names.now met.old)
-        (raw_at text.now.names.now text.now.forms.now at.0)).met }
-    ensures step { IfOk result (λ step. Advances (ground text.now) bank.new (around place.old binders.old.scope)
-        (built_form (ground text.now).modules (around place.old binders.old.scope) (met_of text.now.names.now met.old)
-        (raw_at text.now.names.now text.now.forms.now at.0)) (5 * weight (raw_at text.now.names.now text.now.forms.now at.0)) frames.old.items frames.new.items
-        step (met_of text.now.names.now met.new) (around place.new binders.new.scope)) }
-    ensures stands { IfOk result (λ _. StandsIn text.now.names.now binders.new place.new) }
+    requires high { length binders.old.scope + unwrap_or fronts.old.place.quantified 0 + 5 * weight
+        (raw_at text.now.names.now text.now.forms.now at.0) < 2 ^ 32 }
+    requires room { HasRoom (built_form (ground text.now).modules (around fronts.old.place binders.old.scope)
+        (met_of text.now.names.now met.old) (raw_at text.now.names.now text.now.forms.now at.0)).met }
+    ensures step { IfOk result (λ step. Advances (ground text.now) bank.new (around fronts.old.place binders.old.scope)
+        (built_form (ground text.now).modules (around fronts.old.place binders.old.scope)
+        (met_of text.now.names.now met.old) (raw_at text.now.names.now text.now.forms.now at.0))
+        (5 * weight (raw_at text.now.names.now text.now.forms.now at.0)) fronts.old.frames.items
+        fronts.new.frames.items step
+        (met_of text.now.names.now met.new) (around fronts.new.place binders.new.scope)) }
+    ensures stands { IfOk result (λ _. StandsIn text.now.names.now binders.new fronts.new.place) }
     ensures scope { IfOk result (λ _. length binders.new.scope ≤ length binders.old.scope + 1) }
     ensures keeps { Extends bank.old bank.new }
 {
+    let spot = Spot {
+        text: &*text,
+        binders: &*binders,
+        place: fronts.place,
+    };
     match text.forms.node(at) {
         RawNode::True => gives(bank, FormNode::One),
         RawNode::Erase => gives(bank, FormNode::Top),
-        RawNode::Braces(goal) => waits(frames, Frame::Braces, goal),
+        RawNode::Braces(goal) => waits(&mut fronts.frames, Frame::Braces, goal),
         RawNode::Forall(name, body) => {
             let front = Frame::Forall(name.name);
-            goes_in(binders, place, frames, front, name.name, body)
+            goes_in(binders, fronts, front, name.name, body)
         }
         RawNode::Exists(name, body) => {
             let front = Frame::Exists(name.name);
-            goes_in(binders, place, frames, front, name.name, body)
+            goes_in(binders, fronts, front, name.name, body)
         }
-        RawNode::Load(name, _, goal) => loads(
-            alloc, text, binders, *place, met, bank, frames, at, name, goal,
-        ),
-        RawNode::Binary(op, left, right) => waits(frames, Frame::Left(op, right), left),
+        RawNode::Load(name, _, goal) => {
+            let load = Load { at, name, goal };
+            loads(&spot, met, bank, &mut fronts.frames, &load)
+        }
+        RawNode::Binary(op, left, right) => waits(&mut fronts.frames, Frame::Left(op, right), left),
         RawNode::Head(_, _) | RawNode::Any | RawNode::Int(_) => {
-            let form = atom(alloc, text, binders, *place, met, bank, at)?;
+            let form = atom(&spot, met, bank, at)?;
             Ok(Step::Give(form))
         }
-        RawNode::Is(_, _) => number_goal(alloc, text, binders, *place, met, bank, at),
-        RawNode::Less(_, _) => number_goal(alloc, text, binders, *place, met, bank, at),
-        RawNode::Most(_, _) => number_goal(alloc, text, binders, *place, met, bank, at),
+        RawNode::Is(_, _) => number_goal(&spot, met, bank, at),
+        RawNode::Less(_, _) => number_goal(&spot, met, bank, at),
+        RawNode::Most(_, _) => number_goal(&spot, met, bank, at),
     }
 }
 
 /// Gives a formula to the front that waits for it.
 fn given(
     binders: &mut Binders<'_>,
-    place: &mut Place,
+    fronts: &mut Fronts,
     bank: &mut Bank,
-    frames: &mut Vec<Frame>,
     frame: Frame,
     form: FormAt,
 ) -> Result<Step, OutOfMemory>
     requires fits { FrameHas bank.old frame }
     requires form { HasForm bank.old form.0 }
     ensures step { IfOk result (λ step. (g : Ground) (a : Around) (met : MetView) → FrameFits g bank.old frame
-        → around place.old binders.old.scope ≡ within g a frame
-        → Advances g bank.new a (wraps g bank.old a frame (record { it = form_tree bank.old form.0; met = met })) (frame_left g frame + 2) frames.old.items
-        frames.new.items step met (around place.new binders.new.scope)) }
+        → around fronts.old.place binders.old.scope ≡ within g a frame
+        → Advances g bank.new a (wraps g bank.old a frame (record { it = form_tree bank.old form.0; met = met }))
+        (frame_left g frame + 2) fronts.old.frames.items fronts.new.frames.items step met
+        (around fronts.new.place binders.new.scope)) }
     ensures texts { binders.new.texts ≡ binders.old.texts }
     ensures keeps { Extends bank.old bank.new }
 {
     match frame {
         Frame::Braces => Ok(Step::Give(bank.form(FormNode::Bang(form))?)),
         Frame::Forall(_) => {
-            left(binders, place);
+            left(binders, &mut fronts.place);
             Ok(Step::Give(bank.form(FormNode::Forall(form))?))
         }
         Frame::Exists(_) => {
-            left(binders, place);
+            left(binders, &mut fronts.place);
             Ok(Step::Give(bank.form(FormNode::Exists(form))?))
         }
         Frame::Left(op, right) => {
-            frames.push(Frame::Right(op, form))?;
+            fronts.frames.push(Frame::Right(op, form))?;
             Ok(Step::Read(right))
         }
         Frame::Right(op, left) => Ok(Step::Give(joined(bank, op, left, form)?)),
@@ -367,41 +370,42 @@ fn given(
 
 /// The formula at a place. The binders are those round it again.
 pub fn form(
-    alloc: Global,
     text: &Text<'_>,
     binders: &mut Binders<'_>,
-    quantified: Option<u32>,
     met: &mut Met,
     bank: &mut Bank,
-    at: RawAt,
+    formula: Formula,
 ) -> Result<FormAt, OutOfMemory>
-    requires stands { StandsIn text.now.names.now binders.old (record { quantified = quantified; depth = 0 }) }
-    requires ready { IsReady text.now.names.now text.now.forms.now at.0 }
-    requires high { length binders.old.scope + unwrap_or quantified 0 + 5 * weight (raw_at text.now.names.now text.now.forms.now at.0) < 2 ^ 32 }
-    requires room { HasRoom (built_form (ground text.now).modules (outermost quantified binders.old.scope) (met_of text.now.names.now met.old)
-        (raw_at text.now.names.now text.now.forms.now at.0)).met }
+    requires stands { StandsIn text.now.names.now binders.old (record { quantified = formula.quantified; depth = 0 }) }
+    requires ready { IsReady text.now.names.now text.now.forms.now formula.at.0 }
+    requires high { length binders.old.scope + unwrap_or formula.quantified 0 + 5 * weight
+        (raw_at text.now.names.now text.now.forms.now formula.at.0) < 2 ^ 32 }
+    requires room { HasRoom (built_form (ground text.now).modules (outermost formula.quantified binders.old.scope)
+        (met_of text.now.names.now met.old) (raw_at text.now.names.now text.now.forms.now formula.at.0)).met }
     ensures shows { IfOk result (λ form. ShowsForm bank.new form.0
-        (built_form (ground text.now).modules (outermost quantified binders.old.scope) (met_of text.now.names.now met.old)
-        (raw_at text.now.names.now text.now.forms.now at.0)).it) }
+        (built_form (ground text.now).modules (outermost formula.quantified binders.old.scope)
+        (met_of text.now.names.now met.old) (raw_at text.now.names.now text.now.forms.now formula.at.0)).it) }
     ensures met { IfOk result (λ _. met_of text.now.names.now met.new
-        ≡ (built_form (ground text.now).modules (outermost quantified binders.old.scope) (met_of text.now.names.now met.old)
-        (raw_at text.now.names.now text.now.forms.now at.0)).met) }
+        ≡ (built_form (ground text.now).modules (outermost formula.quantified binders.old.scope)
+        (met_of text.now.names.now met.old) (raw_at text.now.names.now text.now.forms.now formula.at.0)).met) }
     ensures scope { IfOk result (λ _. binders.new.scope ≡ binders.old.scope) }
     ensures texts { IfOk result (λ _. binders.new.texts ≡ text.now.names.now) }
     ensures keeps { Extends bank.old bank.new }
 {
-    let mut place = Place {
-        quantified,
-        depth: 0,
+    let mut fronts = Fronts {
+        frames: Vec::new(text.alloc),
+        place: Place {
+            quantified: formula.quantified,
+            depth: 0,
+        },
     };
-    let mut frames = Vec::new(alloc);
-    let mut step = Step::Read(at);
+    let mut step = Step::Read(formula.at);
     'steps: loop {
         step = match step {
-            Step::Read(at) => begun(alloc, text, binders, &mut place, met, bank, &mut frames, at)?,
-            Step::Give(form) => match frames.pop() {
+            Step::Read(at) => begun(text, binders, &mut fronts, met, bank, at)?,
+            Step::Give(form) => match fronts.frames.pop() {
                 None => return Ok(form),
-                Some(frame) => given(binders, &mut place, bank, &mut frames, frame, form)?,
+                Some(frame) => given(binders, &mut fronts, bank, frame, form)?,
             },
         };
     }

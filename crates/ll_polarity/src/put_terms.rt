@@ -4,15 +4,15 @@ ghost use Rattle.std.specs.Prelude.{◌≡◌, ℕ, suc, ◌<◌, List, length, 
 ghost use Rattle.ll_bank.specs.Nodes.{term_trees, ShowsTerm, AllInTerms, Extends};
 ghost use Rattle.ll_parser.specs.Nodes.{raw_at};
 ghost use Rattle.ll_parser.specs.Raw.{none, more};
-ghost use Rattle.ll_polarity.specs.Built.{built_term, built_terms, arguments, raws_past};
-ghost use Rattle.ll_polarity.specs.Standing.{met_of, around, HasRoom, StandsIn};
-ghost use Rattle.ll_polarity.specs.Calls.{Site, IsReady, TurnFits, IsBegun, IsResumed, IsGiven, opens};
+ghost use Rattle.ll_polarity.specs.Built.{arguments, raws_past};
+ghost use Rattle.ll_polarity.specs.Standing.{met_of, HasRoom};
+ghost use Rattle.ll_polarity.specs.Calls.{TurnFits, IsBegun, IsResumed, IsGiven, opens};
+ghost use Rattle.ll_polarity.specs.Spots.{Stands, CanRead, texts_of, forms_of, site, term_at, args_at};
 
-use crate::front::{Front, Met, Place, front_of, with_arguments};
-use crate::scope::Binders;
-use ll_bank::{At, Bank, Names, OutOfMemory};
+use crate::front::{Front, Met, front_of, with_arguments};
+use crate::text::Spot;
+use ll_bank::{At, Bank, OutOfMemory};
 use ll_parser::{RawAt, RawNode, Raws};
-use std::alloc::Global;
 
 /// A name whose arguments are put in, with those that are.
 #[derive(Drop)]
@@ -36,8 +36,10 @@ pub enum Turn {
 /// The argument of a name or a load with this number, counted from 0.
 pub fn argument(forms: &Raws, at: RawAt, number: usize) -> Option<RawAt>
     requires { at.0 < length forms.now }
-    ensures { (texts : List (List ℕ)) → MatchOption result (raws_past number (arguments (raw_at texts forms.now at.0)) ≡ none)
-        (λ arg. (arg.0 < length forms.now) × (raws_past number (arguments (raw_at texts forms.now at.0))
+    ensures { (texts : List (List ℕ))
+        → MatchOption result (raws_past number (arguments (raw_at texts forms.now at.0)) ≡ none)
+        (λ arg. (arg.0 < length forms.now)
+        × (raws_past number (arguments (raw_at texts forms.now at.0))
         ≡ more (raw_at texts forms.now arg.0) (raws_past (suc number) (arguments (raw_at texts forms.now at.0))))) }
 {
     match forms.node(at) {
@@ -64,34 +66,25 @@ fn nth(places: &[RawAt], number: usize) -> Option<RawAt>
 }
 
 /// Begins the term at a place.
-fn begun(
-    alloc: Global,
-    names: &Names,
-    forms: &Raws,
-    binders: &Binders<'_>,
-    place: Place,
-    met: &mut Met,
-    bank: &mut Bank,
-    at: RawAt,
-) -> Result<Turn, OutOfMemory>
-    requires stands { StandsIn names.now binders.now place }
-    requires ready { IsReady names.now forms.now at.0 }
-    requires room { HasRoom (built_term (around place binders.now.scope) (met_of names.now met.old) (raw_at names.now forms.now at.0)).met }
-    ensures begun { IfOk result (λ turn. opens (record { texts = names.now; forms = forms.now; around = around place binders.now.scope }) bank.new turn
-        (met_of names.now met.new) ≡ built_term (around place binders.now.scope) (met_of names.now met.old) (raw_at names.now forms.now at.0)) }
-    ensures fits { IfOk result (TurnFits names.now forms.now bank.new) }
+fn begun(spot: &Spot<'_>, met: &mut Met, bank: &mut Bank, at: RawAt) -> Result<Turn, OutOfMemory>
+    requires stands { Stands spot.now }
+    requires ready { CanRead spot.now at.0 }
+    requires room { HasRoom (term_at spot.now met.old at.0).met }
+    ensures begun { IfOk result (λ turn. opens (site spot.now) bank.new turn (met_of (texts_of spot.now) met.new)
+        ≡ term_at spot.now met.old at.0) }
+    ensures fits { IfOk result (TurnFits (texts_of spot.now) (forms_of spot.now) bank.new) }
     ensures next { IfOk result (IsBegun at) }
     ensures keeps { Extends bank.old bank.new }
 {
-    match forms.node(at) {
+    match spot.text.forms.node(at) {
         RawNode::Head(name, _) => {
-            let front = front_of(names, binders, place, met, name.name)?;
-            let args = Vec::new(alloc);
+            let front = front_of(spot, met, name.name)?;
+            let args = Vec::new(spot.text.alloc);
             Ok(Turn::Resume(Call { front, at, args }))
         }
         RawNode::Any => {
             let number = met.variables.add_nameless()?;
-            let term = with_arguments(bank, place.variable(number), &[])?;
+            let term = with_arguments(bank, spot.place.variable(number), &[])?;
             Ok(Turn::Give(term))
         }
         RawNode::Int(value) => {
@@ -148,31 +141,20 @@ fn given(mut call: Call, term: At) -> Result<Turn, OutOfMemory>
 }
 
 /// The term at a place.
-pub fn term(
-    alloc: Global,
-    names: &Names,
-    forms: &Raws,
-    binders: &Binders<'_>,
-    place: Place,
-    met: &mut Met,
-    bank: &mut Bank,
-    at: RawAt,
-) -> Result<At, OutOfMemory>
-    requires stands { StandsIn names.now binders.now place }
-    requires ready { IsReady names.now forms.now at.0 }
-    requires room { HasRoom (built_term (around place binders.now.scope) (met_of names.now met.old) (raw_at names.now forms.now at.0)).met }
-    ensures shows { IfOk result (λ term. ShowsTerm bank.new term.0
-        (built_term (around place binders.now.scope) (met_of names.now met.old) (raw_at names.now forms.now at.0)).it) }
-    ensures met { IfOk result (λ _. met_of names.now met.new
-        ≡ (built_term (around place binders.now.scope) (met_of names.now met.old) (raw_at names.now forms.now at.0)).met) }
+pub fn term(spot: &Spot<'_>, met: &mut Met, bank: &mut Bank, at: RawAt) -> Result<At, OutOfMemory>
+    requires stands { Stands spot.now }
+    requires ready { CanRead spot.now at.0 }
+    requires room { HasRoom (term_at spot.now met.old at.0).met }
+    ensures shows { IfOk result (λ term. ShowsTerm bank.new term.0 (term_at spot.now met.old at.0).it) }
+    ensures met { IfOk result (λ _. met_of (texts_of spot.now) met.new ≡ (term_at spot.now met.old at.0).met) }
     ensures keeps { Extends bank.old bank.new }
 {
-    let mut calls = Vec::new(alloc);
+    let mut calls = Vec::new(spot.text.alloc);
     let mut turn = Turn::Read(at);
     'turns: loop {
         turn = match turn {
-            Turn::Read(at) => begun(alloc, names, forms, binders, place, met, bank, at)?,
-            Turn::Resume(call) => resumed(forms, bank, &mut calls, call)?,
+            Turn::Read(at) => begun(spot, met, bank, at)?,
+            Turn::Resume(call) => resumed(spot.text.forms, bank, &mut calls, call)?,
             Turn::Give(term) => match calls.pop() {
                 None => return Ok(term),
                 Some(call) => given(call, term)?,
@@ -183,28 +165,22 @@ pub fn term(
 
 /// The arguments of the name or the load at a place.
 pub fn arguments_of(
-    alloc: Global,
-    names: &Names,
-    forms: &Raws,
-    binders: &Binders<'_>,
-    place: Place,
+    spot: &Spot<'_>,
     met: &mut Met,
     bank: &mut Bank,
     at: RawAt,
 ) -> Result<Vec<At>, OutOfMemory>
-    requires stands { StandsIn names.now binders.now place }
-    requires ready { IsReady names.now forms.now at.0 }
-    requires room { HasRoom (built_terms (around place binders.now.scope) (met_of names.now met.old) (arguments (raw_at names.now forms.now at.0))).met }
+    requires stands { Stands spot.now }
+    requires ready { CanRead spot.now at.0 }
+    requires room { HasRoom (args_at spot.now met.old at.0).met }
     ensures inside { IfOk result (λ args. AllInTerms bank.new args.items) }
-    ensures show { IfOk result (λ args. term_trees bank.new args.items
-        ≡ (built_terms (around place binders.now.scope) (met_of names.now met.old) (arguments (raw_at names.now forms.now at.0))).it) }
-    ensures met { IfOk result (λ _. met_of names.now met.new
-        ≡ (built_terms (around place binders.now.scope) (met_of names.now met.old) (arguments (raw_at names.now forms.now at.0))).met) }
+    ensures show { IfOk result (λ args. term_trees bank.new args.items ≡ (args_at spot.now met.old at.0).it) }
+    ensures met { IfOk result (λ _. met_of (texts_of spot.now) met.new ≡ (args_at spot.now met.old at.0).met) }
     ensures keeps { Extends bank.old bank.new }
 {
-    let mut args = Vec::new(alloc);
-    'arguments: while let Some(arg) = argument(forms, at, args.len()) {
-        let put = term(alloc, names, forms, binders, place, met, bank, arg)?;
+    let mut args = Vec::new(spot.text.alloc);
+    'arguments: while let Some(arg) = argument(spot.text.forms, at, args.len()) {
+        let put = term(spot, met, bank, arg)?;
         args.push(put)?;
     }
     Ok(args)

@@ -116,7 +116,8 @@ impl<'a> Binders<'a> {
     /// Whether something binds a name.
     pub fn has(&self, name: u32) -> bool
         requires { name < length self.now.texts }
-        ensures { result ≡ list_any (bytes_eq (slice_index_or self.now.texts name [])) (map (λ b. b.text) self.now.scope) }
+        ensures { result ≡ list_any (bytes_eq (slice_index_or self.now.texts name []))
+            (map (λ b. b.text) self.now.scope) }
     {
         self.innermost[name as usize].is_some()
     }

@@ -116,7 +116,8 @@ fn open_body(
     body: RawAt,
 ) -> Result<(), OutOfMemory>
     requires { name.name < length binders.old.texts }
-    ensures binders { OnOk result (binders.new ≡ record binders.old { scope = binds (slice_index_or binders.old.texts name.name []) ∷ binders.old.scope }) }
+    ensures binders { OnOk result (binders.new
+        ≡ record binders.old { scope = binds (slice_index_or binders.old.texts name.name []) ∷ binders.old.scope }) }
     ensures parts { OnOk result (parts.new ≡ Form side body ∷ (Close ∷ parts.old)) }
 {
     binders.open(name.name, false)?;
@@ -124,20 +125,19 @@ fn open_body(
     parts.push(Part::Form(side, body))
 }
 
-// Puts the parts of a load next, of which this is the first fault.
+// Puts the parts of a load next: its first fault, its arguments, its own fault, and its goal.
 fn open_load(
     parts: &mut Parts,
     fault: Option<Fault>,
     args: &[RawAt],
-    side: Side,
-    at: Place,
-    goal: RawAt,
+    own: Option<Fault>,
+    goal: Part,
 ) -> Result<(), OutOfMemory>
     ensures { OnOk result (parts.new ≡ map Found (option_to_list fault)
-        ++ (map Term args.now ++ (map Found (unless_fault (on_goal_side (side_of side)) 8 at) ++ Form side goal ∷ parts.old))) }
+        ++ (map Term args.now ++ (map Found (option_to_list own) ++ goal ∷ parts.old))) }
 {
-    parts.push(Part::Form(side, goal))?;
-    parts.push_fault(unless(is_goal(side), at, 8))?;
+    parts.push(goal)?;
+    parts.push_fault(own)?;
     parts.push_terms(args)?;
     parts.push_fault(fault)
 }
@@ -161,6 +161,13 @@ fn goal_fault(side: Side, at: Place) -> Option<Fault>
     ensures { option_to_list result ≡ unless_fault (on_goal_side (side_of side)) 7 at }
 {
     unless(is_goal(side), at, 7)
+}
+
+// The fault of a load that stands on the side of clauses.
+fn misplaced_load(side: Side, at: Place) -> Option<Fault>
+    ensures { option_to_list result ≡ unless_fault (on_goal_side (side_of side)) 8 at }
+{
+    unless(is_goal(side), at, 8)
 }
 
 // Puts a part next, behind a fault.
@@ -221,7 +228,8 @@ fn open_form(
         RawNode::Load(name, args, goal) => {
             let text = source.names.text(name.name);
             let fault = source.headings.load_fault(text, name.at, args.len());
-            open_load(parts, fault, args, side, place, goal)
+            let own = misplaced_load(side, place);
+            open_load(parts, fault, args, own, Part::Form(side, goal))
         }
         RawNode::Binary(op, left, right) => {
             let left = Part::Form(left_side(op, side), left);
@@ -251,7 +259,8 @@ pub fn first_fault(
     requires ready { IsReady source.now.names.now source.now.forms.now at }
     requires texts { binders.old.texts ≡ source.now.names.now }
     ensures first { IfOk result (λ fault. (ms : List Heading) → AreFound source.now.headings.now.params ms
-        → IsHead fault (form_faults ms (side_of side) binders.old.scope (raw_at source.now.names.now source.now.forms.now at.0))) }
+        → IsHead fault (form_faults ms (side_of side) binders.old.scope
+        (raw_at source.now.names.now source.now.forms.now at.0))) }
     ensures binders { IfOk result (λ fault. IfNone fault (binders.new ≡ binders.old)) }
 {
     let mut parts = Parts::new(alloc);

@@ -9,7 +9,7 @@ use Rattle.ll_laws.specs.CoreEvents.{Publish, Report, Publishes, Does, reported}
 use Rattle.ll_core.specs.Calls.{ClaimsAs, publish_answer}
 use Rattle.ll_core.specs.declared.answers.Claimed.{Claimed}
 use Rattle.ll_core.specs.declared.answers.PublishFault.{PublishFault}
-use Rattle.ll_pool.specs.Fits.{Fits, ChangesLawfully, number_of}
+use Rattle.ll_pool.specs.Fits.{SeatFits, ChangesLawfully, number_of}
 use Rattle.ll_pool.specs.Turns.{SeatSight, OneTurn, EndsWith, OwesWork, OwesRest, number_made}
 use Rattle.ll_pool.proofs.Turning.{Keeps, GivesBack, TakesTurn, fits_now, own_now, number_now, piece_after, turn_made, seat_kept}
 use Rattle.ll_pool.proofs.Owing.{claim_lawful, owes_work, made_number, publish_does, publish_lawful, owes_rest, rest_number, report_does, report_lawful}
@@ -85,7 +85,7 @@ module _ {N Of : Type 0} {of : N → Of} {alternatives : N → List (Owed Event)
     pub claim_kept : {made : Option ℕ} → made ≡ number_made answer → Keeps given worker made
     claim_kept is = seat_kept h.turn q given gave (made_number of alternatives answer given.mine.piece claim_owes ∙ sym is)
 
-    pub claim_made : Fits of alternatives q given.problem given.mine
+    pub claim_made : SeatFits of alternatives q given.problem given.mine
         → OneTurn of alternatives (λ found left. ClaimsAs alternatives found now.mine.worker answer left) now given
     claim_made = turn_made h.turn q given gave (λ found left. ClaimsAs alternatives found now.mine.worker answer left) h.did
 
@@ -105,7 +105,7 @@ module _ {N Of : Type 0} {of : N → Of} {alternatives : N → List (Owed Event)
     publish_kept = seat_kept h.turn q given gave
         (rest_number of alternatives (alternatives batch) answer now.mine.piece given.mine.piece publish_owes ∙ number_now h.turn)
 
-    pub publish_made : Fits of alternatives q given.problem given.mine
+    pub publish_made : SeatFits of alternatives q given.problem given.mine
         → OneTurn of alternatives (λ found left. Does alternatives found (Publish now.mine.worker batch (publish_answer answer)) left) now given
     publish_made = turn_made h.turn q given gave (λ found left. Does alternatives found (Publish now.mine.worker batch (publish_answer answer)) left)
         (publish_does of alternatives now.problem v q now.mine (fits_now h.turn) n h.number batch (publish_answer answer) h.did)
@@ -124,7 +124,7 @@ module _ {N Of : Type 0} {of : N → Of} {alternatives : N → List (Owed Event)
     pub report_kept : Keeps given worker None
     report_kept = seat_kept h.turn q given gave (ap (option_map number_of) report_owes)
 
-    pub report_made : Fits of alternatives q given.problem given.mine
+    pub report_made : SeatFits of alternatives q given.problem given.mine
         → OneTurn of alternatives (λ found left. Does alternatives found (Report now.mine.worker report) left) now given
     report_made = turn_made h.turn q given gave (λ found left. Does alternatives found (Report now.mine.worker report) left)
         (report_does of alternatives now.problem v q now.mine (fits_now h.turn) n h.number report h.did)

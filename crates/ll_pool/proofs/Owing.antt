@@ -4,7 +4,7 @@ use Rattle.std.specs.Prelude.{option_map, slice_get, sum_by}
 use Rattle.std.specs.Arc.{arc_value}
 use Rattle.std.specs.declared.result.Result.{Result}
 use Rattle.std.specs.declared.result.Result.TheVariants.{Ok, Err}
-use Rattle.ll_lists.proofs.CallerLemmas.{some_is, none_not_some}
+use Rattle.ll_list_laws.proofs.CallerLemmas.{some_is, none_not_some}
 use Rattle.ll_laws.specs.declared.Event.{Event}
 use Rattle.ll_laws.specs.Pool.{Owed, Piece, PoolData}
 use Rattle.ll_laws.specs.Spread.{share, owes_of, owed_at, owed_or_nothing, list_or_empty}
@@ -19,7 +19,7 @@ use Rattle.ll_core.specs.declared.answers.Claimed.TheVariants.{Work, Idle, Finis
 use Rattle.ll_core.specs.declared.answers.PublishFault.{PublishFault}
 use Rattle.ll_core.specs.declared.answers.PublishFault.TheVariants.{Full, OutOfMemory}
 use Rattle.ll_core.proofs.CallerLemmas.{get_map_at, claim_gives, publish_splits, report_closes, later_itself, opening_sound}
-use Rattle.ll_pool.specs.Fits.{Fits, ChangesLawfully, first_seat, problem_of, open_piece, HasPiece, number_of}
+use Rattle.ll_pool.specs.Fits.{SeatFits, ChangesLawfully, first_seat, problem_of, open_piece, HasPiece, number_of}
 use Rattle.ll_pool.specs.Turns.{EndsWith, IsRest, OwesWork, OwesRest, number_made}
 use Rattle.ll_pool.specs.OpenPieces.{has_open_piece, one_piece}
 use Rattle.ll_pool.specs.declared.data.PoolProblem.{PoolProblem}
@@ -43,7 +43,8 @@ there (x ∷ xs) (suc k) low = there xs k (omega arith)
 
 module _ {N Of : Type 0} (of : N → Of) (alternatives : N → List (Owed Event)) where
   pub first_fits : (root : N) (workers : ℕ) → 0 < workers → workers ≤ 64 → length (alternatives root) ≡ 1
-      → Fits of alternatives (opening root workers) (first_seat of alternatives (opening root workers)).0 (first_seat of alternatives (opening root workers)).1
+      → SeatFits of alternatives (opening root workers) (first_seat of alternatives (opening root workers)).0
+      (first_seat of alternatives (opening root workers)).1
   first_fits root workers some few one = record {
     asked = problem_of of alternatives root;
     is_asked = refl;
@@ -76,7 +77,7 @@ module _ {N Of : Type 0} (of : N → Of) (alternatives : N → List (Owed Event)
   claims p q w Starved h = (event.Starved, h)
   claims p q w Stopped h = (event.Stopped, h)
 
-  module _ (problem : Option (PoolProblem Of)) (p q : PoolData N Event) (mine : SeatData N) (fits : Fits of alternatives p problem mine) where
+  module _ (problem : Option (PoolProblem Of)) (p q : PoolData N Event) (mine : SeatData N) (fits : SeatFits of alternatives p problem mine) where
     none_now : mine.piece ≡ None → NoOpen p mine.worker
     none_now rests = subst (HasPiece alternatives p mine.worker) rests fits.piece
 

@@ -6,7 +6,7 @@ use Rattle.ll_laws.specs.Pool.{Owed, PoolData}
 use Rattle.ll_laws.specs.Sound.{Sound, Shaped}
 use Rattle.ll_core.specs.Laws.{IsQuiet}
 use Rattle.ll_core.proofs.CallerLemmas.{keeps_sound}
-use Rattle.ll_pool.specs.Fits.{Fits, ChangesLawfully, after_change, open_piece, number_of}
+use Rattle.ll_pool.specs.Fits.{SeatFits, ChangesLawfully, after_change, open_piece, number_of}
 use Rattle.ll_pool.specs.Turns.{SeatSight, OneTurn}
 use Rattle.ll_pool.specs.OpenPieces.{has_open_piece, one_piece, piece_kept}
 use Rattle.ll_pool.specs.declared.data.PoolProblem.{PoolProblem}
@@ -23,7 +23,7 @@ GivesBack alternatives taken q given = IfSome taken.before
 
 module _ {N Of : Type 0} (of : N → Of) (alternatives : N → List (Owed Event)) where
   -- a lawful change leaves a sound pool
-  pub sound_left : (problem : Option (PoolProblem Of)) (p q : PoolData N Event) (mine : SeatData N) → Fits of alternatives p problem mine
+  pub sound_left : (problem : Option (PoolProblem Of)) (p q : PoolData N Event) (mine : SeatData N) → SeatFits of alternatives p problem mine
       → ChangesLawfully of alternatives p mine q → Shaped alternatives q
   sound_left problem p q mine fits law =
       let asked = fits.asked in
@@ -31,7 +31,7 @@ module _ {N Of : Type 0} (of : N → Of) (alternatives : N → List (Owed Event)
       sound.shape
 
   -- a quiet event leaves the seat's open piece as it is
-  pub quiet_piece : (problem : Option (PoolProblem Of)) (p q : PoolData N Event) (mine : SeatData N) → Fits of alternatives p problem mine
+  pub quiet_piece : (problem : Option (PoolProblem Of)) (p q : PoolData N Event) (mine : SeatData N) → SeatFits of alternatives p problem mine
       → (law : ChangesLawfully of alternatives p mine q) → IsQuiet law.0 → open_piece alternatives q mine.worker ≡ mine.piece
   quiet_piece problem p q mine fits law quiet =
       let sound = fits.sound in
@@ -44,17 +44,17 @@ module _ {N Of : Type 0} (of : N → Of) (alternatives : N → List (Owed Event)
     pub view_is : inside ≡ now
     pub kept : Keeps inside worker piece
     pub took : taken ≡ record inside { before = Some v }
-    pub fits : Fits of alternatives v inside.problem inside.mine
+    pub fits : SeatFits of alternatives v inside.problem inside.mine
 
   pub takes_turn : {now inside taken : SeatSight N Of} {worker : ℕ} {piece : Option ℕ} {v : PoolData N Event} → inside ≡ now → Keeps inside worker piece
-      → taken ≡ record inside { before = Some v } → Fits of alternatives v inside.problem inside.mine
+      → taken ≡ record inside { before = Some v } → SeatFits of alternatives v inside.problem inside.mine
       → TakesTurn now inside taken worker piece v
   takes_turn view_is kept took fits = record { view_is = view_is; kept = kept; took = took; fits = fits }
 
 module _ {N Of : Type 0} {of : N → Of} {alternatives : N → List (Owed Event)} {now inside taken : SeatSight N Of} {worker : ℕ} {piece : Option ℕ}
     {v : PoolData N Event} (t : TakesTurn of alternatives now inside taken worker piece v) where
-  pub fits_now : Fits of alternatives v now.problem now.mine
-  fits_now = subst (λ (s : SeatSight N Of). Fits of alternatives v s.problem s.mine) t.view_is t.fits
+  pub fits_now : SeatFits of alternatives v now.problem now.mine
+  fits_now = subst (λ (s : SeatSight N Of). SeatFits of alternatives v s.problem s.mine) t.view_is t.fits
 
   pub own_now : worker ≡ now.mine.worker
   own_now = sym t.kept.1 ∙ ap (λ (s : SeatSight N Of). s.mine.worker) t.view_is
@@ -84,7 +84,7 @@ module _ {N Of : Type 0} {of : N → Of} {alternatives : N → List (Owed Event)
     pub piece_after : given.mine.piece ≡ open_piece alternatives q now.mine.worker
     piece_after = ap (λ (s : SeatSight N Of). s.mine.piece) given_now
 
-    pub turn_made : (change : PoolData N Event → PoolData N Event → Type 0) → change v q → Fits of alternatives q given.problem given.mine
+    pub turn_made : (change : PoolData N Event → PoolData N Event → Type 0) → change v q → SeatFits of alternatives q given.problem given.mine
         → OneTurn of alternatives change now given
     turn_made change changed left = record {
       found = v;

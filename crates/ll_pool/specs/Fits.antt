@@ -75,7 +75,7 @@ module _ {N Of : Type 0} (of : N → Of) (alternatives : N → List (Owed Event)
   ChangesLawfully before mine after = (e : CoreEvent N Event) × By mine.worker e × Lawful of alternatives before e × Does alternatives before e after
 
   -- the pool and the seat belong to one problem
-  pub record Fits (p : PoolData N Event) (problem : Option (PoolProblem Of)) (mine : SeatData N) : Type 0 where
+  pub record SeatFits (p : PoolData N Event) (problem : Option (PoolProblem Of)) (mine : SeatData N) : Type 0 where
     -- the pool is sound for the problem
     pub asked : PoolProblem Of
     pub is_asked : problem ≡ Some asked

@@ -4,7 +4,7 @@ use Rattle.ll_turn.specs.Numbers.{HasToGive, AllDifferent, IsFirst, IsParted}
 use Rattle.ll_laws.specs.declared.Event.{Event}
 use Rattle.ll_laws.specs.Pool.{Owed, PoolData}
 use Rattle.ll_core.proofs.CallerLemmas.{keeps_sound, none_kept, takes_alone, workers_kept, later_itself, later_on, later_event}
-use Rattle.ll_pool.specs.Fits.{numbers_of, first_seat, Fits, ChangesLawfully, after_change, parts}
+use Rattle.ll_pool.specs.Fits.{numbers_of, first_seat, SeatFits, ChangesLawfully, after_change, parts}
 use Rattle.ll_pool.specs.declared.data.PoolProblem.{PoolProblem}
 use Rattle.ll_pool.specs.declared.data.SeatData.{SeatData}
 use Rattle.ll_pool.specs.OpenPieces.{has_open_piece, piece_kept}
@@ -19,12 +19,12 @@ module _ {N Of : Type 0} (alternatives : N → List (Owed Event)) where
   keeps_numbers problem before mine after = refl
 
 module _ {N Of : Type 0} (of : N → Of) (alternatives : N → List (Owed Event)) where
-  pub begins_first : (p : PoolData N Event) → Fits of alternatives p (first_seat of alternatives p).0 (first_seat of alternatives p).1
+  pub begins_first : (p : PoolData N Event) → SeatFits of alternatives p (first_seat of alternatives p).0 (first_seat of alternatives p).1
       → IsFirst (numbers_of (first_seat of alternatives p).1)
   begins_first p fits = let few = fits.few in (refl, λ more. (refl, omega arith))
 
-  own_fits : (problem : Option (PoolProblem Of)) (p : PoolData N Event) (mine : SeatData N) (q : PoolData N Event) → Fits of alternatives p problem mine
-      → ChangesLawfully of alternatives p mine q → Fits of alternatives q problem (after_change alternatives p mine q)
+  own_fits : (problem : Option (PoolProblem Of)) (p : PoolData N Event) (mine : SeatData N) (q : PoolData N Event) → SeatFits of alternatives p problem mine
+      → ChangesLawfully of alternatives p mine q → SeatFits of alternatives q problem (after_change alternatives p mine q)
   own_fits problem p mine q fits law =
       let asked = fits.asked in let workers = workers_kept of alternatives p q law.0 law.3 in
       record {
@@ -42,8 +42,8 @@ module _ {N Of : Type 0} (of : N → Of) (alternatives : N → List (Owed Event)
       }
 
   other_fits : (problem : Option (PoolProblem Of)) (p : PoolData N Event) (mine : SeatData N) (q : PoolData N Event) (other : SeatData N)
-      → ChangesLawfully of alternatives p mine q → Fits of alternatives p problem other → AllDifferent (numbers_of mine) (numbers_of other)
-      → Fits of alternatives q problem other
+      → ChangesLawfully of alternatives p mine q → SeatFits of alternatives p problem other → AllDifferent (numbers_of mine) (numbers_of other)
+      → SeatFits of alternatives q problem other
   other_fits problem p mine q other law fits differ =
       let asked = fits.asked in let workers = workers_kept of alternatives p q law.0 law.3 in let sound = fits.sound in
       let apart : mine.worker ≡ other.worker → ⊥ = λ same. differ.2 mine.worker (inl refl) (inl same) in
@@ -66,14 +66,14 @@ module _ {N Of : Type 0} (of : N → Of) (alternatives : N → List (Owed Event)
       }
 
   pub change_fits : (problem : Option (PoolProblem Of)) (p : PoolData N Event) (mine : SeatData N) (q : PoolData N Event)
-      → Fits of alternatives p problem mine → ChangesLawfully of alternatives p mine q
-      → Fits of alternatives q problem (after_change alternatives p mine q)
-      × ((other : SeatData N) → Fits of alternatives p problem other → AllDifferent (numbers_of mine) (numbers_of other)
-      → Fits of alternatives q problem other)
+      → SeatFits of alternatives p problem mine → ChangesLawfully of alternatives p mine q
+      → SeatFits of alternatives q problem (after_change alternatives p mine q)
+      × ((other : SeatData N) → SeatFits of alternatives p problem other → AllDifferent (numbers_of mine) (numbers_of other)
+      → SeatFits of alternatives q problem other)
   change_fits problem p mine q fits law = (own_fits problem p mine q fits law, λ other fits' differ. other_fits problem p mine q other law fits' differ)
 
   pub parts_fit : (problem : Option (PoolProblem Of)) (p : PoolData N Event) (mine : SeatData N) → HasToGive (numbers_of mine)
-      → Fits of alternatives p problem mine → Fits of alternatives p problem (parts mine).0 × Fits of alternatives p problem (parts mine).1
+      → SeatFits of alternatives p problem mine → SeatFits of alternatives p problem (parts mine).0 × SeatFits of alternatives p problem (parts mine).1
   parts_fit problem p mine more fits =
       let range = fits.range more in let above = range.0 in let end = range.1 in (
         record {

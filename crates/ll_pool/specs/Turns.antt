@@ -11,7 +11,7 @@ use Rattle.ll_laws.specs.CoreEvents.{opening}
 use Rattle.ll_core.specs.declared.answers.Claimed.{Claimed}
 use Rattle.ll_core.specs.declared.answers.Claimed.TheVariants.{Work}
 use Rattle.ll_core.specs.declared.answers.PublishFault.{PublishFault}
-use Rattle.ll_pool.specs.Fits.{problem_of, new_seat, after_change, Fits}
+use Rattle.ll_pool.specs.Fits.{problem_of, new_seat, after_change, SeatFits}
 use Rattle.ll_pool.specs.declared.data.PoolProblem.{PoolProblem}
 use Rattle.ll_pool.specs.declared.data.OpenPiece.{OpenPiece}
 use Rattle.ll_pool.specs.declared.data.SeatData.{SeatData}
@@ -73,14 +73,14 @@ module _ {N Of : Type 0} (of : N → Of) (alternatives : N → List (Owed Event)
   pub record OneTurn (change : PoolData N Event → PoolData N Event → Type 0) (before after : SeatSight N Of) : Type 0 where
     pub found : PoolData N Event
     pub left : PoolData N Event
-    pub fits : Fits of alternatives found before.problem before.mine
+    pub fits : SeatFits of alternatives found before.problem before.mine
     pub changed : change found left
     pub seat : after ≡ record before { mine = after_change alternatives found before.mine left }
-    pub fits_left : Fits of alternatives left after.problem after.mine
+    pub fits_left : SeatFits of alternatives left after.problem after.mine
 
   -- where one pool fits two seats with different numbers, no piece is the open piece of both
   abbrev pub NoPieceTwice : Type 0
   NoPieceTwice =
-      (p : PoolData N Event) (problem : Option (PoolProblem Of)) (one other : SeatData N) (a b : OpenPiece) → Fits of alternatives p problem one
-      → Fits of alternatives p problem other → one.worker ≢ other.worker
+      (p : PoolData N Event) (problem : Option (PoolProblem Of)) (one other : SeatData N) (a b : OpenPiece) → SeatFits of alternatives p problem one
+      → SeatFits of alternatives p problem other → one.worker ≢ other.worker
       → one.piece ≡ Some a → other.piece ≡ Some b → a.number ≢ b.number

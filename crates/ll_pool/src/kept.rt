@@ -8,14 +8,14 @@ impl<N: Batch> Kept for TurnPool<N> {
 
     type Mine = SeatData<N>;
 
-    ghost use Rattle.ll_pool.specs.Fits.{numbers_of, first_seat, Fits, ChangesLawfully, after_change, parts};
+    ghost use Rattle.ll_pool.specs.Fits.{numbers_of, first_seat, SeatFits, ChangesLawfully, after_change, parts};
     ghost use Rattle.ll_pool.specs.Fitting.{begins_first, keeps_numbers, parts_numbers, change_fits, parts_fit};
 
     ghost numbers = { numbers_of };
 
     ghost begin = { λ value. first_seat N.of N.alternatives value };
 
-    ghost fit = { λ value. Fits N.of N.alternatives value };
+    ghost fit = { λ value. SeatFits N.of N.alternatives value };
 
     ghost lawful = { λ problem before mine after. ChangesLawfully N.of N.alternatives before mine after };
 

@@ -7,7 +7,7 @@ ghost use Rattle.ll_laws.specs.CoreEvents as event;
 ghost use Rattle.ll_core.specs.Calls.{ClaimsAs, HandsBack, publish_answer, overview, ready_answer};
 ghost use Rattle.ll_turn.specs.Views.{without};
 ghost use Rattle.ll_turn.specs.Numbers.{HasToGive};
-ghost use Rattle.ll_pool.specs.Fits.{Fits, parts, numbers_of};
+ghost use Rattle.ll_pool.specs.Fits.{SeatFits, parts, numbers_of};
 ghost use Rattle.ll_pool.specs.Turns.{IsFirstSeat, OneTurn, OwesWork, EndsWith, OwesRest, number_made, HasQuit};
 
 use crate::data::TurnPool;
@@ -53,7 +53,7 @@ impl<N: Batch> SharedPool<N> {
     /// A shared pool with this root, whose one alternative is untried, for 1 to 64 workers, and the seat of worker 0. This seat has the
     /// numbers of all other workers to give.
     ///
-    /// Where memory is wanting the root is given up.
+    /// Where memory runs out the root is given up.
     pub fn new(
         alloc: Global,
         root: Arc<N>,
@@ -62,7 +62,8 @@ impl<N: Batch> SharedPool<N> {
         requires workers { (0 < workers) × (workers ≤ 64) }
         requires one { length (N.alternatives (arc_value root)) ≡ 1 }
         ensures workers { IfOk result (λ made. made.0.workers ≡ workers) }
-        ensures seat { IfOk result (λ made. IsFirstSeat N.of N.alternatives (arc_value root) workers made.0.table made.1) }
+        ensures seat { IfOk result (λ made. IsFirstSeat N.of N.alternatives
+            (arc_value root) workers made.0.table made.1) }
     {
         let pool = Pool::new(alloc, root, workers)?;
         match Turn::new(alloc, TurnPool { pool }) {
@@ -113,7 +114,7 @@ impl<N: Batch> SharedPool<N> {
         requires own { seat.table ≡ self.table }
         requires first { seat.mine.worker ≡ 0 }
         requires alone { seat.given ≡ [] }
-        ensures { Fits N.of N.alternatives result seat.problem seat.mine }
+        ensures { SeatFits N.of N.alternatives result seat.problem seat.mine }
     {
         let Seat {
             pass,
@@ -137,7 +138,8 @@ impl<N: Batch> SharedPool<N> {
     pub fn claim<R: Wait>(&self, rt: &R, seat: &mut Seat<N>) -> Claimed<N>
         requires own { seat.old.table ≡ self.now.table }
         requires rests { seat.old.mine.piece ≡ None }
-        ensures turn { OneTurn N.of N.alternatives (λ found left. ClaimsAs N.alternatives found seat.old.mine.worker result left) seat.old seat.new }
+        ensures turn { OneTurn N.of N.alternatives
+            (λ found left. ClaimsAs N.alternatives found seat.old.mine.worker result left) seat.old seat.new }
         ensures owes { OwesWork N.alternatives result seat.new.mine.piece }
     {
         let mut held = self.turn.take(rt, &mut seat.pass);
@@ -161,9 +163,11 @@ impl<N: Batch> SharedPool<N> {
         requires own { seat.old.table ≡ self.now.table }
         requires some { 0 < length (N.alternatives (arc_value batch)) }
         requires alike { IsSomeAnd seat.old.problem (λ problem. N.of (arc_value batch) ≡ problem.of) }
-        requires ends { IsSomeAnd seat.old.mine.piece (λ piece. EndsWith piece.owes (N.alternatives (arc_value batch))) }
-        ensures turn { OneTurn N.of N.alternatives (λ found left.
-            Does N.alternatives found (event.Publish seat.old.mine.worker (arc_value batch) (publish_answer result)) left) seat.old seat.new }
+        requires ends { IsSomeAnd seat.old.mine.piece
+            (λ piece. EndsWith piece.owes (N.alternatives (arc_value batch))) }
+        ensures turn { OneTurn N.of N.alternatives
+            (λ found left. Does N.alternatives found (event.Publish seat.old.mine.worker (arc_value batch)
+            (publish_answer result)) left) seat.old seat.new }
         ensures owes { OwesRest (N.alternatives (arc_value batch)) result seat.old.mine.piece seat.new.mine.piece }
         ensures back { HandsBack (arc_value batch) result }
     {
@@ -181,7 +185,9 @@ impl<N: Batch> SharedPool<N> {
     pub fn report<R: Wait>(&self, rt: &R, seat: &mut Seat<N>, report: Report<N::Found>)
         requires own { seat.old.table ≡ self.now.table }
         requires whole { IsSomeAnd seat.old.mine.piece (λ piece. report ≡ report_of piece.owes) }
-        ensures turn { OneTurn N.of N.alternatives (λ found left. Does N.alternatives found (event.Report seat.old.mine.worker report) left) seat.old seat.new }
+        ensures turn { OneTurn N.of N.alternatives
+            (λ found left. Does N.alternatives found
+            (event.Report seat.old.mine.worker report) left) seat.old seat.new }
         ensures owes { seat.new.mine.piece ≡ None }
     {
         let Some(piece) = seat.piece else {
@@ -196,7 +202,8 @@ impl<N: Batch> SharedPool<N> {
     /// Marks the pool as starved, for a worker that wanted memory.
     pub fn starve<R: Wait>(&self, rt: &R, seat: &mut Seat<N>)
         requires own { seat.old.table ≡ self.now.table }
-        ensures turn { OneTurn N.of N.alternatives (λ found left. Does N.alternatives found (event.Starve seat.old.mine.worker) left) seat.old seat.new }
+        ensures turn { OneTurn N.of N.alternatives
+            (λ found left. Does N.alternatives found (event.Starve seat.old.mine.worker) left) seat.old seat.new }
         ensures owes { seat.new.mine.piece ≡ seat.old.mine.piece }
     {
         let mut held = self.turn.take(rt, &mut seat.pass);
@@ -207,7 +214,8 @@ impl<N: Batch> SharedPool<N> {
     /// Stops the pool.
     pub fn stop<R: Wait>(&self, rt: &R, seat: &mut Seat<N>)
         requires own { seat.old.table ≡ self.now.table }
-        ensures turn { OneTurn N.of N.alternatives (λ found left. Does N.alternatives found event.Stop left) seat.old seat.new }
+        ensures turn { OneTurn N.of N.alternatives
+            (λ found left. Does N.alternatives found event.Stop left) seat.old seat.new }
         ensures owes { seat.new.mine.piece ≡ seat.old.mine.piece }
     {
         let mut held = self.turn.take(rt, &mut seat.pass);
@@ -218,7 +226,8 @@ impl<N: Batch> SharedPool<N> {
     /// How many alternatives are untried and pieces open, and whether the pool is starved or stopped.
     pub fn look<R: Wait>(&self, rt: &R, seat: &mut Seat<N>) -> Look
         requires own { seat.old.table ≡ self.now.table }
-        ensures turn { OneTurn N.of N.alternatives (λ found left. Does N.alternatives found (event.Look (overview result)) left) seat.old seat.new }
+        ensures turn { OneTurn N.of N.alternatives
+            (λ found left. Does N.alternatives found (event.Look (overview result)) left) seat.old seat.new }
         ensures owes { seat.new.mine.piece ≡ seat.old.mine.piece }
     {
         let mut held = self.turn.take(rt, &mut seat.pass);
@@ -231,7 +240,8 @@ impl<N: Batch> SharedPool<N> {
     pub fn ready<R: Wait>(&self, rt: &R, seat: &mut Seat<N>) -> Ready<N::Found>
         requires own { seat.old.table ≡ self.now.table }
         requires first { seat.old.mine.worker ≡ 0 }
-        ensures turn { OneTurn N.of N.alternatives (λ found left. Does N.alternatives found (event.Ready (ready_answer result)) left) seat.old seat.new }
+        ensures turn { OneTurn N.of N.alternatives
+            (λ found left. Does N.alternatives found (event.Ready (ready_answer result)) left) seat.old seat.new }
         ensures owes { seat.new.mine.piece ≡ seat.old.mine.piece }
     {
         let mut held = self.turn.take(rt, &mut seat.pass);

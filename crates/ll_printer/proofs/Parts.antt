@@ -27,7 +27,7 @@ use Rattle.ll_printer.specs.declared.formulas.Part.{Part}
 use Rattle.ll_printer.specs.declared.formulas.Part.TheVariants as part
 use Rattle.ll_printer.specs.Pieces.{BeginsText}
 use Rattle.ll_printer.specs.Parts.{rank_of, word_text, needs_brackets, inner_text, part_text, parts_text, raw_size, raws_size, part_weight, parts_weight}
-use Rattle.ll_printer.specs.Parts.{HasPart, AreParts, argument_parts, head_parts, operator_text, operand_parts, sides_parts, expression_parts, Leaves}
+use Rattle.ll_printer.specs.Parts.{HasPart, AreParts, argument_parts, head_parts, operator_text, operand_parts, sides_parts, expression_parts, PushesParts}
 use Rattle.ll_printer.specs.Parts.{PartMoves, IsWriting}
 
 -- ---- texts on their way
@@ -154,7 +154,7 @@ module _ (names : List (List ℕ)) (nodes : List Node) where
   -- what a part leaves, where its tree begins so
   pub leaves-inside : (at : RawAt) (f : Bool) (old new qs : List Part) (t : Raw) → raw_at names nodes at.0 ≡ t → new ≡ old ++ qs
       → ((rest : List ℕ) → parts_text names nodes qs rest ≡ inner_text f t ++ rest)
-      → AreParts nodes qs → parts_weight names nodes qs < 8 * raw_size t → Leaves names nodes (part.Inside at f) old new
+      → AreParts nodes qs → parts_weight names nodes qs < 8 * raw_size t → PushesParts names nodes (part.Inside at f) old new
   leaves-inside at f old new qs t is e same inside lighter = record {
     left = qs;
     is = e;
@@ -165,7 +165,7 @@ module _ (names : List (List ℕ)) (nodes : List Node) where
 
   pub leaves-term : (at : RawAt) (old new qs : List Part) (t : Raw) → raw_at names nodes at.0 ≡ t → new ≡ old ++ qs
       → ((rest : List ℕ) → parts_text names nodes qs rest ≡ term_text t ++ rest)
-      → AreParts nodes qs → parts_weight names nodes qs < 8 * raw_size t → Leaves names nodes (part.Term at) old new
+      → AreParts nodes qs → parts_weight names nodes qs < 8 * raw_size t → PushesParts names nodes (part.Term at) old new
   leaves-term at old new qs t is e same inside lighter = record {
     left = qs;
     is = e;
@@ -177,12 +177,12 @@ module _ (names : List (List ℕ)) (nodes : List Node) where
   -- a word alone
   pub word-inside : (at : RawAt) (f : Bool) (old new : List Part) (t : Raw) (w : Word) → raw_at names nodes at.0 ≡ t → new ≡ old ++ part.Word w ∷ []
       → inner_text f t ≡ word_text w
-      → Leaves names nodes (part.Inside at f) old new
+      → PushesParts names nodes (part.Inside at f) old new
   word-inside at f old new t w is e same = leaves-inside at f old new (part.Word w ∷ []) t is e (λ rest. ap (λ u. u ++ rest) (sym same)) (tt, tt) (let s =
       size-positive t in omega arith)
 
   pub word-term : (at : RawAt) (old new : List Part) (t : Raw) → raw_at names nodes at.0 ≡ t → new ≡ old ++ part.Word word.Any ∷ [] → term_text t ≡ codes "_"
-      → Leaves names nodes (part.Term at) old new
+      → PushesParts names nodes (part.Term at) old new
   word-term at old new t is e same = leaves-term at old new (part.Word word.Any ∷ []) t is e (λ rest. ap (λ u. u ++ rest) (sym same)) (tt, tt) (let s =
       size-positive t in omega arith)
 
@@ -204,7 +204,7 @@ module _ (names : List (List ℕ)) (nodes : List Node) where
 
   pub leaves-bracketed : (at : RawAt) (l : Level) (f : Bool) (old new : List Part) → at.0 < length nodes
       → needs_brackets (rank_of l) f (raw_at names nodes at.0) ≡ true
-      → new ≡ old ++ (part.Word word.Close ∷ part.Inside at false ∷ part.Word word.Open ∷ []) → Leaves names nodes (part.Formula at l f) old new
+      → new ≡ old ++ (part.Word word.Close ∷ part.Inside at false ∷ part.Word word.Open ∷ []) → PushesParts names nodes (part.Formula at l f) old new
   leaves-bracketed at l f old new h b e =
       let r : Raw = raw_at names nodes at.0 in
       record {
@@ -218,7 +218,7 @@ module _ (names : List (List ℕ)) (nodes : List Node) where
 
   pub leaves-plain : (at : RawAt) (l : Level) (f : Bool) (old new : List Part) → at.0 < length nodes
       → needs_brackets (rank_of l) f (raw_at names nodes at.0) ≡ false
-      → new ≡ old ++ part.Inside at f ∷ [] → Leaves names nodes (part.Formula at l f) old new
+      → new ≡ old ++ part.Inside at f ∷ [] → PushesParts names nodes (part.Formula at l f) old new
   leaves-plain at l f old new h b e =
       let r : Raw = raw_at names nodes at.0 in
       record {
@@ -233,7 +233,7 @@ module _ (names : List (List ℕ)) (nodes : List Node) where
   pub inside-braces : (at g : RawAt) (f : Bool) (p : Place) (old new : List Part) → at.0 < length nodes
       → raw_at names nodes at.0 ≡ braces p (raw_at names nodes g.0) → g.0 < at.0
       → new ≡ old ++ (part.Word word.CloseBrace ∷ part.Formula g level.Clauses false ∷ part.Word word.OpenBrace ∷ [])
-      → Leaves names nodes (part.Inside at f) old new
+      → PushesParts names nodes (part.Inside at f) old new
   inside-braces at g f p old new h is lt e =
       leaves-inside at f old new (part.Word word.CloseBrace ∷ part.Formula g level.Clauses false ∷ part.Word word.OpenBrace ∷ [])
       (braces p (raw_at names nodes g.0)) is e
@@ -245,7 +245,7 @@ module _ (names : List (List ℕ)) (nodes : List Node) where
       → inner_text f t ≡ word_text w ++ ((identifier names n).text ++ (92 ∷ (codes " " ++ formula_text clauses false (raw_at names nodes g.0))))
       → raw_size t ≡ 1 + raw_size (raw_at names nodes g.0)
       → new ≡ old ++ (part.Formula g level.Clauses false ∷ part.Word word.Backslash ∷ part.Name n ∷ part.Word w ∷ [])
-      → Leaves names nodes (part.Inside at f) old new
+      → PushesParts names nodes (part.Inside at f) old new
   inside-bound at g f n w t old new h is lt text size e =
       let b : List ℕ = formula_text clauses false (raw_at names nodes g.0) in
       let m : List ℕ = (identifier names n).text in
@@ -266,7 +266,7 @@ module _ (names : List (List ℕ)) (nodes : List Node) where
   pub inside-binary : (at l r : RawAt) (o : Op) (ll rl : Level) (f : Bool) (p : Place) (old new : List Part) → at.0 < length nodes
       → raw_at names nodes at.0 ≡ binary o p (raw_at names nodes l.0) (raw_at names nodes r.0) → l.0 < at.0 → r.0 < at.0 → rank_of ll ≡ left_rank o
       → rank_of rl ≡ right_rank o
-      → new ≡ old ++ (part.Formula r rl f ∷ part.Word (word.Operator o) ∷ part.Formula l ll true ∷ []) → Leaves names nodes (part.Inside at f) old new
+      → new ≡ old ++ (part.Formula r rl f ∷ part.Word (word.Operator o) ∷ part.Formula l ll true ∷ []) → PushesParts names nodes (part.Inside at f) old new
   inside-binary at l r o ll rl f p old new h is lt rt le re e =
       let x : Raw = raw_at names nodes l.0 in
       let y : Raw = raw_at names nodes r.0 in
@@ -282,7 +282,7 @@ module _ (names : List (List ℕ)) (nodes : List Node) where
       → (l.0 < at.0) × (r.0 < at.0)
       → inner_text f t ≡ expr_text (raw_at names nodes l.0) ++ (word_text w ++ expr_text (raw_at names nodes r.0))
       → raw_size t ≡ 1 + raw_size (raw_at names nodes l.0) + raw_size (raw_at names nodes r.0)
-      → new ≡ old ++ (part.Expression r ∷ part.Word w ∷ part.Expression l ∷ []) → Leaves names nodes (part.Inside at f) old new
+      → new ≡ old ++ (part.Expression r ∷ part.Word w ∷ part.Expression l ∷ []) → PushesParts names nodes (part.Inside at f) old new
   inside-number at l r w f t old new h is lt text size e =
       let x : List ℕ = expr_text (raw_at names nodes l.0) in
       let y : List ℕ = expr_text (raw_at names nodes r.0) in
@@ -298,7 +298,7 @@ module _ (names : List (List ℕ)) (nodes : List Node) where
 
   pub inside-head : (at : RawAt) (n : Named) (args : List RawAt) (f : Bool) (old new : List Part) → at.0 < length nodes
       → raw_at names nodes at.0 ≡ head (identifier names n) (raws_in (raw_trees names nodes) (places args)) → All (λ (a : RawAt). a.0 < at.0) args
-      → new ≡ old ++ (argument_parts args ++ part.Name n ∷ []) → Leaves names nodes (part.Inside at f) old new
+      → new ≡ old ++ (argument_parts args ++ part.Name n ∷ []) → PushesParts names nodes (part.Inside at f) old new
   inside-head at n args f old new h is all e =
       let list : RawList = raws_in (raw_trees names nodes) (places args) in
       leaves-inside at f old new (argument_parts args ++ part.Name n ∷ []) (head (identifier names n) list) is e
@@ -310,7 +310,7 @@ module _ (names : List (List ℕ)) (nodes : List Node) where
       → raw_at names nodes at.0 ≡ load p (identifier names n) (raws_in (raw_trees names nodes) (places args)) (raw_at names nodes g.0)
       → All (λ (a : RawAt). a.0 < at.0) args → g.0 < at.0
       → new ≡ old ++ (part.Formula g level.Arrows f ∷ part.Word word.LoadArrow ∷ (argument_parts args ++ part.Name n ∷ []))
-      → Leaves names nodes (part.Inside at f) old new
+      → PushesParts names nodes (part.Inside at f) old new
   inside-load at g n args f p old new h is all lt e =
       let list : RawList = raws_in (raw_trees names nodes) (places args) in
       let b : List ℕ = formula_text (rank_of level.Arrows) f (raw_at names nodes g.0) in
@@ -343,7 +343,7 @@ module _ (names : List (List ℕ)) (nodes : List Node) where
   arguments-are n (a ∷ args) b e = ap not (e ∙ ne_eqb (suc (length args)) 0 (λ p. let x : ⊥ = absurd (omega arith) in x))
 
   pub term-number : (at : RawAt) (z : ℤ) (p : Place) (old new : List Part) → FitsSigned w64 z → raw_at names nodes at.0 ≡ int p z
-      → new ≡ old ++ part.Number (to_z w64 (of_z w64 z)) ∷ [] → Leaves names nodes (part.Term at) old new
+      → new ≡ old ++ part.Number (to_z w64 (of_z w64 z)) ∷ [] → PushesParts names nodes (part.Term at) old new
   term-number at z p old new fits is e =
       leaves-term at old new (part.Number z ∷ []) (int p z) is (e ∙ ap (λ v. old ++ part.Number v ∷ []) (to_z-of_z w64 z fits)) (λ rest. refl) (tt, tt)
       (omega arith)
@@ -351,7 +351,7 @@ module _ (names : List (List ℕ)) (nodes : List Node) where
   head-term : (at : RawAt) (n : Named) (args : List RawAt) (b : Bool) (old new : List Part) → at.0 < length nodes
       → (eqb (length args) 2 && is_cons (identifier names n).text) ≡ b
       → raw_at names nodes at.0 ≡ head (identifier names n) (raws_in (raw_trees names nodes) (places args)) → All (λ (a : RawAt). a.0 < at.0) args
-      → new ≡ old ++ head_parts b n args → Leaves names nodes (part.Term at) old new
+      → new ≡ old ++ head_parts b n args → PushesParts names nodes (part.Term at) old new
   head-term at n args false old new h t is all e =
       let list : RawList = raws_in (raw_trees names nodes) (places args) in
       leaves-term at old new (argument_parts args ++ part.Name n ∷ []) (head (identifier names n) list) is e
@@ -376,14 +376,14 @@ module _ (names : List (List ℕ)) (nodes : List Node) where
 
   pub term-head : (at : RawAt) (n : Named) (args : List RawAt) (old new : List Part) → at.0 < length nodes
       → raw_at names nodes at.0 ≡ head (identifier names n) (raws_in (raw_trees names nodes) (places args)) → All (λ (a : RawAt). a.0 < at.0) args
-      → new ≡ old ++ head_parts (eqb (length args) 2 && is_cons (identifier names n).text) n args → Leaves names nodes (part.Term at) old new
+      → new ≡ old ++ head_parts (eqb (length args) 2 && is_cons (identifier names n).text) n args → PushesParts names nodes (part.Term at) old new
   term-head at n args old new h is all e = head-term at n args (eqb (length args) 2 && is_cons (identifier names n).text) old new h refl is all e
 
   -- ---- expressions
 
   pub leaves-expression : (at : RawAt) (old new qs : List Part) (t : Raw) → raw_at names nodes at.0 ≡ t → new ≡ old ++ qs
       → ((rest : List ℕ) → parts_text names nodes qs rest ≡ expr_text t ++ rest)
-      → AreParts nodes qs → parts_weight names nodes qs < 8 * raw_size t → Leaves names nodes (part.Expression at) old new
+      → AreParts nodes qs → parts_weight names nodes qs < 8 * raw_size t → PushesParts names nodes (part.Expression at) old new
   leaves-expression at old new qs t is e same inside lighter = record {
     left = qs;
     is = e;
@@ -394,13 +394,13 @@ module _ (names : List (List ℕ)) (nodes : List Node) where
 
   pub word-expression : (at : RawAt) (old new : List Part) (t : Raw) → raw_at names nodes at.0 ≡ t → new ≡ old ++ part.Word word.Any ∷ []
       → expr_text t ≡ codes "_"
-      → Leaves names nodes (part.Expression at) old new
+      → PushesParts names nodes (part.Expression at) old new
   word-expression at old new t is e same =
       leaves-expression at old new (part.Word word.Any ∷ []) t is e (λ rest. ap (λ u. u ++ rest) (sym same)) (tt, tt) (let s = size-positive t in omega arith)
 
   pub expression-number : (at : RawAt) (z : ℤ) (p : Place) (old new : List Part) → FitsSigned w64 z → raw_at names nodes at.0 ≡ int p z
       → new ≡ old ++ part.Number (to_z w64 (of_z w64 z)) ∷ []
-      → Leaves names nodes (part.Expression at) old new
+      → PushesParts names nodes (part.Expression at) old new
   expression-number at z p old new fits is e =
       leaves-expression at old new (part.Number z ∷ []) (int p z) is (e ∙ ap (λ v. old ++ part.Number v ∷ []) (to_z-of_z w64 z fits)) (λ rest. refl) (tt, tt)
       (omega arith)
@@ -444,7 +444,7 @@ module _ (names : List (List ℕ)) (nodes : List Node) where
 
   expression-two : (at : RawAt) (n : Named) (x y : RawAt) (old new : List Part) → at.0 < length nodes
       → raw_at names nodes at.0 ≡ head (identifier names n) (more (raw_at names nodes x.0) (more (raw_at names nodes y.0) none)) → x.0 < at.0 → y.0 < at.0
-      → new ≡ old ++ sides_parts names nodes n x y → Leaves names nodes (part.Expression at) old new
+      → new ≡ old ++ sides_parts names nodes n x y → PushesParts names nodes (part.Expression at) old new
   expression-two at n x y old new h is first second e =
       let w : List ℕ = (identifier names n).text in
       let a : Raw = raw_at names nodes x.0 in
@@ -464,7 +464,7 @@ module _ (names : List (List ℕ)) (nodes : List Node) where
 
   expression-head : (at : RawAt) (n : Named) (args : List RawAt) (b : Bool) (old new : List Part) → at.0 < length nodes → eqb (length args) 2 ≡ b
       → raw_at names nodes at.0 ≡ head (identifier names n) (raws_in (raw_trees names nodes) (places args)) → All (λ (a : RawAt). a.0 < at.0) args
-      → new ≡ old ++ expression_parts names nodes b n args → Leaves names nodes (part.Expression at) old new
+      → new ≡ old ++ expression_parts names nodes b n args → PushesParts names nodes (part.Expression at) old new
   expression-head at n [] true old new h t is all e = absurd (let x : ⊥ = cc in x)
   expression-head at n (x ∷ []) true old new h t is all e = absurd (let x : ⊥ = cc in x)
   expression-head at n (x ∷ y ∷ []) true old new h t is all e =
@@ -483,13 +483,14 @@ module _ (names : List (List ℕ)) (nodes : List Node) where
 
   pub expression-head-is : (at : RawAt) (n : Named) (args : List RawAt) (old new : List Part) → at.0 < length nodes
       → raw_at names nodes at.0 ≡ head (identifier names n) (raws_in (raw_trees names nodes) (places args)) → All (λ (a : RawAt). a.0 < at.0) args
-      → new ≡ old ++ expression_parts names nodes (eqb (length args) 2) n args → Leaves names nodes (part.Expression at) old new
+      → new ≡ old ++ expression_parts names nodes (eqb (length args) 2) n args → PushesParts names nodes (part.Expression at) old new
   expression-head-is at n args old new h is all e = expression-head at n args (eqb (length args) 2) old new h refl is all e
 
   -- ---- arguments
 
   pub argument-bracketed : (at : RawAt) (old new : List Part) → at.0 < length nodes → has_arguments (raw_at names nodes at.0) ≡ true
-      → new ≡ old ++ (part.Word word.Close ∷ part.Term at ∷ part.Word word.Open ∷ part.Word word.Space ∷ []) → Leaves names nodes (part.Argument at) old new
+      → new ≡ old ++ (part.Word word.Close ∷ part.Term at ∷ part.Word word.Open ∷ part.Word word.Space ∷ [])
+      → PushesParts names nodes (part.Argument at) old new
   argument-bracketed at old new h b e = record {
     left = part.Word word.Close ∷ part.Term at ∷ part.Word word.Open ∷ part.Word word.Space ∷ [];
     is = e;
@@ -500,7 +501,7 @@ module _ (names : List (List ℕ)) (nodes : List Node) where
   }
 
   pub argument-plain : (at : RawAt) (old new : List Part) → at.0 < length nodes → has_arguments (raw_at names nodes at.0) ≡ false
-      → new ≡ old ++ (part.Term at ∷ part.Word word.Space ∷ []) → Leaves names nodes (part.Argument at) old new
+      → new ≡ old ++ (part.Term at ∷ part.Word word.Space ∷ []) → PushesParts names nodes (part.Argument at) old new
   argument-plain at old new h b e = record {
     left = part.Term at ∷ part.Word word.Space ∷ [];
     is = e;
@@ -510,7 +511,7 @@ module _ (names : List (List ℕ)) (nodes : List Node) where
   }
 
   pub item-bracketed : (at : RawAt) (old new : List Part) → at.0 < length nodes → is_pair (raw_at names nodes at.0) ≡ true
-      → new ≡ old ++ (part.Word word.Close ∷ part.Term at ∷ part.Word word.Open ∷ []) → Leaves names nodes (part.Item at) old new
+      → new ≡ old ++ (part.Word word.Close ∷ part.Term at ∷ part.Word word.Open ∷ []) → PushesParts names nodes (part.Item at) old new
   item-bracketed at old new h b e = record {
     left = part.Word word.Close ∷ part.Term at ∷ part.Word word.Open ∷ [];
     is = e;
@@ -521,7 +522,7 @@ module _ (names : List (List ℕ)) (nodes : List Node) where
   }
 
   pub item-plain : (at : RawAt) (old new : List Part) → at.0 < length nodes → is_pair (raw_at names nodes at.0) ≡ false
-      → new ≡ old ++ part.Term at ∷ [] → Leaves names nodes (part.Item at) old new
+      → new ≡ old ++ part.Term at ∷ [] → PushesParts names nodes (part.Item at) old new
   item-plain at old new h b e = record {
     left = part.Term at ∷ [];
     is = e;
@@ -532,7 +533,7 @@ module _ (names : List (List ℕ)) (nodes : List Node) where
 
   -- ---- a step of the whole
 
-  pub moves-left : (p q : Part) (old new : List Part) (start : List ℕ) → q ≡ p → Leaves names nodes p old new → PartMoves names nodes q old start new start
+  pub moves-left : (p q : Part) (old new : List Part) (start : List ℕ) → q ≡ p → PushesParts names nodes p old new → PartMoves names nodes q old start new start
   moves-left p q old new start e l =
       subst (λ r. PartMoves names nodes r old start new start) (sym e)
       (record { written = []; left = l.left; appended = sym (append-nil start); is = l.is; same = l.same; inside = l.inside; lighter = l.lighter })

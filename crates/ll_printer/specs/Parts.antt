@@ -175,7 +175,7 @@ expression_parts names nodes true n _ = []
 expression_parts names nodes false n args = part.Name n ∷ []
 
 -- the parts that were put on the stack have the text of a part, and are less work
-pub record Leaves (names : List (List ℕ)) (nodes : List Node) (p : Part) (old new : List Part) : Type 0 where
+pub record PushesParts (names : List (List ℕ)) (nodes : List Node) (p : Part) (old new : List Part) : Type 0 where
   pub left : List Part
   pub is : new ≡ old ++ left
   pub same : (rest : List ℕ) → parts_text names nodes left rest ≡ part_text names nodes p ++ rest

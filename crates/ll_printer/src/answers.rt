@@ -54,8 +54,10 @@ pub(crate) fn write_bindings<T: Terms>(
 ) -> Result<(), OutOfMemory>
     requires inside { All (λ a. T.has terms.now a.0) places.now }
     requires enough { length asked.now ≤ length places.now }
-    ensures text { OnOk result (out.new.items ≡ out.old.items ++ binding_lines names.now asked.now (map (λ a. T.tree terms.now a.0) places.now)) }
-    ensures begun { BeginsText (binding_lines names.now asked.now (map (λ a. T.tree terms.now a.0) places.now)) out.old.items out.new.items }
+    ensures text { OnOk result (out.new.items ≡ out.old.items ++ binding_lines names.now asked.now
+        (map (λ a. T.tree terms.now a.0) places.now)) }
+    ensures begun { BeginsText (binding_lines names.now asked.now
+        (map (λ a. T.tree terms.now a.0) places.now)) out.old.items out.new.items }
 {
     for i in 0..asked.len() {
         write_binding(alloc, names, asked[i], terms, places[i], out)?;

@@ -2,21 +2,22 @@
 ghost use Rattle.std.specs.Prelude.{◌≡◌, ◌<◌, ◌++◌, ◌∷◌, ◌&&◌, ◌||◌, [], OnOk, All, length, nat_eq};
 ghost use Rattle.ll_parser.specs.Nodes.{raw_at, identifier};
 ghost use Rattle.ll_parser.specs.Printed.{is_add as is_add_sign, is_star as is_star_sign};
-ghost use Rattle.ll_printer.specs.Parts.{operator_text, operand_parts, sides_parts, expression_parts, Leaves};
+ghost use Rattle.ll_printer.specs.Parts.{operator_text, operand_parts, sides_parts, expression_parts, PushesParts};
 
 use crate::formulas::{Part, Source, Word, push_all, push_part};
 use crate::words::name_of;
 use ll_bank::OutOfMemory;
 use ll_parser::{Named, RawAt, RawNode};
 
-/// Leaves the parts of an expression.
+/// PushesParts the parts of an expression.
 pub(crate) fn push_expression(
     source: &Source<'_>,
     at: RawAt,
     parts: &mut Vec<Part>,
 ) -> Result<(), OutOfMemory>
     requires { at.0 < length source.now.forms.now }
-    ensures { OnOk result (Leaves source.now.names.now source.now.forms.now (Part.Expression at) parts.old.items parts.new.items) }
+    ensures { OnOk result (PushesParts source.now.names.now source.now.forms.now
+        (Part.Expression at) parts.old.items parts.new.items) }
 {
     match source.forms.node(at) {
         RawNode::Head(name, args) => push_head(source, name, args, parts),
@@ -25,7 +26,7 @@ pub(crate) fn push_expression(
     }
 }
 
-/// Leaves a sign between its two operands, or a name alone.
+/// PushesParts a sign between its two operands, or a name alone.
 fn push_head(
     source: &Source<'_>,
     name: Named,
@@ -43,7 +44,7 @@ fn push_head(
     }
 }
 
-/// Leaves a sign between its two operands.
+/// PushesParts a sign between its two operands.
 fn push_sides(
     source: &Source<'_>,
     name: Named,
@@ -53,7 +54,8 @@ fn push_sides(
 ) -> Result<(), OutOfMemory>
     requires left { left.0 < length source.now.forms.now }
     requires right { right.0 < length source.now.forms.now }
-    ensures { OnOk result (parts.new.items ≡ parts.old.items ++ sides_parts source.now.names.now source.now.forms.now name left right) }
+    ensures { OnOk result (parts.new.items
+        ≡ parts.old.items ++ sides_parts source.now.names.now source.now.forms.now name left right) }
 {
     let sign = name_of(source.names, name.name);
     push_operand(
@@ -72,7 +74,7 @@ fn push_sides(
     push_operand(left, encloses_left(sign, operator_of(source, left)), parts)
 }
 
-/// Leaves an operand, with its brackets if it has any.
+/// PushesParts an operand, with its brackets if it has any.
 fn push_operand(at: RawAt, enclosed: bool, parts: &mut Vec<Part>) -> Result<(), OutOfMemory>
     ensures { OnOk result (parts.new.items ≡ parts.old.items ++ operand_parts enclosed at) }
 {

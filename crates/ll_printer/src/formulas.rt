@@ -4,7 +4,7 @@ ghost use Rattle.ll_parser.specs.Nodes.{raw_at, identifier};
 ghost use Rattle.ll_parser.specs.Printed.{clauses, op_rank, left_rank, right_rank, is_looser, is_cons, is_pair, has_arguments, formula_text, term_text};
 ghost use Rattle.ll_printer.specs.Pieces.{BeginsText};
 ghost use Rattle.ll_printer.specs.Parts.{rank_of, word_text, needs_brackets, inner_text, raw_size, HasPart, AreParts, argument_parts, pair_parts, head_parts};
-ghost use Rattle.ll_printer.specs.Parts.{Leaves, PartMoves};
+ghost use Rattle.ll_printer.specs.Parts.{PushesParts, PartMoves};
 
 use crate::expressions::push_expression;
 use crate::words::{name_of, write_integer};
@@ -108,7 +108,8 @@ pub(crate) fn write_formula(
     out: &mut Vec<u8>,
 ) -> Result<(), OutOfMemory>
     requires { at.0 < length source.now.forms.now }
-    ensures text { OnOk result (out.new.items ≡ out.old.items ++ formula_text clauses false (raw_at source.now.names.now source.now.forms.now at.0)) }
+    ensures text { OnOk result (out.new.items ≡ out.old.items ++ formula_text clauses false
+        (raw_at source.now.names.now source.now.forms.now at.0)) }
     ensures begun { OnErr result (BeginsText (formula_text clauses false (raw_at source.now.names.now source.now.forms.now at.0)) out.old.items out.new.items) }
 {
     let mut parts = Vec::new(alloc);
@@ -270,7 +271,7 @@ fn has_brackets(source: &Source<'_>, at: RawAt, level: Level, followed: bool) ->
     }
 }
 
-/// Leaves a formula, with its brackets if it has any.
+/// PushesParts a formula, with its brackets if it has any.
 fn push_formula(
     source: &Source<'_>,
     at: RawAt,
@@ -279,7 +280,8 @@ fn push_formula(
     parts: &mut Vec<Part>,
 ) -> Result<(), OutOfMemory>
     requires { at.0 < length source.now.forms.now }
-    ensures { OnOk result (Leaves source.now.names.now source.now.forms.now (Part.Formula at level followed) parts.old.items parts.new.items) }
+    ensures { OnOk result (PushesParts source.now.names.now source.now.forms.now
+        (Part.Formula at level followed) parts.old.items parts.new.items) }
 {
     if has_brackets(source, at, level, followed) {
         push_all(
@@ -295,7 +297,7 @@ fn push_formula(
     }
 }
 
-/// Leaves the parts of a formula without brackets round it.
+/// PushesParts the parts of a formula without brackets round it.
 fn push_inside(
     source: &Source<'_>,
     at: RawAt,
@@ -303,7 +305,8 @@ fn push_inside(
     parts: &mut Vec<Part>,
 ) -> Result<(), OutOfMemory>
     requires { at.0 < length source.now.forms.now }
-    ensures { OnOk result (Leaves source.now.names.now source.now.forms.now (Part.Inside at followed) parts.old.items parts.new.items) }
+    ensures { OnOk result (PushesParts source.now.names.now source.now.forms.now
+        (Part.Inside at followed) parts.old.items parts.new.items) }
 {
     match source.forms.node(at) {
         RawNode::True => push_part(Part::Word(Word::True), parts),
@@ -336,14 +339,15 @@ fn push_inside(
     }
 }
 
-/// Leaves a whole-number goal.
+/// PushesParts a whole-number goal.
 fn push_number(
     word: Word,
     left: RawAt,
     right: RawAt,
     parts: &mut Vec<Part>,
 ) -> Result<(), OutOfMemory>
-    ensures { OnOk result (parts.new.items ≡ parts.old.items ++ Part.Expression right ∷ Part.Word word ∷ Part.Expression left ∷ []) }
+    ensures { OnOk result (parts.new.items ≡ parts.old.items ++ Part.Expression right ∷ Part.Word word
+        ∷ Part.Expression left ∷ []) }
 {
     push_all(
         &[
@@ -355,14 +359,14 @@ fn push_number(
     )
 }
 
-/// Leaves parts, the last one on top.
+/// PushesParts parts, the last one on top.
 pub(crate) fn push_all(more: &[Part], parts: &mut Vec<Part>) -> Result<(), OutOfMemory>
     ensures { OnOk result (parts.new.items ≡ parts.old.items ++ more.now) }
 {
     parts.extend_from_slice(more)
 }
 
-/// Leaves a load.
+/// PushesParts a load.
 fn push_load(
     name: Named,
     args: &[RawAt],
@@ -370,15 +374,16 @@ fn push_load(
     followed: bool,
     parts: &mut Vec<Part>,
 ) -> Result<(), OutOfMemory>
-    ensures { OnOk result (parts.new.items ≡ parts.old.items
-        ++ (Part.Formula goal Level.Arrows followed ∷ Part.Word Word.LoadArrow ∷ (argument_parts args.now ++ Part.Name name ∷ []))) }
+    ensures { OnOk result (parts.new.items
+        ≡ parts.old.items ++ (Part.Formula goal Level.Arrows followed ∷ Part.Word Word.LoadArrow
+        ∷ (argument_parts args.now ++ Part.Name name ∷ []))) }
 {
     push_part(Part::Formula(goal, Level::Arrows, followed), parts)?;
     push_part(Part::Word(Word::LoadArrow), parts)?;
     push_head(name, args, parts)
 }
 
-/// Leaves one part.
+/// PushesParts one part.
 pub(crate) fn push_part(part: Part, parts: &mut Vec<Part>) -> Result<(), OutOfMemory>
     ensures { OnOk result (parts.new.items ≡ parts.old.items ++ part ∷ []) }
 {
@@ -386,15 +391,15 @@ pub(crate) fn push_part(part: Part, parts: &mut Vec<Part>) -> Result<(), OutOfMe
     Ok(())
 }
 
-/// Leaves a quantified formula.
+/// PushesParts a quantified formula.
 fn push_bound(
     word: Word,
     name: Named,
     body: RawAt,
     parts: &mut Vec<Part>,
 ) -> Result<(), OutOfMemory>
-    ensures { OnOk result (parts.new.items ≡ parts.old.items ++ Part.Formula body Level.Clauses false ∷ Part.Word Word.Backslash ∷ Part.Name name
-        ∷ Part.Word word ∷ []) }
+    ensures { OnOk result (parts.new.items ≡ parts.old.items ++ Part.Formula body Level.Clauses false
+        ∷ Part.Word Word.Backslash ∷ Part.Name name ∷ Part.Word word ∷ []) }
 {
     push_all(
         &[
@@ -407,7 +412,7 @@ fn push_bound(
     )
 }
 
-/// Leaves a name and its arguments.
+/// PushesParts a name and its arguments.
 fn push_head(name: Named, args: &[RawAt], parts: &mut Vec<Part>) -> Result<(), OutOfMemory>
     ensures { OnOk result (parts.new.items ≡ parts.old.items ++ (argument_parts args.now ++ Part.Name name ∷ [])) }
 {
@@ -415,7 +420,7 @@ fn push_head(name: Named, args: &[RawAt], parts: &mut Vec<Part>) -> Result<(), O
     push_part(Part::Name(name), parts)
 }
 
-/// Leaves arguments, the first one on top.
+/// PushesParts arguments, the first one on top.
 fn push_arguments(args: &[RawAt], parts: &mut Vec<Part>) -> Result<(), OutOfMemory>
     ensures { OnOk result (parts.new.items ≡ parts.old.items ++ argument_parts args.now) }
 {
@@ -427,10 +432,11 @@ fn push_arguments(args: &[RawAt], parts: &mut Vec<Part>) -> Result<(), OutOfMemo
     Ok(())
 }
 
-/// Leaves the parts of a term.
+/// PushesParts the parts of a term.
 fn push_term(source: &Source<'_>, at: RawAt, parts: &mut Vec<Part>) -> Result<(), OutOfMemory>
     requires { at.0 < length source.now.forms.now }
-    ensures { OnOk result (Leaves source.now.names.now source.now.forms.now (Part.Term at) parts.old.items parts.new.items) }
+    ensures { OnOk result (PushesParts source.now.names.now source.now.forms.now
+        (Part.Term at) parts.old.items parts.new.items) }
 {
     match source.forms.node(at) {
         RawNode::Head(name, args) => push_applied(source.names, name, args, parts),
@@ -439,7 +445,7 @@ fn push_term(source: &Source<'_>, at: RawAt, parts: &mut Vec<Part>) -> Result<()
     }
 }
 
-/// Leaves a name and its arguments, the two of a `::` on its sides.
+/// PushesParts a name and its arguments, the two of a `::` on its sides.
 fn push_applied(
     names: &Names,
     name: Named,
@@ -456,7 +462,7 @@ fn push_applied(
     }
 }
 
-/// Leaves the two arguments of a `::`, and the sign between them.
+/// PushesParts the two arguments of a `::`, and the sign between them.
 fn push_pair(args: &[RawAt], parts: &mut Vec<Part>) -> Result<(), OutOfMemory>
     requires { length args.now ≡ 2 }
     ensures { OnOk result (parts.new.items ≡ parts.old.items ++ pair_parts args.now) }
@@ -471,10 +477,11 @@ fn push_pair(args: &[RawAt], parts: &mut Vec<Part>) -> Result<(), OutOfMemory>
     )
 }
 
-/// Leaves a space and a term, in brackets where it has arguments.
+/// PushesParts a space and a term, in brackets where it has arguments.
 fn push_argument(source: &Source<'_>, at: RawAt, parts: &mut Vec<Part>) -> Result<(), OutOfMemory>
     requires { at.0 < length source.now.forms.now }
-    ensures { OnOk result (Leaves source.now.names.now source.now.forms.now (Part.Argument at) parts.old.items parts.new.items) }
+    ensures { OnOk result (PushesParts source.now.names.now source.now.forms.now
+        (Part.Argument at) parts.old.items parts.new.items) }
 {
     if has_any_arguments(source, at) {
         push_all(
@@ -491,10 +498,11 @@ fn push_argument(source: &Source<'_>, at: RawAt, parts: &mut Vec<Part>) -> Resul
     }
 }
 
-/// Leaves the term in front of a `::`, in brackets where it is itself of the form `X::L`.
+/// PushesParts the term in front of a `::`, in brackets where it is itself of the form `X::L`.
 fn push_item(source: &Source<'_>, at: RawAt, parts: &mut Vec<Part>) -> Result<(), OutOfMemory>
     requires { at.0 < length source.now.forms.now }
-    ensures { OnOk result (Leaves source.now.names.now source.now.forms.now (Part.Item at) parts.old.items parts.new.items) }
+    ensures { OnOk result (PushesParts source.now.names.now source.now.forms.now
+        (Part.Item at) parts.old.items parts.new.items) }
 {
     if is_pair_at(source, at) {
         push_all(

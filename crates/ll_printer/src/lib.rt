@@ -22,7 +22,7 @@ use ll_bank::{At, Bank, Names, OutOfMemory};
 use ll_laws::{Branch, Counts, Problem, Terms};
 use std::alloc::Global;
 
-/// Appends the text of a term: `?n` for a variable, `#n` for an eigenconstant, `X::L` with brackets round an `X` of this form. A name
+/// Appends the text of a term: `?n` for a variable, `#n` for an eigenvariable, `X::L` with brackets round an `X` of this form. A name
 /// without a text prints as nothing, and so does a bound place.
 ///
 /// After a refusal some first bytes of it may have been appended. It needs no deep stack.
@@ -51,8 +51,10 @@ pub fn answer(
     out: &mut Vec<u8>,
 ) -> Result<(), OutOfMemory>
     requires { length problem.now.asked ≤ length branch.now.terms }
-    ensures text { OnOk result (out.new.items ≡ out.old.items ++ (line (codes "answer " ++ decimal number) ++ bindings_text problem.now branch.now)) }
-    ensures begun { BeginsText (line (codes "answer " ++ decimal number) ++ bindings_text problem.now branch.now) out.old.items out.new.items }
+    ensures text { OnOk result (out.new.items
+        ≡ out.old.items ++ (line (codes "answer " ++ decimal number) ++ bindings_text problem.now branch.now)) }
+    ensures begun { BeginsText (line (codes "answer " ++ decimal number)
+        ++ bindings_text problem.now branch.now) out.old.items out.new.items }
 {
     title(number, out)?;
     bindings(alloc, problem, branch, out)
@@ -89,8 +91,8 @@ pub fn bindings_of<T: Terms>(
     requires enough { length problem.now.asked ≤ length places.now }
     ensures text { OnOk result (out.new.items ≡ out.old.items
         ++ bindings_text problem.now (record { terms = map (λ a. T.tree terms.now a.0) places.now; steps = [] })) }
-    ensures begun { BeginsText (bindings_text problem.now (record { terms = map (λ a. T.tree terms.now a.0) places.now; steps = [] }))
-        out.old.items out.new.items }
+    ensures begun { BeginsText (bindings_text problem.now
+        (record { terms = map (λ a. T.tree terms.now a.0) places.now; steps = [] })) out.old.items out.new.items }
 {
     if has_names(&problem.asked) {
         write_bindings(alloc, &problem.names, &problem.asked, terms, places, out)

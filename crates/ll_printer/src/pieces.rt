@@ -57,9 +57,11 @@ fn print_piece<'a, T: Terms>(
 ) -> Result<Option<TermView<'a>>, OutOfMemory>
     requires piece { HasPiece (T.has terms.now) piece }
     requires pieces { All (HasPiece (T.has terms.now)) pieces.old.items }
-    ensures moves { IfOk result (λ next. Moves names.now (T.has terms.now) (T.tree terms.now) (piece_text names.now (T.tree terms.now) piece)
+    ensures moves { IfOk result (λ next. Moves names.now (T.has terms.now) (T.tree terms.now)
+        (piece_text names.now (T.tree terms.now) piece)
         (piece_weight (T.tree terms.now) piece) pieces.old.items out.old.items pieces.new.items next out.new.items) }
-    ensures begun { OnErr result (BeginsText (piece_text names.now (T.tree terms.now) piece) out.old.items out.new.items) }
+    ensures begun { OnErr result (BeginsText
+        (piece_text names.now (T.tree terms.now) piece) out.old.items out.new.items) }
 {
     match piece {
         Piece::Argument(at) => print_argument(names, terms, at, pieces, out),
@@ -87,7 +89,8 @@ fn print_argument<'a, T: Terms>(
     ensures moves { IfOk result (λ next. Moves names.now (T.has terms.now) (T.tree terms.now)
         (piece_text names.now (T.tree terms.now) (Piece.Argument at)) (2 * term_size (T.tree terms.now at.0) + 2)
         pieces.old.items out.old.items pieces.new.items next out.new.items) }
-    ensures begun { OnErr result (BeginsText (piece_text names.now (T.tree terms.now) (Piece.Argument at)) out.old.items out.new.items) }
+    ensures begun { OnErr result (BeginsText
+        (piece_text names.now (T.tree terms.now) (Piece.Argument at)) out.old.items out.new.items) }
 {
     let view = terms.view(at);
     if has_arguments(view) {
@@ -111,7 +114,8 @@ fn print_view<'a, T: Terms>(
     ensures moves { IfOk result (λ next. Moves names.now (T.has terms.now) (T.tree terms.now)
         (term_text names.now (view_term (T.tree terms.now) view.entry)) (2 * term_size (view_term (T.tree terms.now) view.entry))
         pieces.old.items out.old.items pieces.new.items next out.new.items) }
-    ensures begun { OnErr result (BeginsText (term_text names.now (view_term (T.tree terms.now) view.entry)) out.old.items out.new.items) }
+    ensures begun { OnErr result (BeginsText
+        (term_text names.now (view_term (T.tree terms.now) view.entry)) out.old.items out.new.items) }
 {
     match view {
         TermView::Var(number) => {
@@ -147,7 +151,8 @@ fn print_cons<'a, T: Terms>(
     ensures moves { IfOk result (λ next. Moves names.now (T.has terms.now) (T.tree terms.now)
         (cell_text names.now (map (λ a. T.tree terms.now a.0) args.now)) (cell_weight (map (λ a. T.tree terms.now a.0) args.now))
         pieces.old.items out.old.items pieces.new.items next out.new.items) }
-    ensures begun { OnErr result (BeginsText (cell_text names.now (map (λ a. T.tree terms.now a.0) args.now)) out.old.items out.new.items) }
+    ensures begun { OnErr result (BeginsText
+        (cell_text names.now (map (λ a. T.tree terms.now a.0) args.now)) out.old.items out.new.items) }
 {
     let item = terms.view(args[0]);
     let rest = args[1];
@@ -172,9 +177,11 @@ fn print_arguments<'a, T: Terms>(
     requires args { All (λ a. T.has terms.now a.0) args.now }
     requires pieces { All (HasPiece (T.has terms.now)) pieces.old.items }
     ensures moves { IfOk result (λ next. Moves names.now (T.has terms.now) (T.tree terms.now)
-        (arguments_text names.now (map (λ a. T.tree terms.now a.0) args.now)) (arguments_weight (map (λ a. T.tree terms.now a.0) args.now) + 2)
-        pieces.old.items out.old.items pieces.new.items next out.new.items) }
-    ensures begun { OnErr result (BeginsText (arguments_text names.now (map (λ a. T.tree terms.now a.0) args.now)) out.old.items out.new.items) }
+        (arguments_text names.now (map (λ a. T.tree terms.now a.0) args.now))
+        (arguments_weight (map (λ a. T.tree terms.now a.0) args.now)
+        + 2) pieces.old.items out.old.items pieces.new.items next out.new.items) }
+    ensures begun { OnErr result (BeginsText
+        (arguments_text names.now (map (λ a. T.tree terms.now a.0) args.now)) out.old.items out.new.items) }
 {
     for i in 0..args.len() {
         let view = terms.view(args[i]);
@@ -207,9 +214,11 @@ fn open_item(
     pieces: &mut Vec<Piece>,
     out: &mut Vec<u8>,
 ) -> Result<(), OutOfMemory>
-    ensures pieces { OnOk result (pieces.new.items ≡ pieces.old.items ++ closing_pieces (is_cons_view names.now view.entry)) }
+    ensures pieces { OnOk result (pieces.new.items
+        ≡ pieces.old.items ++ closing_pieces (is_cons_view names.now view.entry)) }
     ensures text { OnOk result (out.new.items ≡ out.old.items ++ opening_text (is_cons_view names.now view.entry)) }
-    ensures begun { OnErr result (BeginsText (opening_text (is_cons_view names.now view.entry)) out.old.items out.new.items) }
+    ensures begun { OnErr result (BeginsText
+        (opening_text (is_cons_view names.now view.entry)) out.old.items out.new.items) }
 {
     if is_cons(names, view) {
         open_bracket(b"(", pieces, out)?;
@@ -239,7 +248,8 @@ fn write_all(bytes: &[u8], out: &mut Vec<u8>) -> Result<(), OutOfMemory>
 /// Appends a space and a term without its arguments. After a refusal some first bytes of them may have been appended.
 fn write_short(names: &Names, view: TermView<'_>, out: &mut Vec<u8>) -> Result<(), OutOfMemory>
     ensures text { OnOk result (out.new.items ≡ out.old.items ++ (codes " " ++ sign_text names.now view.entry)) }
-    ensures begun { OnErr result (BeginsText (codes " " ++ sign_text names.now view.entry) out.old.items out.new.items) }
+    ensures begun { OnErr result (BeginsText
+        (codes " " ++ sign_text names.now view.entry) out.old.items out.new.items) }
 {
     write_all(b" ", out)?;
     write_sign(names, view, out)

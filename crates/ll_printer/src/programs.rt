@@ -52,7 +52,8 @@ fn write_module(
     out: &mut Vec<u8>,
 ) -> Result<(), OutOfMemory>
     requires { ModuleFits source.now.forms.now «module».now }
-    ensures text { OnOk result (out.new.items ≡ out.old.items ++ module_text (shown_module source.now.names.now source.now.forms.now «module».now)) }
+    ensures text { OnOk result (out.new.items
+        ≡ out.old.items ++ module_text (shown_module source.now.names.now source.now.forms.now «module».now)) }
     ensures begun { OnErr result (BeginsText (module_text (shown_module source.now.names.now source.now.forms.now «module».now)) out.old.items out.new.items) }
 {
     out.extend_from_slice(b"MODULE")?;
@@ -65,7 +66,8 @@ fn write_module(
 /// Appends the line `LOCAL` of these constants, if there are any. After a refusal some first bytes of it may have been appended.
 fn write_locals(names: &Names, locals: &[Named], out: &mut Vec<u8>) -> Result<(), OutOfMemory>
     ensures text { OnOk result (out.new.items ≡ out.old.items ++ locals_text (map (identifier names.now) locals.now)) }
-    ensures begun { OnErr result (BeginsText (locals_text (map (identifier names.now) locals.now)) out.old.items out.new.items) }
+    ensures begun { OnErr result (BeginsText
+        (locals_text (map (identifier names.now) locals.now)) out.old.items out.new.items) }
 {
     if locals.is_empty() {
         return Ok(());
@@ -77,7 +79,8 @@ fn write_locals(names: &Names, locals: &[Named], out: &mut Vec<u8>) -> Result<()
 /// Appends names, a space before each, and the end of the line. After a refusal some first bytes of it may have been appended.
 fn write_names(names: &Names, list: &[Named], out: &mut Vec<u8>) -> Result<(), OutOfMemory>
     ensures text { OnOk result (out.new.items ≡ out.old.items ++ names_text (map (identifier names.now) list.now)) }
-    ensures begun { OnErr result (BeginsText (names_text (map (identifier names.now) list.now)) out.old.items out.new.items) }
+    ensures begun { OnErr result (BeginsText
+        (names_text (map (identifier names.now) list.now)) out.old.items out.new.items) }
 {
     for i in 0..list.len() {
         write_name(names, list[i], out)?;
@@ -88,7 +91,8 @@ fn write_names(names: &Names, list: &[Named], out: &mut Vec<u8>) -> Result<(), O
 /// Appends a space and a name. After a refusal the space may have been appended.
 fn write_name(names: &Names, name: Named, out: &mut Vec<u8>) -> Result<(), OutOfMemory>
     ensures text { OnOk result (out.new.items ≡ out.old.items ++ (codes " " ++ (identifier names.now name).text)) }
-    ensures begun { OnErr result (BeginsText (codes " " ++ (identifier names.now name).text) out.old.items out.new.items) }
+    ensures begun { OnErr result (BeginsText
+        (codes " " ++ (identifier names.now name).text) out.old.items out.new.items) }
 {
     out.push(b' ')?;
     write_identifier(names, name, out)
@@ -102,7 +106,8 @@ fn write_clauses(
     out: &mut Vec<u8>,
 ) -> Result<(), OutOfMemory>
     requires { ClausesFit source.now.forms.now list.now }
-    ensures text { OnOk result (out.new.items ≡ out.old.items ++ clauses_text (map (shown_clause source.now.names.now source.now.forms.now) list.now)) }
+    ensures text { OnOk result (out.new.items
+        ≡ out.old.items ++ clauses_text (map (shown_clause source.now.names.now source.now.forms.now) list.now)) }
     ensures begun { OnErr result (BeginsText (clauses_text (map (shown_clause source.now.names.now source.now.forms.now) list.now)) out.old.items
         out.new.items) }
 {
@@ -120,8 +125,10 @@ fn write_clause(
     out: &mut Vec<u8>,
 ) -> Result<(), OutOfMemory>
     requires { clause.form.0 < length source.now.forms.now }
-    ensures text { OnOk result (out.new.items ≡ out.old.items ++ clause_text (shown_clause source.now.names.now source.now.forms.now clause)) }
-    ensures begun { OnErr result (BeginsText (clause_text (shown_clause source.now.names.now source.now.forms.now clause)) out.old.items out.new.items) }
+    ensures text { OnOk result (out.new.items
+        ≡ out.old.items ++ clause_text (shown_clause source.now.names.now source.now.forms.now clause)) }
+    ensures begun { OnErr result (BeginsText
+        (clause_text (shown_clause source.now.names.now source.now.forms.now clause)) out.old.items out.new.items) }
 {
     if clause.linear {
         out.extend_from_slice(b"LINEAR ")?;

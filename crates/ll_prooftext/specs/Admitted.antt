@@ -41,7 +41,7 @@ abbrev mutual
   IsSpelledSpine names (Con h) = IsPlainHead names h
   IsSpelledSpine names (Ap f a) = IsSpelledSpine names f × IsSpelledTerm names a
 
--- labels, leaves and the numbers of eigenconstants fit 32 bits
+-- labels, leaves and the numbers of eigenvariables fit 32 bits
 abbrev pub AreLabels : List ℕ → Type 0
 AreLabels s = All (λ n. n < 2 ^ 32) s
 

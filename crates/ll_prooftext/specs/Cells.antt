@@ -11,7 +11,7 @@ use Rattle.ll_prooftext.specs.Admitted.{IsPlainHead}
 use Rattle.ll_prooftext.specs.Reading.{Want, Cell, Plain, Sign, after_field, Fields, IsAtEnd}
 use Rattle.ll_prooftext.specs.Terms.{Grows, Moves, IsSpelledAt}
 use Rattle.ll_prooftext.specs.Fields.{IsMissing, LacksField, HasNoTerm}
-use Rattle.ll_prooftext.specs.Sharing.{Stands, AreCells}
+use Rattle.ll_prooftext.specs.Sharing.{StandsFor, AreCells}
 
 -- it holds over the names, and over more
 abbrev pub Stays : List (List ℕ) → (List (List ℕ) → Type 0) → Type 0
@@ -24,7 +24,7 @@ MovesBy names bank word new over = (rest : List ℕ) → IsAtEnd rest → Moves 
 -- the place of the term that a word stands for
 pub record IsCellOf (rows : List Term) (word : List ℕ) (names : List (List ℕ)) (bank : Nodes) (at : ℕ) : Type 0 where
   pub good : IsSpelledAt names bank at
-  pub stands : Stays names (λ ns. Stands ns rows (term_tree bank at) word)
+  pub stands : Stays names (λ ns. StandsFor ns rows (term_tree bank at) word)
 
 -- the term of a field at the front of the bytes, and what stands behind it
 pub record IsCellField (rows : List Term) (names : List (List ℕ)) (bank : Nodes) (bytes : List ℕ) (new : List (List ℕ)) (over : Nodes) (at : ℕ) (rest : List ℕ)

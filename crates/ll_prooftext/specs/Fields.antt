@@ -19,7 +19,7 @@ use Rattle.ll_prooftext.specs.Brackets.{args_text}
 
 -- ---- refusals
 
--- why a line was refused: a field is wrong or lacks where so many bytes are left, or want of memory
+-- why a line was refused: a field is wrong or lacks where so many bytes are left, or that memory ran out
 abbrev pub Refuses : (ℕ → Type 0) → Refusal → Type 0
 Refuses P refusal.Word = ⊥
 Refuses P (refusal.Field left) = P left

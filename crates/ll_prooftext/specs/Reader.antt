@@ -73,8 +73,8 @@ abbrev pub read_so_far : Reading → DerivationLines
 read_so_far o = record { asked = term_trees o.bank o.asked.items; nodes = map (line_of o.bank) o.nodes.items }
 
 -- a line was added
-pub data Takes (names : List (List ℕ)) (o : Reading) (bytes : List ℕ) (new : List (List ℕ)) (p : Reading) : Type 0 where
+pub data AddsLine (names : List (List ℕ)) (o : Reading) (bytes : List ℕ) (new : List (List ℕ)) (p : Reading) : Type 0 where
   variable : (at : At) → IsLetRow names o.bank bytes (is_none o.nodes.items) new p.bank at.0 → p.asked.items ≡ o.asked.items ++ at ∷ []
-      → p.nodes.items ≡ o.nodes.items → p.lacking ≡ o.lacking → Takes names o bytes new p
+      → p.nodes.items ≡ o.nodes.items → p.lacking ≡ o.lacking → AddsLine names o bytes new p
   node : (r : Rule) → IsNodeRow names o.bank bytes new p.bank r → p.nodes.items ≡ o.nodes.items ++ r ∷ [] → p.asked.items ≡ o.asked.items
-      → p.lacking ≡ o.lacking - 1 + children (line_of p.bank r) → Takes names o bytes new p
+      → p.lacking ≡ o.lacking - 1 + children (line_of p.bank r) → AddsLine names o bytes new p

@@ -55,7 +55,7 @@ pub record IsDecimal (bits : ℕ) (text : List ℕ) : Type 0 where
   pub small : number < 2 ^ bits
   pub is : text ≡ decimal number
 
--- a label, a leaf, or the number of an eigenconstant
+-- a label, a leaf, or the number of an eigenvariable
 abbrev pub IsNumber : List ℕ → Type 0
 IsNumber text = IsDecimal 32 text
 
@@ -286,7 +286,7 @@ pub data HasFault (text : List ℕ) : Fault → Type 0 where
   left_over : (bytes : List ℕ) (more : List (List ℕ)) (b : Begins (text_lines text) (bytes ∷ more) 0)
       → HasFault text (record { at = record { line = next_line b; column = 1 }; kind = 16 })
 
--- why the text was not read: its first fault, or want of memory
+-- why the text was not read: its first fault, or that memory ran out
 abbrev pub IsCause : List ℕ → TextFault → Type 0
 IsCause text (fault.Text f) = HasFault text f
 IsCause text fault.OutOfMemory = Unit {0}

@@ -75,7 +75,7 @@ pub data HasFault2 (text : List ℕ) : Fault → Type 0 where
   off_table : (k : ℕ) (b : BeginsOver (text_lines text) [] 0) → IsDistinct bytes_eq b.names → IsOff b.rows (derivation b) k
       → HasFault2 text (record { at = record { line = k + 2; column = 1 }; kind = 18 })
 
--- why the text was not read: its first fault, or want of memory
+-- why the text was not read: its first fault, or that memory ran out
 abbrev pub IsCause2 : List ℕ → TextFault → Type 0
 IsCause2 text (fault.Text f) = HasFault2 text f
 IsCause2 text fault.OutOfMemory = Unit {0}

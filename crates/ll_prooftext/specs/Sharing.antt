@@ -11,14 +11,14 @@ use Rattle.ll_prooftext.specs.Admitted.{IsPlainHead}
 -- ---- fields
 
 -- the text of a field stands for this term: one without arguments as it is printed, or a row by its number
-pub data Stands (names : List (List ℕ)) (rows : List Term) (t : Term) (text : List ℕ) : Type 0 where
-  itself : has_arguments t ≡ false → text ≡ term_text names t → Stands names rows t text
-  by_row : (k : ℕ) → slice_get rows k ≡ Some t → text ≡ codes "@" ++ decimal k → Stands names rows t text
+pub data StandsFor (names : List (List ℕ)) (rows : List Term) (t : Term) (text : List ℕ) : Type 0 where
+  itself : has_arguments t ≡ false → text ≡ term_text names t → StandsFor names rows t text
+  by_row : (k : ℕ) → slice_get rows k ≡ Some t → text ≡ codes "@" ++ decimal k → StandsFor names rows t text
 
 -- fields, a space before each, stand for these terms
 pub data AreCells (names : List (List ℕ)) (rows : List Term) : List Term → List ℕ → Type 0 where
   no_cells : AreCells names rows [] []
-  next_cell : {t : Term} {ts : List Term} {text rest : List ℕ} → Stands names rows t text → AreCells names rows ts rest
+  next_cell : {t : Term} {ts : List Term} {text rest : List ℕ} → StandsFor names rows t text → AreCells names rows ts rest
       → AreCells names rows (t ∷ ts) (32 ∷ text ++ rest)
 
 -- ---- lines
@@ -43,12 +43,12 @@ pub data AreShares (names : List (List ℕ)) : List Term → List (List ℕ) →
 -- the line of a variable of the query
 pub record IsLet (names : List (List ℕ)) (rows : List Term) (t : Term) (line : List ℕ) : Type 0 where
   pub text : List ℕ
-  pub stands : Stands names rows t text
+  pub stands : StandsFor names rows t text
   pub is : line ≡ codes "let" ++ field text
 
 pub record IsExists (names : List (List ℕ)) (rows : List Term) (t : Term) (line : List ℕ) : Type 0 where
   pub text : List ℕ
-  pub stands : Stands names rows t text
+  pub stands : StandsFor names rows t text
   pub is : line ≡ codes "exists" ++ field text
 
 -- a label, a leaf, terms, and the text of the premises

@@ -57,7 +57,7 @@ is_part b = ((is_not 32 b && is_not 40 b) && is_not 41 b) && is_not 58 b
 pub data Shape : Type 0 where
   Wanted Bare Applied Closed : Shape
 
--- a name or an eigenconstant
+-- a name or an eigenvariable
 pub data IsHeadWord (w : List ℕ) : Type 0 where
   name : IsPlainName w → IsHeadWord w
   eigen : (n : List ℕ) → w ≡ 35 ∷ n → IsNumber n → IsHeadWord w
@@ -148,14 +148,14 @@ pub data PartWay (c : Bool) (p : Shape) (fs : List Frame) (bytes : List ℕ) (gs
       → PartWay c p fs bytes gs left
 
 -- from brackets and the bytes behind them to those after one step
-abbrev pub Goes : List Frame → List ℕ → List Frame → List ℕ → Type 0
-Goes [] bytes gs left = ⊥
-Goes (frame c Wanted ∷ fs) bytes gs left = FirstWay c fs bytes gs left
-Goes (frame c Bare ∷ fs) bytes gs left = PartWay c Bare fs bytes gs left
-Goes (frame c Applied ∷ fs) bytes gs left = PartWay c Applied fs bytes gs left
-Goes (frame c Closed ∷ fs) bytes gs left = PartWay c Closed fs bytes gs left
+abbrev pub WaysOn : List Frame → List ℕ → List Frame → List ℕ → Type 0
+WaysOn [] bytes gs left = ⊥
+WaysOn (frame c Wanted ∷ fs) bytes gs left = FirstWay c fs bytes gs left
+WaysOn (frame c Bare ∷ fs) bytes gs left = PartWay c Bare fs bytes gs left
+WaysOn (frame c Applied ∷ fs) bytes gs left = PartWay c Applied fs bytes gs left
+WaysOn (frame c Closed ∷ fs) bytes gs left = PartWay c Closed fs bytes gs left
 
 -- the brackets are closed in the bytes, and these stand behind the last one
 pub data Accepts (end : List ℕ) : List Frame → List ℕ → Type 0 where
   closed : {fs : List Frame} {bytes : List ℕ} → fs ≡ [] → bytes ≡ end → Accepts end fs bytes
-  goes : {fs : List Frame} {bytes : List ℕ} → (gs : List Frame) (left : List ℕ) → Goes fs bytes gs left → Accepts end gs left → Accepts end fs bytes
+  goes : {fs : List Frame} {bytes : List ℕ} → (gs : List Frame) (left : List ℕ) → WaysOn fs bytes gs left → Accepts end gs left → Accepts end fs bytes

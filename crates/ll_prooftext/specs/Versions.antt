@@ -27,7 +27,7 @@ pub data HasFaultIn (text : List ℕ) (f : Fault) : Type 0 where
   first_fault : HasNoVersion (codes "proof 2") (text_lines text) → HasFault text f → HasFaultIn text f
   second_fault : HasVersion (codes "proof 2") (text_lines text) → HasFault2 text f → HasFaultIn text f
 
--- why the text was not read: its first fault, or want of memory
+-- why the text was not read: its first fault, or that memory ran out
 abbrev pub IsCauseIn : List ℕ → TextFault → Type 0
 IsCauseIn text (fault.Text f) = HasFaultIn text f
 IsCauseIn text fault.OutOfMemory = Unit {0}

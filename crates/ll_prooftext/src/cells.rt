@@ -69,7 +69,8 @@ pub(crate) fn cell_field<'a>(
     requires room { length names.old + length bytes.now < 2 ^ 32 }
     requires few { length rows.now < 2 ^ 32 }
     requires rows { All (λ a. IsSpelledAt names.old bank.old a.0) rows.now }
-    ensures ok { IfOk result (λ p. IsCellField (term_trees bank.old rows.now) names.old bank.old bytes.now names.new bank.new p.0.0 p.1.now) }
+    ensures ok { IfOk result (λ p. IsCellField
+        (term_trees bank.old rows.now) names.old bank.old bytes.now names.new bank.new p.0.0 p.1.now) }
     ensures err { IfErr result (Refuses (LacksField (Cell (length rows.now)) bytes.now)) }
     ensures grows { Grows names.old names.new }
 {
@@ -95,7 +96,8 @@ pub(crate) fn cell_fields<'a>(
     requires room { length names.old + length bytes.now < 2 ^ 32 }
     requires few { length rows.now < 2 ^ 32 }
     requires rows { All (λ a. IsSpelledAt names.old bank.old a.0) rows.now }
-    ensures ok { IfOk result (λ p. AreCellFields (term_trees bank.old rows.now) names.old bank.old bytes.now names.new bank.new p.0.items p.1.now) }
+    ensures ok { IfOk result (λ p. AreCellFields
+        (term_trees bank.old rows.now) names.old bank.old bytes.now names.new bank.new p.0.items p.1.now) }
     ensures stops { IfOk result (λ p. HasNoTerm p.1.now) }
     ensures err { IfErr result (Refuses (StopsAtCell (length rows.now) bytes.now)) }
     ensures grows { Grows names.old names.new }
@@ -121,7 +123,8 @@ pub(crate) fn last_cell(
     requires room { length names.old + length bytes.now < 2 ^ 32 }
     requires few { length rows.now < 2 ^ 32 }
     requires rows { All (λ a. IsSpelledAt names.old bank.old a.0) rows.now }
-    ensures ok { IfOk result (λ at. IsCellField (term_trees bank.old rows.now) names.old bank.old bytes.now names.new bank.new at.0 []) }
+    ensures ok { IfOk result (λ at. IsCellField
+        (term_trees bank.old rows.now) names.old bank.old bytes.now names.new bank.new at.0 []) }
     ensures err { IfErr result (Refuses (StopsAt (Then (Cell (length rows.now)) Nothing) bytes.now)) }
     ensures grows { Grows names.old names.new }
 {
@@ -133,8 +136,10 @@ pub(crate) fn last_cell(
 /// The head that is spelled so. A name that is new is added.
 fn front_of(word: &[u8], names: &mut Names, bank: &mut Bank) -> Result<Option<Front>, OutOfMemory>
     requires { length names.old < 2 ^ 32 }
-    ensures found { IfOk result (λ found. MatchOption found ((IsField Plain word.now → ⊥) × (IsField Sign word.now → ⊥)) (IsFrontOf word.now names.new)) }
-    ensures moves { IfOk result (λ found. IfSome found (λ front. MovesBy names.old bank.old word.now names.new bank.new)) }
+    ensures found { IfOk result (λ found. MatchOption found ((IsField Plain word.now → ⊥)
+        × (IsField Sign word.now → ⊥)) (IsFrontOf word.now names.new)) }
+    ensures moves { IfOk result (λ found. IfSome found
+        (λ front. MovesBy names.old bank.old word.now names.new bank.new)) }
     ensures grows { Grows names.old names.new }
 {
     if word == b"::".as_slice() {

@@ -109,8 +109,10 @@ pub(crate) fn write_term_fields(
     out: &mut Vec<u8>,
 ) -> Result<(), OutOfMemory>
     requires { AllInTerms bank.now terms.now }
-    ensures text { OnOk result (out.new.items ≡ out.old.items ++ flat_map (term_field names.now) (term_trees bank.now terms.now)) }
-    ensures begun { BeginsText (flat_map (term_field names.now) (term_trees bank.now terms.now)) out.old.items out.new.items }
+    ensures text { OnOk result (out.new.items ≡ out.old.items ++ flat_map (term_field names.now)
+        (term_trees bank.now terms.now)) }
+    ensures begun { BeginsText (flat_map (term_field names.now)
+        (term_trees bank.now terms.now)) out.old.items out.new.items }
 {
     for i in 0..terms.len() {
         write_term_field(alloc, names, bank, terms[i], out)?;

@@ -33,8 +33,10 @@ pub(crate) fn write_asked(
     out: &mut Vec<u8>,
 ) -> Result<(), OutOfMemory>
     requires { AllInTerms bank.now terms.now }
-    ensures text { OnOk result (out.new.items ≡ out.old.items ++ flat_map (let_text names.now) (term_trees bank.now terms.now)) }
-    ensures begun { BeginsText (flat_map (let_text names.now) (term_trees bank.now terms.now)) out.old.items out.new.items }
+    ensures text { OnOk result (out.new.items ≡ out.old.items ++ flat_map (let_text names.now)
+        (term_trees bank.now terms.now)) }
+    ensures begun { BeginsText (flat_map (let_text names.now)
+        (term_trees bank.now terms.now)) out.old.items out.new.items }
 {
     for i in 0..terms.len() {
         write_let(alloc, names, bank, terms[i], out)?;
@@ -69,8 +71,10 @@ pub(crate) fn write_nodes(
     out: &mut Vec<u8>,
 ) -> Result<(), OutOfMemory>
     requires { HasLines bank.now nodes.now }
-    ensures text { OnOk result (out.new.items ≡ out.old.items ++ flat_map (λ n. line (node_text names.now n)) (map (line_of bank.now) nodes.now)) }
-    ensures begun { BeginsText (flat_map (λ n. line (node_text names.now n)) (map (line_of bank.now) nodes.now)) out.old.items out.new.items }
+    ensures text { OnOk result (out.new.items ≡ out.old.items ++ flat_map (λ n. line (node_text names.now n))
+        (map (line_of bank.now) nodes.now)) }
+    ensures begun { BeginsText (flat_map (λ n. line (node_text names.now n))
+        (map (line_of bank.now) nodes.now)) out.old.items out.new.items }
 {
     for i in 0..nodes.len() {
         write_node(alloc, names, bank, &nodes[i], out)?;

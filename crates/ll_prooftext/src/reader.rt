@@ -8,7 +8,7 @@ ghost use Rattle.ll_prooftext.specs.Terms.{Grows};
 ghost use Rattle.ll_prooftext.specs.Mentions.{text_names};
 ghost use Rattle.ll_prooftext.specs.Reading.{IsTextOf, IsCause, HasNoVersion, text_lines, is_none, children, want};
 ghost use Rattle.ll_prooftext.specs.RowWords.{IsRefused};
-ghost use Rattle.ll_prooftext.specs.Reader.{fault_at, refused_fault, IsWithin, IsNext, TakesLine, HasNoLine, IsBehindVersion, read_so_far, Takes};
+ghost use Rattle.ll_prooftext.specs.Reader.{fault_at, refused_fault, IsWithin, IsNext, TakesLine, HasNoLine, IsBehindVersion, read_so_far, AddsLine};
 
 use crate::bytes::{behind, split_before};
 use crate::rows::{Refusal, Row, read_row};
@@ -83,7 +83,8 @@ pub(crate) fn fault(line: u32, column: u32, kind: u8) -> TextFault
 /// The lines behind the first one, if that is this one.
 pub(crate) fn behind_version<'a>(text: &'a [u8], version: &[u8]) -> Option<Lines<'a>>
     requires { length text.now ≤ 16777216 }
-    ensures { MatchOption result (HasNoVersion version.now (text_lines text.now)) (IsBehindVersion version.now text.now) }
+    ensures { MatchOption result (HasNoVersion version.now (text_lines text.now))
+        (IsBehindVersion version.now text.now) }
 {
     let mut lines = Lines {
         rest: text,
@@ -98,7 +99,7 @@ pub(crate) fn behind_version<'a>(text: &'a [u8], version: &[u8]) -> Option<Lines
 }
 
 impl<'a> Lines<'a> {
-    /// Takes a line.
+    /// AddsLine a line.
     pub(crate) fn next(&mut self) -> Option<TextLine<'a>>
         requires begins { IsNext self.old.at.line self.old.rest.now self.old.at }
         requires room { self.old.at.line + length self.old.rest.now < 2 ^ 31 }
@@ -158,7 +159,7 @@ impl Reading {
         }
     }
 
-    /// Takes all lines of a text.
+    /// AddsLine all lines of a text.
     fn fill(&mut self, alloc: Global, text: &[u8], names: &mut Names) -> Result<(), TextFault>
         requires short { length text.now ≤ 16777216 }
         requires room { length names.old + length text.now < 2 ^ 32 }
@@ -189,12 +190,12 @@ impl Reading {
         Ok(())
     }
 
-    /// Takes a line.
+    /// AddsLine a line.
     fn take(&mut self, alloc: Global, line: &[u8], names: &mut Names) -> Result<(), Refusal>
         requires lacks { 0 < self.old.lacking }
         requires few { self.old.lacking + length line.now < 2 ^ 32 }
         requires room { length names.old + length line.now < 2 ^ 32 }
-        ensures ok { OnOk result (Takes names.old self.old line.now names.new self.new) }
+        ensures ok { OnOk result (AddsLine names.old self.old line.now names.new self.new) }
         ensures err { IfErr result (IsRefused (want (is_none self.old.nodes.items)) line.now) }
         ensures grows { Grows names.old names.new }
     {

@@ -10,7 +10,8 @@ use std::alloc::Global;
 
 /// The labels of a set at the front of the bytes, and what stands behind it.
 pub(crate) fn set_at(alloc: Global, bytes: &[u8]) -> Result<Option<(Vec<u32>, &[u8])>, OutOfMemory>
-    ensures { IfOk result (λ found. MatchOption found (HasNone Set bytes.now) (λ set. IsSetAt bytes.now set.0.items set.1.now)) }
+    ensures { IfOk result (λ found. MatchOption found (HasNone Set bytes.now)
+        (λ set. IsSetAt bytes.now set.0.items set.1.now)) }
 {
     let Some(inside) = behind(bytes, b'{') else {
         return Ok(None);
@@ -40,7 +41,8 @@ pub(crate) fn is_at_end(rest: &[u8]) -> bool
 
 /// The labels that are spelled so: in rising order, a space between two.
 fn labels_of(alloc: Global, body: &[u8]) -> Result<Option<Vec<u32>>, OutOfMemory>
-    ensures { IfOk result (λ found. MatchOption found ((labels : List ℕ) → IsLabelsText body.now labels → ⊥) (λ labels. IsLabelsText body.now labels.items)) }
+    ensures { IfOk result (λ found. MatchOption found ((labels : List ℕ) → IsLabelsText body.now labels
+        → ⊥) (λ labels. IsLabelsText body.now labels.items)) }
 {
     let mut labels = Vec::new(alloc);
     if body.is_empty() {

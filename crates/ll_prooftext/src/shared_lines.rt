@@ -52,7 +52,8 @@ pub(crate) fn read_line(
     requires room { length names.old + length line.now < 2 ^ 32 }
     requires few { length rows.now < 2 ^ 32 }
     requires rows { All (λ a. IsSpelledAt names.old bank.old a.0) rows.now }
-    ensures ok { IfOk result (IsLineOver (term_trees bank.old rows.now) stage names.old bank.old line.now names.new bank.new) }
+    ensures ok { IfOk result (IsLineOver
+        (term_trees bank.old rows.now) stage names.old bank.old line.now names.new bank.new) }
     ensures err { IfErr result (IsRefused (want_over (length rows.now) stage.shares stage.lets) line.now) }
     ensures grows { Grows names.old names.new }
 {
@@ -67,7 +68,8 @@ pub(crate) fn read_line(
 
 /// The first word that is spelled so. `share` and `let` are some where they may stand.
 fn line_word(word: &[u8], stage: Stage) -> Option<LineWord>
-    ensures { MatchOption result ((n : ℕ) → want_over n stage.shares stage.lets word.now ≡ None) (IsLineWord stage word.now) }
+    ensures { MatchOption result ((n : ℕ) → want_over n stage.shares stage.lets word.now ≡ None)
+        (IsLineWord stage word.now) }
 {
     if word == b"share".as_slice() {
         return if stage.shares {
@@ -100,7 +102,8 @@ fn step(
     requires room { length names.old + length rest.now < 2 ^ 32 }
     requires few { length rows.now < 2 ^ 32 }
     requires rows { All (λ a. IsSpelledAt names.old bank.old a.0) rows.now }
-    ensures ok { IfOk result (IsStepOver (term_trees bank.old rows.now) names.old bank.old (spelling word ++ rest.now) names.new bank.new) }
+    ensures ok { IfOk result (IsStepOver (term_trees bank.old rows.now) names.old bank.old
+        (spelling word ++ rest.now) names.new bank.new) }
     ensures err { IfErr result (Refuses (StopsAt (asks_over (length rows.now) word) rest.now)) }
     ensures grows { Grows names.old names.new }
 {
@@ -123,7 +126,8 @@ fn clause(
     requires room { length names.old + length bytes.now < 2 ^ 32 }
     requires few { length rows.now < 2 ^ 32 }
     requires rows { All (λ a. IsSpelledAt names.old bank.old a.0) rows.now }
-    ensures ok { IfOk result (IsClauseOver (term_trees bank.old rows.now) names.old bank.old bytes.now names.new bank.new) }
+    ensures ok { IfOk result (IsClauseOver
+        (term_trees bank.old rows.now) names.old bank.old bytes.now names.new bank.new) }
     ensures err { IfErr result (Refuses (StopsAt (Then Number (Then Number (Cells (length rows.now)))) bytes.now)) }
     ensures grows { Grows names.old names.new }
 {
@@ -151,7 +155,8 @@ fn share(
     requires room { length names.old + length bytes.now < 2 ^ 32 }
     requires few { length rows.now < 2 ^ 32 }
     requires rows { All (λ a. IsSpelledAt names.old bank.old a.0) rows.now }
-    ensures ok { IfOk result (λ at. IsShareOver (term_trees bank.old rows.now) names.old bank.old bytes.now names.new bank.new at.0) }
+    ensures ok { IfOk result (λ at. IsShareOver
+        (term_trees bank.old rows.now) names.old bank.old bytes.now names.new bank.new at.0) }
     ensures err { IfErr result (Refuses (StopsAt (Row (length rows.now)) bytes.now)) }
     ensures grows { Grows names.old names.new }
 {
@@ -176,7 +181,8 @@ fn plain_share(
     requires few { length rows.now < 2 ^ 32 }
     requires rows { All (λ a. IsSpelledAt names.old bank.old a.0) rows.now }
     requires plain { IsPlainHead names.old head }
-    ensures ok { IfOk result (λ at. IsSpineOver (term_trees bank.old rows.now) names.old bank.old bytes.now head names.new bank.new at.0) }
+    ensures ok { IfOk result (λ at. IsSpineOver
+        (term_trees bank.old rows.now) names.old bank.old bytes.now head names.new bank.new at.0) }
     ensures err { IfErr result (Refuses (StopsAt (Then (Cell (length rows.now)) (More (length rows.now))) bytes.now)) }
     ensures grows { Grows names.old names.new }
 {
@@ -210,8 +216,10 @@ fn sign_share(
     requires few { length rows.now < 2 ^ 32 }
     requires rows { All (λ a. IsSpelledAt names.old bank.old a.0) rows.now }
     requires sign { Stays names.old (λ ns. IsSignHead ns head) }
-    ensures ok { IfOk result (λ at. IsPairOver (term_trees bank.old rows.now) names.old bank.old bytes.now head names.new bank.new at.0) }
-    ensures err { IfErr result (Refuses (StopsAt (Then (Cell (length rows.now)) (Then (Cell (length rows.now)) Nothing)) bytes.now)) }
+    ensures ok { IfOk result (λ at. IsPairOver
+        (term_trees bank.old rows.now) names.old bank.old bytes.now head names.new bank.new at.0) }
+    ensures err { IfErr result (Refuses
+        (StopsAt (Then (Cell (length rows.now)) (Then (Cell (length rows.now)) Nothing)) bytes.now)) }
     ensures grows { Grows names.old names.new }
 {
     let (first, behind_first) = cell_field(bytes, rows, names, bank)?;

@@ -156,7 +156,8 @@ impl Sharing {
         requires few { length self.old.rows.items < 2 ^ 32 }
         requires rows { All (λ a. IsSpelledAt names.old self.old.bank a.0) self.old.rows.items }
         ensures ok { OnOk result (TakesOver names.old self.old line.now names.new self.new) }
-        ensures err { IfErr result (IsRefused (want_over (length self.old.rows.items) (is_none self.old.asked.items && is_none self.old.nodes.items)
+        ensures err { IfErr result (IsRefused
+            (want_over (length self.old.rows.items) (is_none self.old.asked.items && is_none self.old.nodes.items)
             (is_none self.old.nodes.items)) line.now) }
         ensures grows { Grows names.old names.new }
     {
@@ -183,8 +184,8 @@ impl Sharing {
         requires asked { AllInTerms self.now.bank self.now.asked.items }
         requires nodes { HasLines self.now.bank self.now.nodes.items }
         requires rows { AllInTerms self.now.bank self.now.rows.items }
-        ensures { IfOk result (λ found. MatchOption found (AreFirstRows (term_trees self.now.bank self.now.rows.items) (derivation_of self.now))
-            (IsOff (term_trees self.now.bank self.now.rows.items) (derivation_of self.now))) }
+        ensures { IfOk result (λ found. MatchOption found (AreFirstRows (term_trees self.now.bank self.now.rows.items)
+            (derivation_of self.now)) (IsOff (term_trees self.now.bank self.now.rows.items) (derivation_of self.now))) }
     {
         let fields = places_of(alloc, &self.asked, &self.nodes)?;
         let mut places = Vec::new(alloc);

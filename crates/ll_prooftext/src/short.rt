@@ -87,7 +87,8 @@ fn write_field(
     requires inside { HasTerm bank.now at.0 }
     requires rows { HasRows bank.now fields }
     requires numbered { HasField fields at }
-    ensures { OnOk result (out.new.items ≡ out.old.items ++ shown names.now bank.now fields.entry (term_tree bank.now at.0)) }
+    ensures { OnOk result (out.new.items ≡ out.old.items ++ shown names.now bank.now fields.entry
+        (term_tree bank.now at.0)) }
 {
     match fields {
         Fields::Bare => Ok(()),
@@ -114,7 +115,8 @@ fn write_fields(
     requires inside { AllInTerms bank.now terms.now }
     requires rows { HasRows bank.now fields }
     requires numbered { All (HasField fields) terms.now }
-    ensures { OnOk result (out.new.items ≡ out.old.items ++ flat_map (shown names.now bank.now fields.entry) (term_trees bank.now terms.now)) }
+    ensures { OnOk result (out.new.items ≡ out.old.items ++ flat_map (shown names.now bank.now fields.entry)
+        (term_trees bank.now terms.now)) }
 {
     for i in 0..terms.len() {
         write_field(alloc, names, bank, fields, terms[i], out)?;
@@ -131,7 +133,8 @@ pub(crate) fn write_shares(
     out: &mut Vec<u8>,
 ) -> Result<(), OutOfMemory>
     requires { IsWhole bank.now table.now }
-    ensures { OnOk result (out.new.items ≡ out.old.items ++ flat_map (share_line names.now (term_trees bank.now table.now.rows.items))
+    ensures { OnOk result (out.new.items
+        ≡ out.old.items ++ flat_map (share_line names.now (term_trees bank.now table.now.rows.items))
         (term_trees bank.now table.now.rows.items)) }
 {
     let mut heads = Bank::new(alloc);
@@ -155,7 +158,8 @@ fn write_share(
     requires table { IsWhole bank.now table.now }
     requires inside { HasTerm bank.now at.0 }
     requires numbered { HasField (Fields.Rows table) at }
-    ensures { OnOk result (out.new.items ≡ out.old.items ++ share_line names.now (term_trees bank.now table.now.rows.items) (term_tree bank.now at.0)) }
+    ensures { OnOk result (out.new.items
+        ≡ out.old.items ++ share_line names.now (term_trees bank.now table.now.rows.items) (term_tree bank.now at.0)) }
 {
     out.extend_from_slice(b"share ")?;
     match bank.term_at(at) {
@@ -182,7 +186,8 @@ pub(crate) fn write_lets(
     requires inside { AllInTerms bank.now terms.now }
     requires rows { HasRows bank.now fields }
     requires numbered { All (HasField fields) terms.now }
-    ensures { OnOk result (out.new.items ≡ out.old.items ++ flat_map (λ t. line (let_text_by (shown names.now bank.now fields.entry) t))
+    ensures { OnOk result (out.new.items
+        ≡ out.old.items ++ flat_map (λ t. line (let_text_by (shown names.now bank.now fields.entry) t))
         (term_trees bank.now terms.now)) }
 {
     for i in 0..terms.len() {
@@ -203,7 +208,8 @@ fn write_let(
     requires inside { HasTerm bank.now at.0 }
     requires rows { HasRows bank.now fields }
     requires numbered { HasField fields at }
-    ensures { OnOk result (out.new.items ≡ out.old.items ++ line (let_text_by (shown names.now bank.now fields.entry) (term_tree bank.now at.0))) }
+    ensures { OnOk result (out.new.items
+        ≡ out.old.items ++ line (let_text_by (shown names.now bank.now fields.entry) (term_tree bank.now at.0))) }
 {
     out.extend_from_slice(b"let")?;
     write_field(alloc, names, bank, fields, at, out)?;
@@ -223,7 +229,8 @@ pub(crate) fn write_node_lines(
     requires inside { HasLines bank.now nodes.now }
     requires rows { HasRows bank.now fields }
     requires numbered { All (HasNodeFields fields) nodes.now }
-    ensures { OnOk result (out.new.items ≡ out.old.items ++ flat_map (λ n. line (node_text_by (shown names.now bank.now fields.entry) n))
+    ensures { OnOk result (out.new.items
+        ≡ out.old.items ++ flat_map (λ n. line (node_text_by (shown names.now bank.now fields.entry) n))
         (map (line_of bank.now) nodes.now)) }
 {
     for i in 0..nodes.len() {
@@ -244,7 +251,8 @@ fn write_node_line(
     requires inside { HasLine bank.now node.now }
     requires rows { HasRows bank.now fields }
     requires numbered { HasNodeFields fields node.now }
-    ensures { OnOk result (out.new.items ≡ out.old.items ++ line (node_text_by (shown names.now bank.now fields.entry) (line_of bank.now node.now))) }
+    ensures { OnOk result (out.new.items
+        ≡ out.old.items ++ line (node_text_by (shown names.now bank.now fields.entry) (line_of bank.now node.now))) }
 {
     match node {
         Rule::Exists(at) => {
@@ -279,7 +287,8 @@ fn write_plain_node(
 ) -> Result<(), OutOfMemory>
     requires inside { HasLine bank.now node.now }
     requires plain { has_terms node.now ≡ false }
-    ensures { OnOk result ((show : Term → List ℕ) → out.new.items ≡ out.old.items ++ line (node_text_by show (line_of bank.now node.now))) }
+    ensures { OnOk result ((show : Term → List ℕ)
+        → out.new.items ≡ out.old.items ++ line (node_text_by show (line_of bank.now node.now))) }
 {
     write_node(alloc, names, bank, node, out)
 }

@@ -177,7 +177,8 @@ fn pair_of(args: &[At], sign: &[u8]) -> Option<(At, At)>
 /// The length of `X::L`.
 fn cons_length(first: Length, rest: Length) -> u64
     ensures { (names : List (List ℕ)) (x y : Term) → IsLength names x first → IsLength names y rest
-        → result ≡ cut_count (length (bracket_if (is_cons names x) (term_text names x) ++ codes "::" ++ term_text names y)) }
+        → result ≡ cut_count (length (bracket_if (is_cons names x) (term_text names x) ++ codes "::"
+        ++ term_text names y)) }
 {
     let brackets = if first.is_cons { 2 } else { 0 };
     first
@@ -204,7 +205,8 @@ fn fields_length(bank: &Bank, places: &[At], lengths: &[Length], start: u64) -> 
 fn field_length(bank: &Bank, at: At, lengths: &[Length]) -> u64
     requires inside { HasTerm bank.now at.0 }
     requires reach { at.0 < length lengths.now }
-    ensures { (names : List (List ℕ)) → AreLengths names bank.now lengths.now → result ≡ cut_count (length (term_field names (term_tree bank.now at.0))) }
+    ensures { (names : List (List ℕ)) → AreLengths names bank.now lengths.now
+        → result ≡ cut_count (length (term_field names (term_tree bank.now at.0))) }
 {
     let brackets = if has_any_arguments(bank, at) { 2 } else { 0 };
     lengths[at.0].bytes.saturating_add(brackets + 1)

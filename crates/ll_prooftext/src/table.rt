@@ -32,7 +32,8 @@ enum Task {
 /// The table of some fields. It needs no deep stack, and each row is looked into once.
 pub(crate) fn table_of(alloc: Global, bank: &Bank, fields: &[At]) -> Result<Table, OutOfMemory>
     requires { AllInTerms bank.now fields.now }
-    ensures table { IfOk result (λ table. IsTableOf bank.now table (rows_in (flat_map completed (term_trees bank.now fields.now)))) }
+    ensures table { IfOk result (λ table. IsTableOf bank.now table
+        (rows_in (flat_map completed (term_trees bank.now fields.now)))) }
     ensures reach { IfOk result (λ table. All (λ a. HasNumberAt table a.0) fields.now) }
 {
     let classes = number_terms(alloc, bank, fields)?;
@@ -49,7 +50,8 @@ pub(crate) fn table_with(
     requires inside { AllInTerms bank.now fields.now }
     requires classes { AreClasses bank.now classes }
     requires numbered { All (λ a. a.0 < length classes.numbers.items) fields.now }
-    ensures table { IfOk result (λ table. IsTableOf bank.now table (rows_in (flat_map completed (term_trees bank.now fields.now)))) }
+    ensures table { IfOk result (λ table. IsTableOf bank.now table
+        (rows_in (flat_map completed (term_trees bank.now fields.now)))) }
     ensures same { IfOk result (λ table. table.classes ≡ classes) }
     ensures reach { IfOk result (λ table. All (λ a. HasNumberAt table a.0) fields.now) }
 {

@@ -107,7 +107,8 @@ pub(crate) fn term_of(word: Word, args: &[At], bank: &mut Bank) -> Result<At, Ou
 /// The number of the sign `::` at the front of the bytes, and what stands behind it.
 fn sign_at<'a>(bytes: &'a [u8], names: &mut Names) -> Result<Option<(u32, &'a [u8])>, OutOfMemory>
     requires { length names.old < 2 ^ 32 }
-    ensures found { IfOk result (λ found. MatchOption found ((rest : List ℕ) → bytes.now ≡ 58 ∷ 58 ∷ rest → ⊥) (λ p. bytes.now ≡ 58 ∷ 58 ∷ p.1.now)) }
+    ensures found { IfOk result (λ found. MatchOption found ((rest : List ℕ) → bytes.now ≡ 58 ∷ 58 ∷ rest
+        → ⊥) (λ p. bytes.now ≡ 58 ∷ 58 ∷ p.1.now)) }
     ensures sign { IfOk result (λ found. IfSome found (λ p. IsSign names.old names.new p.0)) }
     ensures grows { Grows names.old names.new }
 {
@@ -162,7 +163,8 @@ impl Bracket {
     fn chain(&self, last: At, bank: &mut Bank) -> Result<At, OutOfMemory>
         requires items { All (λ i. HasTerm bank.old i.at.0) self.now.items.items }
         requires last { HasTerm bank.old last.0 }
-        ensures term { IfOk result (λ at. ShowsTerm bank.new at.0 (chain_term bank.old self.now.items.items (term_tree bank.old last.0))) }
+        ensures term { IfOk result (λ at. ShowsTerm bank.new at.0
+            (chain_term bank.old self.now.items.items (term_tree bank.old last.0))) }
         ensures keeps { OnOk result (Extends bank.old bank.new) }
     {
         let mut term = last;
@@ -282,7 +284,8 @@ impl Open {
         requires good { IsGood names.old bank.old self.old }
         requires part { self.old.top.part ≡ Some part }
         requires room { length names.old + length rest.now < 2 ^ 32 }
-        ensures step { IfOk result (λ step. IsStep names.old bank.old self.old (32 ∷ rest.now) names.new bank.new self.new step) }
+        ensures step { IfOk result (λ step. IsStep names.old bank.old self.old
+            (32 ∷ rest.now) names.new bank.new self.new step) }
         ensures grows { Grows names.old names.new }
     {
         let Word::Head(_) = part else {
@@ -337,7 +340,8 @@ impl Open {
         requires good { IsGood names.old bank.old self.old }
         requires part { self.old.top.part ≡ Some part }
         requires room { length names.old + length rest.now < 2 ^ 32 }
-        ensures step { IfOk result (λ step. IsStep names.old bank.old self.old (41 ∷ rest.now) names.new bank.new self.new step) }
+        ensures step { IfOk result (λ step. IsStep names.old bank.old self.old
+            (41 ∷ rest.now) names.new bank.new self.new step) }
         ensures grows { Grows names.old names.new }
     {
         if !self.top.is_compound() {

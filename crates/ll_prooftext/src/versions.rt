@@ -37,7 +37,8 @@ pub fn read_any(
 /// Whether the first line is `proof 2`.
 fn is_second(text: &[u8]) -> bool
     requires { length text.now ≤ 16777216 }
-    ensures { MatchBool result (HasVersion (codes "proof 2") (text_lines text.now)) (HasNoVersion (codes "proof 2") (text_lines text.now)) }
+    ensures { MatchBool result (HasVersion (codes "proof 2") (text_lines text.now))
+        (HasNoVersion (codes "proof 2") (text_lines text.now)) }
 {
     behind_version(text, b"proof 2").is_some()
 }

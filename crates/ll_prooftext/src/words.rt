@@ -1,4 +1,4 @@
-//! The words of terms, read: variables, whole numbers, eigenconstants and names.
+//! The words of terms, read: variables, whole numbers, eigenvariables and names.
 ghost use Rattle.std.specs.Prelude.{◌≡◌, ◌↔◌, ◌+◌, ◌<◌, ◌≤◌, ◌^◌, [], ◌++◌, length, true, IsTrue, IfOk, IfSome, MatchOption};
 ghost use Rattle.std.specs.List.{list_all, list_any, prefix_len};
 ghost use Rattle.std.specs.Str.{bytes_eq};
@@ -54,8 +54,10 @@ pub(crate) fn word_at<'a>(
     bank: &mut Bank,
 ) -> Result<Option<(Word, &'a [u8])>, OutOfMemory>
     requires { length names.old + length bytes.now < 2 ^ 32 }
-    ensures found { IfOk result (λ found. MatchOption found (HasNoWord bytes.now) (λ p. IsWordAt names.new bank.new bytes.now p.0 p.1.now)) }
-    ensures moves { IfOk result (λ found. IfSome found (λ p. Moves names.old bank.old bytes.now names.new bank.new p.1.now)) }
+    ensures found { IfOk result (λ found. MatchOption found (HasNoWord bytes.now)
+        (λ p. IsWordAt names.new bank.new bytes.now p.0 p.1.now)) }
+    ensures moves { IfOk result (λ found. IfSome found
+        (λ p. Moves names.old bank.old bytes.now names.new bank.new p.1.now)) }
     ensures grows { Grows names.old names.new }
 {
     let (bytes, rest) = split_word(bytes);
@@ -72,8 +74,10 @@ pub(crate) fn word_of(
     bank: &mut Bank,
 ) -> Result<Option<Word>, OutOfMemory>
     requires { length names.old < 2 ^ 32 }
-    ensures found { IfOk result (λ found. MatchOption found ((p : Shape) → IsWord bytes.now p → ⊥) (IsWordOf names.new bank.new bytes.now)) }
-    ensures moves { IfOk result (λ found. IfSome found (λ word. Moves names.old bank.old bytes.now names.new bank.new [])) }
+    ensures found { IfOk result (λ found. MatchOption found ((p : Shape) → IsWord bytes.now p
+        → ⊥) (IsWordOf names.new bank.new bytes.now)) }
+    ensures moves { IfOk result (λ found. IfSome found
+        (λ word. Moves names.old bank.old bytes.now names.new bank.new [])) }
     ensures grows { Grows names.old names.new }
 {
     if let Some(rest) = behind(bytes, b'?') {

@@ -11,7 +11,7 @@ use Rattle.ll_laws.specs.declared.Kind.{Kind}
 use Rattle.ll_laws.specs.Attempt.{is_linear}
 use Rattle.ll_laws.specs.Settle.{both_live}
 use Rattle.ll_resources.specs.declared.state.Stored.{Stored}
-use Rattle.ll_resources.specs.declared.saves.Kept.{Kept}
+use Rattle.ll_resources.specs.declared.saves.SavedMarks.{SavedMarks}
 use Rattle.ll_resources.specs.Saves.{block_of, IsWithin}
 use Rattle.ll_resources.specs.Seen.{filled}
 use Rattle.ll_resources.specs.Keys.{has_key}
@@ -222,7 +222,7 @@ module _ {C : Type 0} where
           | inl old ↦ let a = label_old i old.0 in let h = c.below k i old.1 in omega (arith, a, h)
           | inr new ↦ let a = label_new i new.0 in omega (arith, a)
         ];
-        kept = All-weaker (λ (k : Kept). k.next ≤ r.next) (λ (k : Kept). k.next ≤ suc r.next) (λ k h. omega (arith, h)) r.kept c.kept;
+        kept = All-weaker (λ (k : SavedMarks). k.next ≤ r.next) (λ (k : SavedMarks). k.next ≤ suc r.next) (λ k h. omega (arith, h)) r.kept c.kept;
         tops = λ k i h. elim (key-push es e i k h) [
           | inl old ↦ over r.tops key (suc (length es)) k i (let l = old.0 in omega (arith, l)) (c.tops k i old.1)
           | inr new ↦
@@ -361,7 +361,7 @@ module _ {C : Type 0} where
   chained-kept live skips r w c on shuts = record {
     rise = c.rise;
     below = c.below;
-    kept = All-push (λ (k : Kept). k.next ≤ r.next) r.kept (kept_now r) c.kept (omega arith);
+    kept = All-push (λ (k : SavedMarks). k.next ≤ r.next) r.kept (kept_now r) c.kept (omega arith);
     tops = c.tops;
     under = c.under;
     past = λ on_now k i j hi hj l low.
@@ -373,7 +373,7 @@ module _ {C : Type 0} where
         };
   }
     where
-      none : Kept
+      none : SavedMarks
       none = record { count = 0; next = 0; from = 0; to = 0; flag = false; skips = false }
 
       later : (m i j : ℕ) → IsSpent r j i → m < length (r.kept ++ kept_now r ∷ []) → label_at r.entries j < (kept_under m (raw_kept live r)).next
@@ -381,13 +381,13 @@ module _ {C : Type 0} where
       later m i j s ml lt = elim (cases_lt m (length r.kept)) [
         | inl old ↦
             let same : kept_under m (raw_kept live r) ≡ kept_under m r = get_or_append_left r.kept (kept_now r ∷ []) none m old in
-            let lt2 : label_at r.entries j < (kept_under m r).next = subst (λ (x : Kept). label_at r.entries j < x.next) same lt in
-            ap (λ (x : Kept). mark_of x.count (block_of (r.marks ++ r.live) x) i) same
+            let lt2 : label_at r.entries j < (kept_under m r).next = subst (λ (x : SavedMarks). label_at r.entries j < x.next) same lt in
+            ap (λ (x : SavedMarks). mark_of x.count (block_of (r.marks ++ r.live) x) i) same
             ∙ (ap (λ bs. mark_of (kept_under m r).count bs i) (later-same m r w old) ∙ s.kept m old lt2)
         | inr past ↦
             let n = length-append r.kept (kept_now r ∷ []) in
             let last : kept_under m (raw_kept live r) ≡ kept_now r = get_or_push r.kept (kept_now r) none m (omega (arith, n, ml, past)) in
-            ap (λ (x : Kept). mark_of x.count (block_of (r.marks ++ r.live) x) i) last
+            ap (λ (x : SavedMarks). mark_of x.count (block_of (r.marks ++ r.live) x) i) last
             ∙ (ap (λ bs. mark_of (length r.entries) bs i) (block-new r.marks r.live (kept_now r) refl refl) ∙ s.mark)
       ]
 
@@ -443,7 +443,7 @@ module _ {C : Type 0} where
         chained = record {
           rise = λ key i j hi l jl. absurd (none key i hi);
           below = λ key i hi. absurd (none key i hi);
-          kept = subst (All (λ (x : Kept). x.next ≤ r.next)) (sym k) (All-nil (λ (x : Kept). x.next ≤ r.next));
+          kept = subst (All (λ (x : SavedMarks). x.next ≤ r.next)) (sym k) (All-nil (λ (x : SavedMarks). x.next ≤ r.next));
           tops = λ key i hi. absurd (none key i hi);
           under = λ key i j hi hj l. absurd (none key i hi);
           past = λ skips key i j hi hj l low. absurd (none key i hi);

@@ -10,13 +10,13 @@ use Rattle.ll_laws.specs.declared.Kind.{Kind}
 use Rattle.ll_laws.specs.Attempt.{is_linear}
 use Rattle.ll_resources.specs.declared.context.Saved.{Saved as Handle}
 use Rattle.ll_resources.specs.declared.context.ContextMark.{ContextMark}
-use Rattle.ll_resources.specs.declared.saves.Kept.{Kept as KeptRange}
+use Rattle.ll_resources.specs.declared.saves.SavedMarks.{SavedMarks as KeptRange}
 use Rattle.ll_resources.specs.declared.state.Change.{Change}
-use Rattle.ll_resources.specs.declared.state.Change.TheVariants.{Loaded, Closed, Picked, Erased, Kept, Remarked}
+use Rattle.ll_resources.specs.declared.state.Change.TheVariants.{Loaded, Closed, Picked, Erased, SavedMarks, Remarked}
 use Rattle.ll_resources.specs.declared.state.State.{State}
 use Rattle.ll_resources.specs.declared.state.Stored.{Stored}
 use Rattle.ll_resources.specs.Saves.{block_of, kept_marks}
-use Rattle.ll_resources.specs.Resources.{Resources, saved_at, KeepsSaved, Fits, after_save, after_with_mid}
+use Rattle.ll_resources.specs.Resources.{Resources, saved_at, KeepsSaved, SavedFits, after_save, after_with_mid}
 use Rattle.ll_resources.specs.Raw.{Raw, raw, shown, front, chained, raw_loaded, raw_picked, raw_closed, raw_kept, kept_now}
 use Rattle.ll_resources.specs.Raw.{raw_remarked, kept_under, with_top, tops_under, top_of}
 use Rattle.ll_resources.specs.Raw.{block_later, with_skips}
@@ -235,7 +235,7 @@ module _ {C : Type 0} where
       ap (λ bs. let s : Raw C = record r { live = bs; marks = take (length r.marks) (r.marks ++ r.live) } in s) (drop-append_seam r.marks r.live)
       ∙ ap (λ ms. let s : Raw C = record r { marks = ms } in s) (take-append_seam r.marks r.live)
 
-  pub back-kept : (live : List Bool) (r : Raw C) → taken_back Kept (raw_kept live r) ≡ r
+  pub back-kept : (live : List Bool) (r : Raw C) → taken_back SavedMarks (raw_kept live r) ≡ r
   back-kept live r =
       let n = length-append r.kept (kept_now r ∷ []) in
       let count : length (r.kept ++ kept_now r ∷ []) ≡ suc (length r.kept) = omega (arith, n) in
@@ -348,7 +348,7 @@ module _ {C : Type 0} where
   kept-back (Closed e live flag top) r w h l = (l, refl)
   kept-back (Picked at live) r w h l = (l, refl)
   kept-back (Erased flag) r w h l = (l, refl)
-  kept-back Kept r w h l = kept-last (length r.kept) r refl w h l
+  kept-back SavedMarks r w h l = kept-last (length r.kept) r refl w h l
   kept-back (Remarked from flag skips) r w h l = (l, saved-cut r.marks from r.kept r.kept h none_kept l l refl w)
 
   kept-before : (cs : List (Change C)) (r : Raw C) → ((i : ℕ) → HasWithin (before (drop i cs) r)) → KeptWithin r (before cs r)
@@ -404,7 +404,7 @@ module _ {C : Type 0} where
       → shown s ≡ after_save h.present
   seen-saved cs r s h v w e = ap (λ (t : Raw C). shown t) e ∙ (shown-kept r.live r w ∙ ap (λ (k : History C). after_save k.present) v)
 
-  pub seen-mid : (saved : Handle) (cs : List (Change C)) (r s : Raw C) (h : History C) → history cs r ≡ h → HasWithin r → Fits saved h.present
+  pub seen-mid : (saved : Handle) (cs : List (Change C)) (r s : Raw C) (h : History C) → history cs r ≡ h → HasWithin r → SavedFits saved h.present
       → s ≡ with_skips saved.number r (raw_kept (block_later saved.number r) r) → shown s ≡ after_with_mid saved h.present
   seen-mid saved cs r s h v w f e = ap (λ (t : Raw C). shown t) e
-      ∙ (shown-mid saved r w (subst (λ (k : History C). Fits saved k.present) (sym v) f) ∙ ap (λ (k : History C). after_with_mid saved k.present) v)
+      ∙ (shown-mid saved r w (subst (λ (k : History C). SavedFits saved k.present) (sym v) f) ∙ ap (λ (k : History C). after_with_mid saved k.present) v)

@@ -5,7 +5,7 @@ use Rattle.std.specs.Prelude.{reverse}
 use Rattle.std.proofs.lemmas.List.{length-reverse, get_or-reverse, get_or_past, get_or-set_same, get_or-set_other}
 use Rattle.std.proofs.lemmas.Bool.{false≢true, cases_lt}
 use Rattle.std.proofs.Math.Bool.{and-false}
-use Rattle.ll_lists.proofs.CallerLemmas.{and_true_left as and-left}
+use Rattle.ll_list_laws.proofs.CallerLemmas.{and_true_left as and-left}
 use Rattle.ll_laws.specs.Settle.{within, both_live, join_by, kept_if}
 use Rattle.ll_resources.specs.Seen.{filled}
 use Rattle.ll_resources.proofs.SeenLemmas.{length-filled}

@@ -14,7 +14,8 @@ use Rattle.ll_resources.specs.declared.context.Saved.{Saved as Handle}
 use Rattle.ll_resources.specs.declared.state.Stored.{Stored}
 use Rattle.ll_resources.specs.Seen.{seen, seen_all, filled}
 use Rattle.ll_resources.specs.Saves.{block_of, kept_marks, IsWithin}
-use Rattle.ll_resources.specs.Resources.{Resources, saved_at, saved_as, saved_now, Fits, settled, with_front, load_end, bang_end, with_end, after_load_keyed}
+use Rattle.ll_resources.specs.Resources.{Resources, saved_at, saved_as, saved_now, SavedFits}
+use Rattle.ll_resources.specs.Resources.{settled, with_front, load_end, bang_end, with_end, after_load_keyed}
 use Rattle.ll_resources.specs.Resources.{after_pick, after_save, after_bang, after_with_mid, KeepsSaved, SettlesMiddle}
 use Rattle.ll_resources.specs.Raw.{Raw, shown, front, chained, raw_picked, end_flag, mark_slot, first_place, newest_linear, end_fails, Closes, raw_kept}
 use Rattle.ll_resources.specs.Raw.{kept_now, raw_remarked, kept_under, block_under, block_later, Agrees, Joins}
@@ -160,11 +161,11 @@ module _ {C : Type 0} where
   pub saved-under : (h : Handle) (r : Raw C) → h.number < length r.kept → saved_at (shown r).kept h ≡ kept_marks r.marks (kept_under h.number r)
   saved-under h r l = get_or-map (kept_marks r.marks) r.kept h.number _ _ l
 
-  pub number-inside : (h : Handle) (r : Raw C) → Fits h (shown r) → h.number < length r.kept
+  pub number-inside : (h : Handle) (r : Raw C) → SavedFits h (shown r) → h.number < length r.kept
   number-inside h r f = let n = length-map r.kept (kept_marks r.marks) in omega (arith, n, f.0)
 
   -- it belongs to as many entries
-  count-is : (h : Handle) (r : Raw C) → Fits h (shown r) → (kept_under h.number r).count ≡ length r.entries
+  count-is : (h : Handle) (r : Raw C) → SavedFits h (shown r) → (kept_under h.number r).count ≡ length r.entries
   count-is h r f =
       let k = kept_under h.number r in
       sym (length-filled k.count (reverse (block_of r.marks k)))
@@ -178,7 +179,7 @@ module _ {C : Type 0} where
   later-same number r w l = block-behind r.marks r.live (kept_under number r) (within-under number r w l)
 
   -- its marks, as those of the entries
-  saved-live : (h : Handle) (r : Raw C) → HasWithin r → Fits h (shown r)
+  saved-live : (h : Handle) (r : Raw C) → HasWithin r → SavedFits h (shown r)
       → (saved_at (shown r).kept h).live ≡ filled (length (reverse r.entries)) (reverse (block_later h.number r))
   saved-live h r w f =
       let l = number-inside h r f in
@@ -186,7 +187,7 @@ module _ {C : Type 0} where
       ∙ (ap (λ n. filled n (reverse (block_under h.number r))) (count-is h r f ∙ sym (length-reverse r.entries))
       ∙ ap (λ bs. filled (length (reverse r.entries)) (reverse bs)) (sym (later-same h.number r w l)))
 
-  given-back : (h : Handle) (r : Raw C) → HasWithin r → Fits h (shown r)
+  given-back : (h : Handle) (r : Raw C) → HasWithin r → SavedFits h (shown r)
       → remark (shown r).entries (saved_at (shown r).kept h).live ≡ seen_all (reverse r.entries) (reverse (block_later h.number r))
   given-back h r w f =
       ap (λ bs. remark (shown r).entries bs) (saved-live h r w f)
@@ -209,7 +210,7 @@ module _ {C : Type 0} where
       ap (λ n. drop n (shown r).keys)
       (let e : length (shown r).entries - length (seen_all (reverse r.entries) bs) ≡ 0 = omega (arith, a, b) in e)
 
-  pub shown-bang-end : (h : Handle) (r : Raw C) → HasWithin r → Fits h (shown r)
+  pub shown-bang-end : (h : Handle) (r : Raw C) → HasWithin r → SavedFits h (shown r)
       → settled (bang_end (shown r).kept h) (shown r) ≡ Some (shown (raw_remarked (block_later h.number r) (kept_under h.number r).flag r))
   shown-bang-end h r w f =
       let ks : List Saved = map (kept_marks r.marks) r.kept in
@@ -220,7 +221,7 @@ module _ {C : Type 0} where
       (saved-under h r (number-inside h r f))
       ∙ ap (λ (t : Resources C). Some t) (sym (shown-remarked (block_later h.number r) (kept_under h.number r).flag r w))))
 
-  pub shown-mid : (h : Handle) (r : Raw C) → HasWithin r → Fits h (shown r) → shown (raw_kept (block_later h.number r) r) ≡ after_with_mid h (shown r)
+  pub shown-mid : (h : Handle) (r : Raw C) → HasWithin r → SavedFits h (shown r) → shown (raw_kept (block_later h.number r) r) ≡ after_with_mid h (shown r)
   shown-mid h r w f =
       shown-kept (block_later h.number r) r w
       ∙ ap (λ es. let s : Resources C = record (after_save (shown r)) { entries = es } in s) (sym (given-back h r w f))
@@ -228,7 +229,7 @@ module _ {C : Type 0} where
   -- ---- the end of `&`
 
   -- what both sides leave, or none
-  joined-as : (ok : Bool) (s h : Handle) (r : Raw C) → HasWithin r → Fits s (shown r) → Fits h (shown r) → Agrees h.number r ok
+  joined-as : (ok : Bool) (s h : Handle) (r : Raw C) → HasWithin r → SavedFits s (shown r) → SavedFits h (shown r) → Agrees h.number r ok
       → settled (with_end (shown r).kept s h) (shown r)
       ≡ option_map (with_front (shown r)) (end_with (settle_front []) (saved_at (shown r).kept s) (shown r).entries
       (kept_if ok (both_live (filled (length r.entries) (reverse (block_under h.number r))) (filled (length r.entries) (reverse r.live)))
@@ -242,7 +243,8 @@ module _ {C : Type 0} where
       ap (λ (x : Saved). go (join_by x.flag r.flag x.live (marks q.entries))) first
       ∙ (ap (λ (x : Saved). go (join_by k.flag r.flag (filled n (reverse (block_under h.number r))) x.live)) (saved-now r) ∙ ap go a)
 
-  pub shown-joined : (s h : Handle) (r new : Raw C) → HasWithin r → Fits s (shown r) → Fits h (shown r) → Agrees h.number r true → Joins s.number h.number r new
+  pub shown-joined : (s h : Handle) (r new : Raw C) → HasWithin r → SavedFits s (shown r) → SavedFits h (shown r)
+      → Agrees h.number r true → Joins s.number h.number r new
       → settled (with_end (shown r).kept s h) (shown r) ≡ Some (shown new)
   shown-joined s h r new w fs fh a j =
       let q = shown r in let ks : List Saved = map (kept_marks r.marks) r.kept in
@@ -262,7 +264,7 @@ module _ {C : Type 0} where
       ∙ (ap (λ (t : Resources C). Some t) (sym (shown-remarked new.live ((kept_under s.number r).flag || v) r w))
       ∙ ap (λ (t : Raw C). Some (shown t)) (sym j.state))))))
 
-  pub shown-apart : (s h : Handle) (r : Raw C) → HasWithin r → Fits s (shown r) → Fits h (shown r) → Agrees h.number r false
+  pub shown-apart : (s h : Handle) (r : Raw C) → HasWithin r → SavedFits s (shown r) → SavedFits h (shown r) → Agrees h.number r false
       → settled (with_end (shown r).kept s h) (shown r) ≡ None
   shown-apart s h r w fs fh a = joined-as false s h r w fs fh a
 

@@ -2,7 +2,7 @@
 use Rattle.std.specs.Prelude.{◌≡◌, ℕ, zero, suc, Bool, List, [], ◌∷◌, ◌++◌, length, take, drop, slice_set, Option, Some, None}
 use Rattle.ll_resources.specs.declared.state.State.{State}
 use Rattle.ll_resources.specs.declared.state.Change.{Change}
-use Rattle.ll_resources.specs.declared.state.Change.TheVariants.{Loaded, Closed, Picked, Erased, Kept, Remarked}
+use Rattle.ll_resources.specs.declared.state.Change.TheVariants.{Loaded, Closed, Picked, Erased, SavedMarks, Remarked}
 use Rattle.ll_resources.specs.Raw.{Raw, raw, shown, front, with_top, uncovered, kept_under}
 use Rattle.ll_resources.specs.Chains.{Room, IsSound, HasNoLess}
 use Rattle.ll_resources.specs.Resources.{Resources}
@@ -28,7 +28,7 @@ taken_back (Closed e live flag top) r =
     record r { entries = r.entries ++ e ∷ []; live = with_last r.live live; flag = flag; tops = with_top e.key top r.tops }
 taken_back (Picked slot live) r = record r { live = slice_set r.live slot live }
 taken_back (Erased flag) r = record r { flag = flag }
-taken_back Kept r = without_last (length r.kept) r
+taken_back SavedMarks r = without_last (length r.kept) r
 taken_back (Remarked from flag skips) r = record r { live = drop from r.marks; flag = flag; skips = skips; marks = take from r.marks }
 
 -- the state before these changes, which were made one after another

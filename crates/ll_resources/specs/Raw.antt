@@ -6,7 +6,7 @@ use Rattle.ll_laws.specs.Attempt.{is_linear}
 use Rattle.ll_laws.specs.Settle.{join_by, kept_if, both_live}
 use Rattle.ll_resources.specs.declared.state.State.{State}
 use Rattle.ll_resources.specs.declared.state.Stored.{Stored}
-use Rattle.ll_resources.specs.declared.saves.Kept.{Kept}
+use Rattle.ll_resources.specs.declared.saves.SavedMarks.{SavedMarks}
 use Rattle.ll_resources.specs.Resources.{Resources}
 use Rattle.ll_resources.specs.Saves.{kept_marks, block_of}
 use Rattle.ll_resources.specs.Seen.{seen_all, filled}
@@ -19,7 +19,7 @@ pub record Raw (C : Type 0) : Type 0 where
   pub next : ℕ
   -- marks that were kept, and marks from before a change, one block behind the other
   pub marks : List Bool
-  pub kept : List Kept
+  pub kept : List SavedMarks
   -- a place before which all entries of a key come
   pub tops : ℕ → ℕ
   -- what was spent when an entry was loaded is so as long as it is there
@@ -138,7 +138,7 @@ pub record Closes {C : Type 0} (saved : Bool) (old new : Raw C) : Type 0 where
   pub state : new ≡ raw_closed (end_flag saved old) old
 
 -- the present marks and flag, as they are kept behind all others
-abbrev pub kept_now : {C : Type 0} → Raw C → Kept
+abbrev pub kept_now : {C : Type 0} → Raw C → SavedMarks
 kept_now r = record {
   count = length r.entries;
   next = r.next;
@@ -157,7 +157,7 @@ abbrev pub raw_remarked : {C : Type 0} → List Bool → Bool → Raw C → Raw 
 raw_remarked live flag r = record r { live = live; flag = flag; marks = r.marks ++ r.live }
 
 -- what was kept under a number
-abbrev pub kept_under : {C : Type 0} → ℕ → Raw C → Kept
+abbrev pub kept_under : {C : Type 0} → ℕ → Raw C → SavedMarks
 kept_under number r = slice_index_or r.kept number (record { count = 0; next = 0; from = 0; to = 0; flag = false; skips = false })
 
 -- its marks

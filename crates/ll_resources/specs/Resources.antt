@@ -80,8 +80,8 @@ abbrev pub after_bang : {C : Type 0} → Resources C → Resources C
 after_bang r = record r { entries = map unlive r.entries }
 
 -- the context has as many entries as when this was kept
-abbrev pub Fits : {C : Type 0} → Handle → Resources C → Type 0
-Fits saved r = (saved.number < length r.kept) × (length (saved_at r.kept saved).live ≡ length r.entries)
+abbrev pub SavedFits : {C : Type 0} → Handle → Resources C → Type 0
+SavedFits saved r = (saved.number < length r.kept) × (length (saved_at r.kept saved).live ≡ length r.entries)
 
 -- the first so many that were kept mean the same in both contexts
 abbrev pub KeepsSaved : {C : Type 0} → ℕ → Resources C → Resources C → Type 0

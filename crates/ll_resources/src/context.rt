@@ -2,7 +2,7 @@
 ghost use Rattle.std.specs.Prelude.{◌≡◌, ◌<◌, ◌≤◌, ◌^◌, ◌↔◌, [], ◌∷◌, IsNone, IfSome, Some, length, slice_get, IfOk, OnOk, OnErr};
 ghost use Rattle.ll_resources.specs.Resources.{saved_as, saved_at, saved_now, KeepsSaved, SettlesMiddle, started, after_load, CanPick, after_pick};
 ghost use Rattle.ll_resources.specs.Resources.{after_load_keyed};
-ghost use Rattle.ll_resources.specs.Resources.{after_erase, load_end, after_save, after_bang, Fits, settled, bang_end, after_with_mid, with_end};
+ghost use Rattle.ll_resources.specs.Resources.{after_erase, load_end, after_save, after_bang, SavedFits, settled, bang_end, after_with_mid, with_end};
 ghost use Rattle.ll_resources.specs.History.{begun, HasMark, state_at, KeepsMarks, KeepsMarksTo, IsLastMark, Settles};
 ghost use Rattle.ll_resources.specs.Places.{label_place};
 ghost use Rattle.ll_resources.specs.Seen.{resource};
@@ -138,7 +138,8 @@ impl<C: Copy> Context<C> {
     /// The first of these entries, and those behind it. `None` exactly where none is left.
     pub fn next_keyed(&self, keyed: Keyed) -> Option<(Entry<C>, Keyed)>
         ensures none { IsNone result ↔ (to_come keyed self.now.present ≡ []) }
-        ensures some { IfSome result (λ next. to_come keyed self.now.present ≡ resource next.0 ∷ to_come next.1 self.now.present) }
+        ensures some { IfSome result (λ next. to_come keyed self.now.present
+            ≡ resource next.0 ∷ to_come next.1 self.now.present) }
     {
         self.state.next_keyed(keyed)
     }
@@ -195,7 +196,8 @@ impl<C: Copy> Context<C> {
     /// loaded, and the answer is `false` where it is live and the flag is clear: the context is then as before.
     pub fn close(&mut self, saved: bool) -> Result<bool, OutOfMemory>
         requires { 0 < length self.old.present.entries }
-        ensures settles { IfOk result (λ done. Settles (load_end saved self.old.present.entries) self.old self.new done) }
+        ensures settles { IfOk result
+            (λ done. Settles (load_end saved self.old.present.entries) self.old self.new done) }
         ensures marks { KeepsMarks self.old self.new }
         ensures refused { OnErr result (self.new ≡ self.old) }
     {
@@ -237,8 +239,9 @@ impl<C: Copy> Context<C> {
 
     /// The end of `{}`: the live marks and the flag from before it, which `saved` kept, are given back.
     pub fn bang_end(&mut self, saved: Saved) -> Result<(), OutOfMemory>
-        requires { Fits saved self.old.present }
-        ensures settles { OnOk result (settled (bang_end self.old.present.kept saved) self.old.present ≡ Some self.new.present) }
+        requires { SavedFits saved self.old.present }
+        ensures settles { OnOk result (settled (bang_end self.old.present.kept saved) self.old.present
+            ≡ Some self.new.present) }
         ensures marks { KeepsMarks self.old self.new }
         ensures refused { OnErr result (self.new ≡ self.old) }
     {
@@ -251,10 +254,10 @@ impl<C: Copy> Context<C> {
     /// The middle of `&`: the live marks from before it, which `saved` kept, are given back, and the flag is cleared. The answer
     /// keeps the marks and the flag that the first side left.
     pub fn with_mid(&mut self, saved: Saved) -> Result<Saved, OutOfMemory>
-        requires { Fits saved self.old.present }
+        requires { SavedFits saved self.old.present }
         ensures number { IfOk result (λ half. half ≡ saved_as (length self.old.present.kept)) }
-        ensures settles { IfOk result (λ half.
-            SettlesMiddle (saved_at self.old.present.kept saved) (saved_at self.new.present.kept half) self.old.present self.new.present) }
+        ensures settles { IfOk result (λ half. SettlesMiddle (saved_at self.old.present.kept saved)
+            (saved_at self.new.present.kept half) self.old.present self.new.present) }
         ensures same { KeepsSaved (length self.old.present.kept) self.old.present self.new.present }
         ensures middle { OnOk result (self.new.present ≡ after_with_mid saved self.old.present) }
         ensures marks { KeepsMarks self.old self.new }
@@ -270,9 +273,10 @@ impl<C: Copy> Context<C> {
     /// The end of `&`: `saved` was kept before it, and `half` by its middle. `false` where the two sides can't agree on what is
     /// left: the context is then as before.
     pub fn with_end(&mut self, saved: Saved, half: Saved) -> Result<bool, OutOfMemory>
-        requires saved { Fits saved self.old.present }
-        requires half { Fits half self.old.present }
-        ensures settles { IfOk result (λ done. Settles (with_end self.old.present.kept saved half) self.old self.new done) }
+        requires saved { SavedFits saved self.old.present }
+        requires half { SavedFits half self.old.present }
+        ensures settles { IfOk result
+            (λ done. Settles (with_end self.old.present.kept saved half) self.old self.new done) }
         ensures marks { KeepsMarks self.old self.new }
         ensures refused { OnErr result (self.new ≡ self.old) }
     {
@@ -311,7 +315,8 @@ impl<C: Copy> Context<C> {
     pub fn image(&self, mark: ContextMark) -> Result<Context<C>, OutOfMemory>
         requires { HasMark mark self.now }
         ensures image { IfOk result (λ context. context ≡ begun (state_at mark self.now)) }
-        ensures same { IfOk result (λ context. KeepsSaved (length (state_at mark self.now).kept) self.now.present context.present) }
+        ensures same { IfOk result (λ context. KeepsSaved
+            (length (state_at mark self.now).kept) self.now.present context.present) }
     {
         let mut state = self.state.copy()?;
         state.take_back(self.changes.as_slice(), mark.changes);

@@ -85,7 +85,8 @@ fn is_within(count: usize, first: &[bool], second: &[bool]) -> bool
 
 /// Leaves of the second marks what is live in both.
 pub(crate) fn keep_both(first: &[bool], second: &mut Vec<bool>)
-    ensures both { (n : ℕ) → filled n (reverse second.new.items) ≡ both_live (filled n (reverse first.now)) (filled n (reverse second.old.items)) }
+    ensures both { (n : ℕ) → filled n (reverse second.new.items)
+        ≡ both_live (filled n (reverse first.now)) (filled n (reverse second.old.items)) }
     ensures room { vec_capacity second.new ≡ vec_capacity second.old }
 {
     let count = second.len();

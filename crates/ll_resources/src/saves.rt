@@ -1,6 +1,6 @@
 //! Blocks of live marks, one behind the other: those that were kept, with their flags, and those from before a change.
 ghost use Rattle.std.specs.Prelude.{◌≡◌, ◌<◌, ◌≤◌, ◌+◌, Bool, List, [], ◌∷◌, ◌++◌, length, take, drop, slice_index_or, IfOk, OnOk, OnErr};
-ghost use Rattle.ll_resources.specs.declared.saves.Kept.{Kept};
+ghost use Rattle.ll_resources.specs.declared.saves.SavedMarks.{SavedMarks};
 ghost use Rattle.ll_resources.specs.Saves.{block_of};
 
 use ll_bank::OutOfMemory;
@@ -8,7 +8,7 @@ use std::alloc::Global;
 
 /// Marks and a flag that were kept, as a range of the marks.
 #[derive(Clone, Copy)]
-pub(crate) struct Kept {
+pub(crate) struct SavedMarks {
     /// The number of entries at that time.
     count: usize,
     /// The label of the next entry at that time.
@@ -31,7 +31,7 @@ pub(crate) struct Moment {
 pub(crate) struct Saves {
     /// The oldest mark of each block first.
     marks: Vec<bool>,
-    kept: Vec<Kept>,
+    kept: Vec<SavedMarks>,
 }
 
 impl Saves {
@@ -90,7 +90,7 @@ impl Saves {
         let from = self.marks.len();
         self.marks.extend_from_slice(live)?;
         let to = self.marks.len();
-        self.kept.push_reserved(Kept {
+        self.kept.push_reserved(SavedMarks {
             count: moment.count,
             next: moment.next,
             from,
@@ -104,8 +104,8 @@ impl Saves {
     /// When marks were kept under this number.
     pub(crate) fn moment(&self, number: usize) -> Moment
         requires { number < length self.now.kept.items }
-        ensures count { (d : Kept) → result.count ≡ (slice_index_or self.now.kept.items number d).count }
-        ensures next { (d : Kept) → result.next ≡ (slice_index_or self.now.kept.items number d).next }
+        ensures count { (d : SavedMarks) → result.count ≡ (slice_index_or self.now.kept.items number d).count }
+        ensures next { (d : SavedMarks) → result.next ≡ (slice_index_or self.now.kept.items number d).next }
     {
         let kept = self.kept[number];
         Moment {
@@ -117,7 +117,7 @@ impl Saves {
     /// Whether entries were skipped when marks were kept under this number.
     pub(crate) fn skips(&self, number: usize) -> bool
         requires { number < length self.now.kept.items }
-        ensures { (d : Kept) → result ≡ (slice_index_or self.now.kept.items number d).skips }
+        ensures { (d : SavedMarks) → result ≡ (slice_index_or self.now.kept.items number d).skips }
     {
         self.kept[number].skips
     }
@@ -125,13 +125,14 @@ impl Saves {
     /// The live marks that were kept under this number, the oldest first.
     pub(crate) fn live(&self, number: usize) -> &[bool]
         requires { number < length self.now.kept.items }
-        ensures { (d : Kept) → result.now ≡ block_of self.now.marks.items (slice_index_or self.now.kept.items number d) }
+        ensures { (d : SavedMarks) → result.now
+            ≡ block_of self.now.marks.items (slice_index_or self.now.kept.items number d) }
     {
         self.block(self.kept[number])
     }
 
     // The marks of a range, as far as they are there.
-    fn block(&self, kept: Kept) -> &[bool]
+    fn block(&self, kept: SavedMarks) -> &[bool]
         ensures { result.now ≡ block_of self.now.marks.items kept }
     {
         let to = kept.to.min(self.marks.len());
@@ -142,7 +143,7 @@ impl Saves {
     /// The flag that was kept under this number.
     pub(crate) fn flag(&self, number: usize) -> bool
         requires { number < length self.now.kept.items }
-        ensures { (d : Kept) → result ≡ (slice_index_or self.now.kept.items number d).flag }
+        ensures { (d : SavedMarks) → result ≡ (slice_index_or self.now.kept.items number d).flag }
     {
         self.kept[number].flag
     }
@@ -150,7 +151,8 @@ impl Saves {
     /// No fewer than the marks that were kept under this number.
     pub(crate) fn size(&self, number: usize) -> usize
         requires { number < length self.now.kept.items }
-        ensures { (marks : List Bool) (d : Kept) → length (block_of marks (slice_index_or self.now.kept.items number d)) ≤ result }
+        ensures { (marks : List Bool) (d : SavedMarks)
+            → length (block_of marks (slice_index_or self.now.kept.items number d)) ≤ result }
     {
         let kept = self.kept[number];
         kept.to.saturating_sub(kept.from)
@@ -175,7 +177,8 @@ impl Saves {
     /// Lets go of what was kept under this number and later ones, and of the marks from its own on.
     pub(crate) fn forget(&mut self, number: usize)
         requires { number < length self.old.kept.items }
-        ensures marks { (d : Kept) → self.new.marks.items ≡ take (slice_index_or self.old.kept.items number d).from self.old.marks.items }
+        ensures marks { (d : SavedMarks) → self.new.marks.items
+            ≡ take (slice_index_or self.old.kept.items number d).from self.old.marks.items }
         ensures kept { self.new.kept.items ≡ take number self.old.kept.items }
     {
         let from = self.kept[number].from;

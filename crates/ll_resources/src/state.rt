@@ -82,7 +82,7 @@ pub(crate) enum Change<C: Copy> {
         flag: bool,
     },
     /// Live marks and flag were kept, the last of all that are.
-    Kept,
+    SavedMarks,
     /// All entries got other live marks. Those from before are the last block, from this place on.
     Remarked {
         from: usize,
@@ -315,7 +315,7 @@ impl<C: Copy> State<C> {
     /// Keeps the live marks and the flag, and clears the flag.
     pub(crate) fn save(&mut self) -> Result<Change<C>, OutOfMemory>
         ensures saved { OnOk result (raw self.new ≡ raw_kept self.old.live.items (raw self.old)) }
-        ensures change { IfOk result (λ change. change ≡ Change.Kept) }
+        ensures change { IfOk result (λ change. change ≡ Change.SavedMarks) }
         ensures leads { IfOk result (λ change. Leads change self.old self.new) }
         ensures room { HasNoLess self.old self.new }
         ensures refused { OnErr result (raw self.new ≡ raw self.old) }
@@ -327,7 +327,7 @@ impl<C: Copy> State<C> {
         self.saves
             .keep(moment, self.live.as_slice(), self.flag, self.skips)?;
         self.flag = false;
-        Ok(Change::Kept)
+        Ok(Change::SavedMarks)
     }
 
     /// Takes all live marks away.
@@ -379,8 +379,9 @@ impl<C: Copy> State<C> {
     /// The middle of `&`, before which live marks and flag were kept under this number.
     pub(crate) fn with_mid(&mut self, number: usize) -> Result<Change<C>, OutOfMemory>
         requires { number < length self.old.saves.kept.items }
-        ensures middle { OnOk result (raw self.new ≡ with_skips number (raw self.old) (raw_kept (block_later number (raw self.old)) (raw self.old))) }
-        ensures change { IfOk result (λ change. change ≡ Change.Kept) }
+        ensures middle { OnOk result (raw self.new
+            ≡ with_skips number (raw self.old) (raw_kept (block_later number (raw self.old)) (raw self.old))) }
+        ensures change { IfOk result (λ change. change ≡ Change.SavedMarks) }
         ensures leads { IfOk result (λ change. Leads change self.old self.new) }
         ensures room { HasNoLess self.old self.new }
         ensures refused { OnErr result (raw self.new ≡ raw self.old) }
@@ -468,7 +469,7 @@ impl<C: Copy> State<C> {
             }
             Change::Picked { at, live } => set_mark(&mut self.live, at, live),
             Change::Erased { flag } => self.flag = flag,
-            Change::Kept => self.forget_last(),
+            Change::SavedMarks => self.forget_last(),
             Change::Remarked { from, flag, skips } => {
                 put_marks(&mut self.live, self.saves.from(from));
                 self.saves.cut(from);

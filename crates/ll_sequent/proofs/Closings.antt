@@ -1,4 +1,4 @@
--- A sound formula stays sound where a closed term, or an eigenconstant that may be a predicate, takes the place that a quantifier binds.
+-- A sound formula stays sound where a closed term, or an eigenvariable that may be a predicate, takes the place that a quantifier binds.
 use Rattle.std.proofs.Common.{◌≡◌, ℕ, zero, suc, ◌+◌, ◌<◌, refl, ap, ◌∙◌, subst, Bool, true, false, List, [], ◌∷◌, ◌++◌, map, length, arith}
 use Rattle.std.specs.Prelude.{◌&&◌, Some, None, slice_get, slice_index_or}
 use Rattle.std.specs.List.{list_all}
@@ -205,7 +205,7 @@ pub sound-close : {e : Env} {inner outer : Scope} → Puts e inner outer → (mo
     → IsSound modules side outer (close_form e f)
 sound-close {e} h modules side f s = record { closed = form_free h f s.closed; heads = form_heads h side f s.heads; loads = form_loads modules e f s.loads }
 
--- ---- a term for a place that is no head, and an eigenconstant for one that may be
+-- ---- a term for a place that is no head, and an eigenvariable for one that may be
 
 pub closed_free : (n : ℕ) (t : Term) → is_closed t ≡ true → places_below n t ≡ true
 closed_free n (Var x) c = refl

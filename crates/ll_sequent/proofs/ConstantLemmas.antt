@@ -3,7 +3,7 @@ use Rattle.std.proofs.Common.{◌≡◌, ◌≢◌, ℕ, refl, ap, sym, subst, �
 use Rattle.std.proofs.lemmas.Bool.{or_left, or_right, or_cases, or_parts, eqb-true, eq-eqb, cases_eq}
 use Rattle.std.specs.Prelude.{◌||◌}
 use Rattle.std.specs.List.{list_any}
-use Rattle.ll_lists.proofs.CallerLemmas.{or_assoc, or_false}
+use Rattle.ll_list_laws.proofs.CallerLemmas.{or_assoc, or_false}
 use Rattle.ll_bank.specs.declared.At.{At}
 use Rattle.ll_bank.specs.declared.Head.{Head}
 use Rattle.ll_bank.specs.Term.{Term, Con, Ap, apply, app, has_eigen, is_eigen}
@@ -119,10 +119,6 @@ module _ (c : ℕ) (bank : Nodes) (set waits popped next : ℕ → Bool) (p : �
 pub looking_stops : (c : ℕ) (bank : Nodes) (set waits : ℕ → Bool) (p : ℕ) → IsFreeBy c bank set waits → waits p ≡ true → has_eigen c (term_tree bank p) ≡ true
     → IsFoundAmong c bank set true
 looking_stops c bank set waits p w member e = record { none = λ h. absurd (true≢false h); free = λ f. absurd (true≢false (sym e ∙ w.needed f p member)) }
-
--- at its end nothing waits
-pub looking_ends : (c : ℕ) (bank : Nodes) (set waits : ℕ → Bool) → IsFreeBy c bank set waits → ((k : ℕ) → waits k ≢ true) → IsFoundAmong c bank set false
-looking_ends c bank set waits w none = record { none = λ h. w.enough (λ k q. absurd (none k q)); free = λ f. refl }
 
 -- what is found among all that was gathered is found in what it was gathered from
 pub found_in : (c : ℕ) (bank : Nodes) (old new : ℕ → Bool) (has : ℕ → Bool) (found : Bool) → Gathers bank old new has → ((k : ℕ) → old k ≢ true)

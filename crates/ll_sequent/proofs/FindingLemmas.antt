@@ -7,7 +7,7 @@ use Rattle.std.proofs.lemmas.Bool.{ltb-true}
 use Rattle.std.proofs.lemmas.List.{reverse-append, map-append}
 use Rattle.std.proofs.lemmas.List.Elements.{All-head, All-tail, All-append, All-take, All-drop}
 use Rattle.std.proofs.lemmas.Iterator.Adapters.{position_from-zero}
-use Rattle.ll_lists.proofs.CallerLemmas.{All-reverse as all_reversed}
+use Rattle.ll_list_laws.proofs.CallerLemmas.{All-reverse as all_reversed}
 use Rattle.ll_bank.specs.Nodes.{Nodes, form_tree}
 use Rattle.ll_laws.specs.Module.{ModuleTree}
 use Rattle.ll_laws.specs.Valid.{ClauseSide}

@@ -4,7 +4,7 @@ use Rattle.std.proofs.lemmas.List.{length-map, map_more}
 use Rattle.std.proofs.Math.ListN.{get_or-map}
 use Rattle.std.proofs.lemmas.List.Elements.{All-append, All-cons, All-head, All-tail, All-nil}
 use Rattle.std.specs.Prelude.{◌||◌, Result, Ok, Err, OnOk}
-use Rattle.ll_lists.proofs.CallerLemmas.{or_assoc, or_exchange, or_false}
+use Rattle.ll_list_laws.proofs.CallerLemmas.{or_assoc, or_exchange, or_false}
 use Rattle.ll_bank.specs.declared.FormAt.{FormAt}
 use Rattle.ll_bank.specs.Form.{form_has_eigen}
 use Rattle.ll_bank.specs.Nodes.{Nodes, form_tree, HasForm}

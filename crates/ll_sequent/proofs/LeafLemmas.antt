@@ -6,7 +6,7 @@ use Rattle.std.proofs.lemmas.Bool.{lt-ltb}
 use Rattle.std.proofs.lemmas.List.{append-nil, reverse-append}
 use Rattle.std.proofs.lemmas.List.Sums.{sum_by-append}
 use Rattle.std.proofs.lemmas.List.Elements.{All-cons, All-head, All-tail, All-push}
-use Rattle.ll_lists.proofs.CallerLemmas.{lt_false as not_below}
+use Rattle.ll_list_laws.proofs.CallerLemmas.{lt_false as not_below}
 use Rattle.ll_bank.specs.declared.At.{At}
 use Rattle.ll_bank.specs.declared.FormAt.{FormAt}
 use Rattle.ll_bank.specs.declared.FormNode.{FormNode}
@@ -39,9 +39,6 @@ behind_one ps p (Some l) =
     let e : (l.premises ++ p ∷ []) ++ reverse ps ≡ l.premises ++ reverse (ps ++ p ∷ []) =
     append_assoc l.premises (p ∷ []) (reverse ps) ∙ ap (λ xs. l.premises ++ xs) (sym (reverse-append ps (p ∷ []))) in
     λ i. Some (record { premises = e i; head = l.head })
-
-pub behind_nothing : (ps : List Premise) (o : Option Leaf) → o ≡ None → option_map (put_behind ps) o ≡ None
-behind_nothing ps o e = ap (option_map (put_behind ps)) e
 
 -- ---- where there is no leaf
 

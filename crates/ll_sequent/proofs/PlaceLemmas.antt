@@ -4,7 +4,7 @@ use Rattle.std.proofs.lemmas.List.{map-append, take_more}
 use Rattle.std.proofs.lemmas.List.Elements.{All-push}
 use Rattle.ll_bank.specs.declared.At.{At}
 use Rattle.ll_bank.specs.declared.FormAt.{FormAt}
-use Rattle.ll_bank.specs.Nodes.{Nodes, term_tree, term_trees, form_tree, HasTerm, HasForm, AllInTerms, ShowsTerm, Extends}
+use Rattle.ll_bank.specs.Nodes.{Nodes, term_tree, term_trees, form_tree, HasTerm, HasForm, AllInTerms, Extends}
 use Rattle.ll_bank.proofs.CallerLemmas.{AllInTerms-extends, term_trees-extends, HasForm-extends, form_tree-extends}
 use Rattle.ll_sequent.specs.Constants.{AllInForms}
 use Rattle.ll_sequent.specs.Opened.{form_trees}
@@ -39,11 +39,3 @@ module _ {old new : Nodes} (keeps : Extends old new) where
 -- one more of what a function gives of a list
 pub map_more : {X Y : Type 0} (f : X → Y) (xs : List X) (i : ℕ) (d : X) → i < length xs → map f (take (i + 1) xs) ≡ map f (take i xs) ++ f (get_or xs i d) ∷ []
 map_more f xs i d l = ap (map f) (take_more xs i d l) ∙ map-append f (take i xs) (get_or xs i d ∷ [])
-
--- a copy more
-pub copied_more : (terms old new : Nodes) (keeps : Extends old new) (places ats more : List At) (i : ℕ) (d at : At) → i < length places → more ≡ ats ++ at ∷ []
-    → AllInTerms old ats
-    → ShowsTerm new at.0 (term_tree terms (get_or places i d).0) → term_trees old ats ≡ term_trees terms (take i places)
-    → term_trees new more ≡ term_trees terms (take (i + 1) places)
-copied_more terms old new keeps places ats more i d at l e h s same =
-    trees_grow keeps ats more at e h ∙ ((λ j. same j ++ s.tree j ∷ []) ∙ sym (map_more (λ (a : At). term_tree terms a.0) places i d l))

@@ -158,13 +158,13 @@ module _ (k : ℕ) (ps : List PartLine) (c : List Labelled) (go : List Premise �
 -- ---- a node
 
 -- the trees that a node makes are checked by what it makes of its sequent
-abbrev Goes : Setting → ℕ → Line → SequentTree → List SequentTree → List Tree → Option (List Tree) → Type 0
-Goes b k line q qs ys None = Unit {0}
-Goes b k line q qs ys (Some xs) = faults b k xs (q ∷ qs) ≡ after (made_at b line q) k (λ ps. faults b (suc k) ys (ps ++ qs))
+abbrev FaultsAfter : Setting → ℕ → Line → SequentTree → List SequentTree → List Tree → Option (List Tree) → Type 0
+FaultsAfter b k line q qs ys None = Unit {0}
+FaultsAfter b k line q qs ys (Some xs) = faults b k xs (q ∷ qs) ≡ after (made_at b line q) k (λ ps. faults b (suc k) ys (ps ++ qs))
 
 clause_goes : (b : Setting) (k n j : ℕ) (us : List Term) (ps : List PartLine) (c d : List Labelled) (g : Form) (qs : List SequentTree) (ys : List Tree)
     (cut : Cut)
-    → IsCutting b c qs ps ys cut → Goes b k (ClauseLine n j us ps) (sequent c d g) qs ys (put_clause n j us cut)
+    → IsCutting b c qs ps ys cut → FaultsAfter b k (ClauseLine n j us ps) (sequent c d g) qs ys (put_clause n j us cut)
 clause_goes b k n j us ps c d g qs ys Short h = tt
 clause_goes b k n j us ps c d (Atom a) qs ys (Cuts parts xs) h =
     ap (λ v. then_check (on_judged v k (λ gs e. fault_parts b (suc k) parts c e gs)) (λ m. faults b m xs qs))
@@ -174,7 +174,7 @@ clause_goes b k n j us ps c d (Atom a) qs ys (Cuts parts xs) h =
 clause_goes b k n j us ps c d _ qs ys (Cuts parts xs) h = refl
 
 goes : (b : Setting) (k : ℕ) (line : Line) (c d : List Labelled) (g : Form) (qs : List SequentTree) (ys : List Tree)
-    → Goes b k line (sequent c d g) qs ys (put line ys)
+    → FaultsAfter b k line (sequent c d g) qs ys (put line ys)
 goes b k OneLine c d One qs ys = by_test (is_empty d) k 2 (Fits (suc k)) (λ m. faults b m ys qs) [] (λ ps. faults b (suc k) ys (ps ++ qs)) refl
 goes b k OneLine c d _ qs ys = refl
 goes b k EraseLine c d Top qs ys = refl
@@ -241,7 +241,7 @@ next_by : (b : Setting) (whole : Checked) (k : ℕ) (line : Line) (rest : List L
     → option_and_then (put line) o ≡ Some xs → whole ≡ faults b k xs (q ∷ qs) → Next b whole k (made_at b line q) rest qs
 next_by b whole k line rest q qs xs None e is same = cc
 next_by b whole k line rest q qs xs (Some ys) e is same =
-    let g : Goes b k line q qs ys (Some xs) = let P : Option (List Tree) → Type 0 = Goes b k line q qs ys in
+    let g : FaultsAfter b k line q qs ys (Some xs) = let P : Option (List Tree) → Type 0 = FaultsAfter b k line q qs ys in
     subst P is (goes b k line q.free q.bounded q.goal qs ys) in
     record { trees = ys; are = e; same = same ∙ g }
 

@@ -6,7 +6,7 @@ use Rattle.std.specs.List.{list_all}
 use Rattle.std.proofs.lemmas.Bool.{and_from, and_parts, eqb-true, ltb-true, lt-ltb}
 use Rattle.std.proofs.lemmas.List.{append-nil, length-map, length-reverse, reverse-append, get_or-map}
 use Rattle.std.proofs.lemmas.List.Elements.{All-head, All-tail}
-use Rattle.ll_lists.proofs.CallerLemmas.{All-slice_get as all_got}
+use Rattle.ll_list_laws.proofs.CallerLemmas.{All-slice_get as all_got}
 use Rattle.ll_bank.specs.declared.Head.TheVariants.{Name, Eigen, Bound}
 use Rattle.ll_bank.specs.Term.{Term, Var, Int, Con, Ap, Env, place, head_of, is_spine}
 use Rattle.ll_bank.specs.Form.{Form, Use, close_form}

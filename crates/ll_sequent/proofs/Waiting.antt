@@ -44,10 +44,6 @@ waiting_front bank free ss (q ∷ qs) =
 
 -- ---- nesting
 
-pub nested-more : (low : ℕ) (ss : List Sequent) (s : Sequent) (high : ℕ) → AreNested low ss s.free → s.free ≤ high → AreNested low (ss ++ s ∷ []) high
-nested-more low [] s high n h = (n, h)
-nested-more low (x ∷ ss) s high n h = (n.0, nested-more x.free ss s high n.1 h)
-
 pub nested-less : (low : ℕ) (ss : List Sequent) (s : Sequent) (high : ℕ) → AreNested low (ss ++ s ∷ []) high → AreNested low ss s.free × (s.free ≤ high)
 nested-less low [] s high n = n
 nested-less low (x ∷ ss) s high n = let m = nested-less x.free ss s high n.1 in ((n.0, m.0), m.1)

@@ -6,7 +6,7 @@ use Rattle.std.specs.List.{list_all}
 use Rattle.std.proofs.lemmas.Bool.{and_parts, cases_lt}
 use Rattle.std.proofs.lemmas.List.{length-map, map-append, map_more, drop_all, take_all, reverse-append}
 use Rattle.std.proofs.lemmas.List.Elements.{All-push, All-head, All-tail, All-take}
-use Rattle.ll_lists.proofs.CallerLemmas.{All-reverse as all_reversed}
+use Rattle.ll_list_laws.proofs.CallerLemmas.{All-reverse as all_reversed}
 use Rattle.ll_bank.specs.declared.At.{At}
 use Rattle.ll_bank.specs.declared.FormAt.{FormAt}
 use Rattle.ll_bank.specs.declared.FormNode.{FormNode}
@@ -16,7 +16,7 @@ use Rattle.ll_bank.specs.Form.{Form, Atom, Forall, close_form, form_applies_head
 use Rattle.ll_bank.specs.Nodes.{Nodes, form_tree, form_of, term_tree, term_trees, HasForm, HasTerm, AllInTerms, ShowsForm, ShowsTerm, IsFormView, Extends}
 use Rattle.ll_bank.proofs.CallerLemmas.{HasForm-extends, form_tree-extends, term_tree-extends, AllInTerms-extends, Extends-refl, Extends-trans}
 use Rattle.ll_laws.specs.Leaf.{Leaf, Needs, NeedsFree, add_premise, ways, leaf, leaf_from}
-use Rattle.ll_close.specs.Closing.{env_of}
+use Rattle.ll_bank.specs.Closing.{env_of}
 use Rattle.ll_laws.specs.Valid.{GoalSide, ClauseSide, Scope, has_heads}
 use Rattle.ll_sequent.specs.declared.leaves.Needed.{Needed}
 use Rattle.ll_sequent.specs.declared.leaves.Needed.TheVariants.{Bounded, Unbounded}

@@ -1,4 +1,4 @@
--- Where eigenconstants stand: in terms and formulas, and in the terms at the places of a set.
+-- Where eigenvariables stand: in terms and formulas, and in the terms at the places of a set.
 use Rattle.std.specs.Prelude.{◌≡◌, ◌+◌, ◌<◌, ℕ, Bool, true, false, List, [], ◌∷◌, ◌++◌, length, map, ◌||◌, All}
 use Rattle.std.specs.List.{list_any}
 use Rattle.ll_bank.specs.declared.At.{At}

@@ -52,9 +52,9 @@ pub(crate) fn clause(
     requires inside { AllInTerms bank.old values.now }
     requires closed { list_all is_closed (term_trees bank.old values.now) ≡ true }
     requires rising { list_all part_rises (map part_line parts.now) ≡ true }
-    ensures is { IfOk result (λ step. (ops : Operators) → IsStep ops (map (module_tree bank.old) modules.now)
-        (ClauseLine label leaf (term_trees bank.old values.now) (map part_line parts.now)) (sequent_in bank.old free.now sequent) bank.new free.now free.now
-        step) }
+    ensures is { IfOk result (λ step. (ops : Operators)
+        → IsStep ops (map (module_tree bank.old) modules.now) (ClauseLine label leaf (term_trees bank.old values.now)
+        (map part_line parts.now)) (sequent_in bank.old free.now sequent) bank.new free.now free.now step) }
     ensures keeps { Extends bank.old bank.new }
 {
     let FormNode::Atom(atom) = bank.form_at(sequent.goal) else {

@@ -1,4 +1,4 @@
-//! Where eigenconstants stand.
+//! Where eigenvariables stand.
 ghost use Rattle.std.specs.Prelude.{◌≡◌, ℕ, ◌++◌, ◌∷◌, [], ◌||◌, IfOk, OnOk, MatchOption, true, nat_eq};
 ghost use Rattle.std.specs.List.{list_any};
 ghost use Rattle.std.specs.Ordering.{nat_cmp};
@@ -13,7 +13,7 @@ use ll_bank::{At, Bank, FormAt, FormNode, Head, OutOfMemory, TermView};
 use std::alloc::Global;
 use std::collections::BTreeSet;
 
-/// Whether the eigenconstant stands in a goal, in an unbounded clause or in a bounded one. Terms that are shared are looked at once.
+/// Whether the eigenvariable stands in a goal, in an unbounded clause or in a bounded one. Terms that are shared are looked at once.
 pub(crate) fn stands(
     alloc: Global,
     bank: &Bank,
@@ -42,7 +42,8 @@ fn gather_all(
     terms: &mut BTreeSet<usize>,
 ) -> Result<(), OutOfMemory>
     requires { AllInForms bank.now (forms_of clauses.now) }
-    ensures { OnOk result (Gathers bank.now (contains nat_cmp terms.old) (contains nat_cmp terms.new) (λ c. is_in_each c bank.now (forms_of clauses.now))) }
+    ensures { OnOk result (Gathers bank.now (contains nat_cmp terms.old) (contains nat_cmp terms.new)
+        (λ c. is_in_each c bank.now (forms_of clauses.now))) }
 {
     for each in clauses {
         gather(alloc, bank, each.form, terms)?;
@@ -58,7 +59,8 @@ fn gather(
     terms: &mut BTreeSet<usize>,
 ) -> Result<(), OutOfMemory>
     requires { HasForm bank.now form.0 }
-    ensures { OnOk result (Gathers bank.now (contains nat_cmp terms.old) (contains nat_cmp terms.new) (λ c. form_has_eigen c (form_tree bank.now form.0))) }
+    ensures { OnOk result (Gathers bank.now (contains nat_cmp terms.old) (contains nat_cmp terms.new)
+        (λ c. form_has_eigen c (form_tree bank.now form.0))) }
 {
     let mut waiting = Vec::new(alloc);
     waiting.push(form)?;
@@ -76,7 +78,8 @@ fn look_into(
     terms: &mut BTreeSet<usize>,
 ) -> Result<(), OutOfMemory>
     requires { HasForm bank.now form.0 }
-    ensures { OnOk result (IsOpenedUp bank.now form.0 waiting.old.items waiting.new.items (contains nat_cmp terms.old) (contains nat_cmp terms.new)) }
+    ensures { OnOk result (IsOpenedUp bank.now form.0 waiting.old.items waiting.new.items (contains nat_cmp terms.old)
+        (contains nat_cmp terms.new)) }
 {
     match bank.form_at(form) {
         FormNode::Top => Ok(()),
@@ -116,7 +119,8 @@ fn wait_for_one(form: FormAt, waiting: &mut Vec<FormAt>) -> Result<(), OutOfMemo
 
 // Puts places among others. After a refusal some of them may be there.
 fn insert_all(terms: &mut BTreeSet<usize>, more: &[At]) -> Result<(), OutOfMemory>
-    ensures { OnOk result ((at : ℕ) → contains nat_cmp terms.new at ≡ (contains nat_cmp terms.old at || list_any (nat_eq at) (places more.now))) }
+    ensures { OnOk result ((at : ℕ) → contains nat_cmp terms.new at
+        ≡ (contains nat_cmp terms.old at || list_any (nat_eq at) (places more.now))) }
 {
     for place in more {
         terms.insert(place.0)?;
@@ -124,7 +128,7 @@ fn insert_all(terms: &mut BTreeSet<usize>, more: &[At]) -> Result<(), OutOfMemor
     Ok(())
 }
 
-// Whether the eigenconstant stands in a term at one of these places.
+// Whether the eigenvariable stands in a term at one of these places.
 fn is_in_terms(bank: &Bank, constant: u32, mut terms: BTreeSet<usize>) -> Result<bool, OutOfMemory>
     requires { AreWithin bank.now (contains nat_cmp terms) }
     ensures { IfOk result (IsFoundAmong constant bank.now (contains nat_cmp terms)) }
@@ -139,10 +143,11 @@ fn is_in_terms(bank: &Bank, constant: u32, mut terms: BTreeSet<usize>) -> Result
     Ok(false)
 }
 
-// The arguments of a term; none where its head is the eigenconstant.
+// The arguments of a term; none where its head is the eigenvariable.
 fn parts(bank: &Bank, constant: u32, at: At) -> Option<&[At]>
     requires { HasTerm bank.now at.0 }
-    ensures { MatchOption result (has_eigen constant (term_tree bank.now at.0) ≡ true) (λ args. ArePartsOf constant bank.now at.0 args.now) }
+    ensures { MatchOption result (has_eigen constant (term_tree bank.now at.0) ≡ true)
+        (λ args. ArePartsOf constant bank.now at.0 args.now) }
 {
     match bank.term_at(at) {
         TermView::Var(_) => Some(&[]),
@@ -156,7 +161,7 @@ fn parts(bank: &Bank, constant: u32, at: At) -> Option<&[At]>
     }
 }
 
-// Whether a head is the eigenconstant.
+// Whether a head is the eigenvariable.
 fn is_constant(constant: u32, head: Head) -> bool
     ensures { result ≡ is_eigen constant head }
 {

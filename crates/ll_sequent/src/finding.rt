@@ -17,9 +17,10 @@ pub(crate) fn take_clause(
     free: &[Resource],
     bounded: &mut Vec<Resource>,
 ) -> Option<FormAt>
-    ensures found { (bank : Nodes) → found_in bank result bounded.new.items ≡ pick label (free_in bank free.now) (bounded_in bank bounded.old.items) }
-    ensures held { (modules : List ModuleTree) (bank : Nodes) → AreHeld modules bank free.now → AreHeld modules bank bounded.old.items
-        → AreFound modules bank result bounded.new.items }
+    ensures found { (bank : Nodes) → found_in bank result bounded.new.items
+        ≡ pick label (free_in bank free.now) (bounded_in bank bounded.old.items) }
+    ensures held { (modules : List ModuleTree) (bank : Nodes) → AreHeld modules bank free.now
+        → AreHeld modules bank bounded.old.items → AreFound modules bank result bounded.new.items }
 {
     if let Some(found) = newest(label, free) {
         return Some(found.form);

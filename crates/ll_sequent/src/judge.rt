@@ -32,8 +32,10 @@ pub(crate) fn judge(
     requires inside { AllInTerms start.bank start.copies.items }
     requires reach { All (IsLineBelow (length start.copies.items)) rules.now }
     requires whole { list_all is_line (map (copied_line start.bank start.copies.items) rules.now) ≡ true }
-    ensures { IfOk result (λ verdict. (x : Tree) → trees_of (map (copied_line start.bank start.copies.items) rules.now) ≡ Some (x ∷ [])
-        → Tells verdict (fault_at (operators_of names.now) (map (module_tree start.bank) modules.now) x (sequent_in start.bank start.free.items start.root))) }
+    ensures { IfOk result (λ verdict. (x : Tree)
+        → trees_of (map (copied_line start.bank start.copies.items) rules.now) ≡ Some (x ∷ [])
+        → Tells verdict (fault_at (operators_of names.now) (map (module_tree start.bank) modules.now) x
+        (sequent_in start.bank start.free.items start.root))) }
 {
     let Start {
         mut bank,
@@ -63,8 +65,9 @@ fn judge_nodes(
     requires inside { AllInTerms bank.old copies.now }
     requires reach { All (IsLineBelow (length copies.now)) rules.now }
     requires whole { list_all is_line (map (copied_line bank.old copies.now) rules.now) ≡ true }
-    ensures { IfOk result (λ verdict. (x : Tree) → trees_of (map (copied_line bank.old copies.now) rules.now) ≡ Some (x ∷ [])
-        → Tells verdict (fault_at (operators_of names.now) (map (module_tree bank.old) modules.now) x (sequent_in bank.old free.old.items root))) }
+    ensures { IfOk result (λ verdict. (x : Tree) → trees_of (map (copied_line bank.old copies.now) rules.now)
+        ≡ Some (x ∷ []) → Tells verdict (fault_at (operators_of names.now) (map (module_tree bank.old) modules.now) x
+        (sequent_in bank.old free.old.items root))) }
 {
     let mut waiting = Vec::new(alloc);
     waiting.push(root)?;

@@ -66,7 +66,8 @@ fn is_one_of(left: bool, right: bool) -> bool
 
 /// Whether the label of each clause is in exactly one of the two sets.
 fn are_in_one(left: &[u32], right: &[u32], resources: &[Resource]) -> bool
-    ensures { result ≡ list_all (λ (r : Resource). one_of (has left.now r.label) (has right.now r.label)) resources.now }
+    ensures { result ≡ list_all (λ (r : Resource). one_of (has left.now r.label)
+        (has right.now r.label)) resources.now }
 {
     let mut in_left = 0;
     let mut in_right = 0;

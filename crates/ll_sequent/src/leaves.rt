@@ -7,8 +7,7 @@ ghost use Rattle.ll_laws.specs.Leaf.{ways, leaf as leaf_of};
 ghost use Rattle.ll_laws.specs.Valid.{ClauseSide, has_heads};
 ghost use Rattle.ll_sequent.specs.Opened.{IsOpened, IsPast, IsSide};
 
-use ll_bank::{At, Bank, FormAt, FormNode, OutOfMemory};
-use ll_close::{close_form, close_term};
+use ll_bank::{At, Bank, FormAt, FormNode, OutOfMemory, close_form, close_term};
 use std::alloc::Global;
 
 /// The goal of a premise, which `-o` or `=>` brought.
@@ -45,7 +44,8 @@ pub(crate) fn open_leaf(
     requires heads { has_heads true ClauseSide [] (form_tree bank.old clause.0) ≡ true }
     requires values { AllInTerms bank.old values.now }
     requires closed { list_all is_closed (term_trees bank.old values.now) ≡ true }
-    ensures opened { IfOk result (IsOpened bank.new (leaf_of (form_tree bank.old clause.0) leaf (term_trees bank.old values.now))) }
+    ensures opened { IfOk result (IsOpened bank.new
+        (leaf_of (form_tree bank.old clause.0) leaf (term_trees bank.old values.now))) }
     ensures keeps { Extends bank.old bank.new }
 {
     let mut form = clause;

@@ -66,7 +66,8 @@ fn is_value(
 ) -> Result<bool, OutOfMemory>
     requires left { HasTerm bank.now left.0 }
     requires right { HasTerm bank.now right.0 }
-    ensures { IfOk result (λ test. test ≡ holds (operators_of names.now) Is (term_tree bank.now left.0) (term_tree bank.now right.0)) }
+    ensures { IfOk result (λ test. test ≡ holds (operators_of names.now) Is (term_tree bank.now left.0)
+        (term_tree bank.now right.0)) }
 {
     let found = value(alloc, bank, names, right)?;
     match bank.term_at(left) {
@@ -89,7 +90,8 @@ fn is_less(
 ) -> Result<bool, OutOfMemory>
     requires left { HasTerm bank.now left.0 }
     requires right { HasTerm bank.now right.0 }
-    ensures { IfOk result (λ test. test ≡ holds (operators_of names.now) Less (term_tree bank.now left.0) (term_tree bank.now right.0)) }
+    ensures { IfOk result (λ test. test ≡ holds (operators_of names.now) Less (term_tree bank.now left.0)
+        (term_tree bank.now right.0)) }
 {
     let first = value(alloc, bank, names, left)?;
     let second = value(alloc, bank, names, right)?;
@@ -112,7 +114,8 @@ fn is_at_most(
 ) -> Result<bool, OutOfMemory>
     requires left { HasTerm bank.now left.0 }
     requires right { HasTerm bank.now right.0 }
-    ensures { IfOk result (λ test. test ≡ holds (operators_of names.now) Most (term_tree bank.now left.0) (term_tree bank.now right.0)) }
+    ensures { IfOk result (λ test. test ≡ holds (operators_of names.now) Most (term_tree bank.now left.0)
+        (term_tree bank.now right.0)) }
 {
     let first = value(alloc, bank, names, left)?;
     let second = value(alloc, bank, names, right)?;

@@ -17,13 +17,12 @@ use crate::sequents::{Resource, Sequent, Step};
 use ll_bank::{At, Bank, FormNode, Head, OutOfMemory};
 use ll_laws::Module;
 use ll_modules::unfold;
-use ll_terms::instantiate;
 use std::alloc::Global;
 
 /// The constant stands in the goal or in a clause.
 const CONSTANT_NOT_NEW: u8 = 10;
 
-/// `forall x\ G` with an eigenconstant in place of x.
+/// `forall x\ G` with an eigenvariable in place of x.
 pub(crate) fn forall(
     alloc: Global,
     bank: &mut Bank,
@@ -44,7 +43,7 @@ pub(crate) fn forall(
                 return Ok(Step::Refused(CONSTANT_NOT_NEW));
             }
             let value = bank.app(Head::Eigen(constant), &[])?;
-            let goal = instantiate(bank, body, value)?;
+            let goal = bank.instantiate(body, value)?;
             let premise = Sequent {
                 free: sequent.free,
                 bounded: sequent.bounded,
@@ -72,7 +71,7 @@ pub(crate) fn exists(
 {
     match bank.form_at(sequent.goal) {
         FormNode::Exists(body) => {
-            let goal = instantiate(bank, body, value)?;
+            let goal = bank.instantiate(body, value)?;
             let premise = Sequent {
                 free: sequent.free,
                 bounded: sequent.bounded,
@@ -94,8 +93,10 @@ pub(crate) fn load(
     requires has { HasModules bank.old modules.now }
     requires modules { AreModulesSound (map (module_tree bank.old) modules.now) }
     requires sequent { IsSequent (map (module_tree bank.old) modules.now) bank.old sequent }
-    ensures is { IfOk result (λ step. (ops : Operators) (free : List Resource) → Holds (map (module_tree bank.old) modules.now) bank.old free sequent
-        → IsStep ops (map (module_tree bank.old) modules.now) UseLine (sequent_in bank.old free sequent) bank.new free free step) }
+    ensures is { IfOk result (λ step. (ops : Operators) (free : List Resource)
+        → Holds (map (module_tree bank.old) modules.now) bank.old free sequent
+        → IsStep ops (map (module_tree bank.old) modules.now) UseLine
+        (sequent_in bank.old free sequent) bank.new free free step) }
     ensures keeps { Extends bank.old bank.new }
 {
     match bank.form_at(sequent.goal) {

@@ -18,7 +18,8 @@ use std::alloc::Global;
 
 /// Whether the parts of a node are as many as the premises of a leaf, and of their kinds.
 pub(crate) fn fit(parts: &[Part], premises: &[Needed]) -> bool
-    ensures { (bank : Nodes) → result ≡ parts_fit (blank (map part_line parts.now)) (map (needed_in bank) premises.now) }
+    ensures { (bank : Nodes) → result ≡ parts_fit (blank (map part_line parts.now))
+        (map (needed_in bank) premises.now) }
 {
     if parts.len() != premises.len() {
         return false;
@@ -55,7 +56,8 @@ pub(crate) fn goals_of(
 ) -> Result<Vec<FormAt>, OutOfMemory>
     requires { AreNeeded bank.old premises.now }
     ensures inside { IfOk result (λ goals. AllInForms bank.new goals.items) }
-    ensures shows { IfOk result (λ goals. form_trees bank.new goals.items ≡ map premise_goal (map (needed_in bank.old) premises.now)) }
+    ensures shows { IfOk result (λ goals. form_trees bank.new goals.items
+        ≡ map premise_goal (map (needed_in bank.old) premises.now)) }
     ensures keeps { Extends bank.old bank.new }
 {
     let mut goals = Vec::new(alloc);

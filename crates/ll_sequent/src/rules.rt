@@ -36,7 +36,8 @@ pub(crate) fn step(
     requires inside { AllInTerms bank.old copies.now }
     requires reach { IsLineBelow (length copies.now) rule.now }
     requires line { is_line (copied_line bank.old copies.now rule.now) ≡ true }
-    ensures is { IfOk result (IsStep (operators_of names.now) (map (module_tree bank.old) modules.now) (copied_line bank.old copies.now rule.now)
+    ensures is { IfOk result (IsStep (operators_of names.now) (map (module_tree bank.old) modules.now)
+        (copied_line bank.old copies.now rule.now)
         (sequent_in bank.old free.old.items sequent) bank.new free.old.items free.new.items) }
     ensures keeps { Extends bank.old bank.new }
 {

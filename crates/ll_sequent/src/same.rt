@@ -4,7 +4,6 @@ ghost use Rattle.ll_bank.specs.Nodes.{Nodes, term_tree, term_trees, HasTerm, All
 ghost use Rattle.ll_sequent.specs.Copied.{ArePairs, AreSame};
 
 use ll_bank::{At, Bank, Head, OutOfMemory, TermView};
-use ll_terms::equal;
 use std::alloc::Global;
 
 /// How many pairs are looked at one by one. A term that is shared is met again there each time, where it stands against another place.
@@ -26,7 +25,7 @@ pub(crate) fn is_same(alloc: Global, bank: &Bank, left: At, right: At) -> Result
     if is_same_by_pairs(alloc, bank, left, right)? {
         Ok(true)
     } else {
-        equal(bank, left, bank, right)
+        bank.equal(left, bank, right)
     }
 }
 
@@ -100,8 +99,8 @@ fn is_one_head(head: Head, other: Head) -> bool
 /// Puts the pairs of arguments behind those that wait.
 fn push_all(args: &[At], others: &[At], pairs: &mut Vec<Pair>) -> Result<(), OutOfMemory>
     requires { length args.now ≡ length others.now }
-    ensures inside { OnOk result ((bank : Nodes) → AllInTerms bank args.now → AllInTerms bank others.now → ArePairs bank pairs.old.items
-        → ArePairs bank pairs.new.items) }
+    ensures inside { OnOk result ((bank : Nodes) → AllInTerms bank args.now → AllInTerms bank others.now
+        → ArePairs bank pairs.old.items → ArePairs bank pairs.new.items) }
     ensures same { OnOk result ((bank : Nodes) → AreSame bank pairs.new.items
         → AreSame bank pairs.old.items × (term_trees bank args.now ≡ term_trees bank others.now)) }
 {

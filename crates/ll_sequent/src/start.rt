@@ -36,12 +36,15 @@ pub(crate) fn started(
     requires asked { AllInTerms terms.now asked.now }
     requires closed { list_all is_closed (term_trees terms.now asked.now) ≡ true }
     requires lines { HasLines terms.now rules.now }
-    ensures root { IfOk result (λ start. (modules : List ModuleTree) → AreSound modules (map (clause_tree bank.now) clauses.now) (form_tree bank.now goal.0)
-        → IsRoot modules (map (clause_tree bank.now) clauses.now) (form_tree bank.now goal.0) (term_trees terms.now asked.now) start) }
+    ensures root { IfOk result (λ start. (modules : List ModuleTree)
+        → AreSound modules (map (clause_tree bank.now) clauses.now) (form_tree bank.now goal.0)
+        → IsRoot modules (map (clause_tree bank.now) clauses.now) (form_tree bank.now goal.0)
+        (term_trees terms.now asked.now) start) }
     ensures keeps { IfOk result (λ start. Extends bank.now start.bank) }
     ensures inside { IfOk result (λ start. AllInTerms start.bank start.copies.items) }
     ensures reach { IfOk result (λ start. All (IsLineBelow (length start.copies.items)) rules.now) }
-    ensures lines { IfOk result (λ start. map (copied_line start.bank start.copies.items) rules.now ≡ map (line_of terms.now) rules.now) }
+    ensures lines { IfOk result (λ start. map (copied_line start.bank start.copies.items) rules.now
+        ≡ map (line_of terms.now) rules.now) }
 {
     let mut own = bank.image(bank.size())?;
     let copies = copies_of(alloc, terms, asked, rules, &mut own)?;

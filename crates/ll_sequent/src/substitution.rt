@@ -23,7 +23,8 @@ pub(crate) fn substituted(
 ) -> Result<FormAt, OutOfMemory>
     requires form { HasForm bank.old form.0 }
     requires values { AllInTerms bank.old values.now }
-    ensures shows { IfOk result (λ image. ShowsForm bank.new image.0 (sub_form (values_of (term_trees bank.old values.now)) (form_tree bank.old form.0))) }
+    ensures shows { IfOk result (λ image. ShowsForm bank.new image.0
+        (sub_form (values_of (term_trees bank.old values.now)) (form_tree bank.old form.0))) }
     ensures keeps { Extends bank.old bank.new }
 {
     let mut terms = Vec::new(alloc);
@@ -50,7 +51,8 @@ fn form_image(
     requires values { AllInTerms bank.old values.now }
     requires terms { AreTermImages bank.old (term_trees bank.old values.now) terms.old.items }
     requires forms { AreFormImages bank.old (term_trees bank.old values.now) forms.now }
-    ensures shows { IfOk result (λ image. ShowsForm bank.new image.0 (sub_form (values_of (term_trees bank.old values.now)) (form_tree bank.old form.0))) }
+    ensures shows { IfOk result (λ image. ShowsForm bank.new image.0
+        (sub_form (values_of (term_trees bank.old values.now)) (form_tree bank.old form.0))) }
     ensures terms { OnOk result (AreTermImages bank.new (term_trees bank.old values.now) terms.new.items) }
     ensures keeps { Extends bank.old bank.new }
 {
@@ -119,7 +121,8 @@ fn load_image(
     requires values { AllInTerms bank.old values.now }
     requires terms { AreTermImages bank.old (term_trees bank.old values.now) terms.old.items }
     ensures shows { IfOk result (λ image. ShowsForm bank.new image.0
-        (Use number (map (sub (values_of (term_trees bank.old values.now))) (term_trees bank.old args.now)) (form_tree bank.old body.0))) }
+        (Use number (map (sub (values_of (term_trees bank.old values.now))) (term_trees bank.old args.now))
+        (form_tree bank.old body.0))) }
     ensures terms { OnOk result (AreTermImages bank.new (term_trees bank.old values.now) terms.new.items) }
     ensures keeps { Extends bank.old bank.new }
 {
@@ -140,8 +143,10 @@ fn two_images(
     requires right { HasTerm bank.old right.0 }
     requires values { AllInTerms bank.old values.now }
     requires terms { AreTermImages bank.old (term_trees bank.old values.now) terms.old.items }
-    ensures left { IfOk result (λ images. ShowsTerm bank.new images.0.0 (sub (values_of (term_trees bank.old values.now)) (term_tree bank.old left.0))) }
-    ensures right { IfOk result (λ images. ShowsTerm bank.new images.1.0 (sub (values_of (term_trees bank.old values.now)) (term_tree bank.old right.0))) }
+    ensures left { IfOk result (λ images. ShowsTerm bank.new images.0.0
+        (sub (values_of (term_trees bank.old values.now)) (term_tree bank.old left.0))) }
+    ensures right { IfOk result (λ images. ShowsTerm bank.new images.1.0
+        (sub (values_of (term_trees bank.old values.now)) (term_tree bank.old right.0))) }
     ensures terms { OnOk result (AreTermImages bank.new (term_trees bank.old values.now) terms.new.items) }
     ensures keeps { Extends bank.old bank.new }
 {
@@ -186,7 +191,8 @@ fn term_image(
     requires term { HasTerm bank.old term.0 }
     requires values { AllInTerms bank.old values.now }
     requires terms { AreTermImages bank.old (term_trees bank.old values.now) terms.old.items }
-    ensures shows { IfOk result (λ image. ShowsTerm bank.new image.0 (sub (values_of (term_trees bank.old values.now)) (term_tree bank.old term.0))) }
+    ensures shows { IfOk result (λ image. ShowsTerm bank.new image.0
+        (sub (values_of (term_trees bank.old values.now)) (term_tree bank.old term.0))) }
     ensures terms { OnOk result (AreTermImages bank.new (term_trees bank.old values.now) terms.new.items) }
     ensures keeps { Extends bank.old bank.new }
 {
@@ -210,7 +216,8 @@ fn next_image(
     requires below { term.0 ≤ length terms.now }
     requires values { AllInTerms bank.old values.now }
     requires terms { AreTermImages bank.old (term_trees bank.old values.now) terms.now }
-    ensures shows { IfOk result (λ image. ShowsTerm bank.new image.0 (sub (values_of (term_trees bank.old values.now)) (term_tree bank.old term.0))) }
+    ensures shows { IfOk result (λ image. ShowsTerm bank.new image.0
+        (sub (values_of (term_trees bank.old values.now)) (term_tree bank.old term.0))) }
     ensures keeps { Extends bank.old bank.new }
 {
     match bank.term_at(term) {

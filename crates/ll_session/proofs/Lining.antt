@@ -5,7 +5,7 @@ use Rattle.std.specs.Prelude.{Result, Ok, Err, ◌==◌}
 use Rattle.std.specs.List.{prefix_len}
 use Rattle.std.proofs.lemmas.List.Sums.{prefix_len_passes, prefix_len_stops}
 use Rattle.std.proofs.lemmas.Bool.{false≢true}
-use Rattle.ll_lists.proofs.CallerLemmas.{false_from_not as not-true, true_from_not as not-false}
+use Rattle.ll_list_laws.proofs.CallerLemmas.{false_from_not as not-true, true_from_not as not-false}
 use Rattle.ll_lexer.specs.declared.Fault.{Fault}
 use Rattle.ll_laws.specs.Problem.{ProblemTree}
 use Rattle.ll_parser.specs.Raw.{ProgramTree}

@@ -1,7 +1,7 @@
 -- Lines that are replied to, one after the other.
 use Rattle.std.proofs.Common.{◌≡◌, ℕ, ◌+◌, true, false, List, [], ◌∷◌, ◌++◌, length, refl, sym, subst, arith, append_assoc, append-nil, length-append}
 use Rattle.std.specs.Prelude.{Result, Ok, Err, IfOk, OnOk, OnErr}
-use Rattle.ll_lists.proofs.CallerLemmas.{OnOk-weaker as on-ok, OnErr-weaker as on-err}
+use Rattle.ll_list_laws.proofs.CallerLemmas.{OnOk-weaker as on-ok, OnErr-weaker as on-err}
 use Rattle.ll_lexer.specs.declared.Fault.{Fault}
 use Rattle.ll_laws.specs.Problem.{ProblemTree}
 use Rattle.ll_order.specs.Outlets.{Gives}

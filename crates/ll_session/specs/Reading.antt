@@ -36,6 +36,6 @@ pub record TextAsks (program : ProgramTree) (text : List ℕ) (bound : ℕ) (p :
   pub is_query : IsQueryText text tree
   pub asks : Asks program tree bound p
 
--- why a query's text was not read by the grammar, whichever program is asked; want of memory is free
+-- why a query's text was not read by the grammar, whichever program is asked; out of memory is free
 abbrev pub IsUnreadCause : List ℕ → TextFault → Type 0
 IsUnreadCause text e = IsCauseOf (λ f. (program : ProgramTree) → IsQueryFault program text f) e

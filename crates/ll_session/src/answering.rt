@@ -35,7 +35,8 @@ pub fn session<R: Replies>(
     requires faultless { program_faults program.now ≡ [] }
     requires text { length text.now ≤ 16777216 }
     requires bound { bound ≤ 1000000 }
-    ensures answers { IfOk result (λ count. Answers R.takes R.breaks program.now text.now bound replies.old count replies.new) }
+    ensures answers { IfOk result
+        (λ count. Answers R.takes R.breaks program.now text.now bound replies.old count replies.new) }
     ensures refused { OnErr result (StopsShort R.takes R.breaks program.now text.now bound replies.old replies.new) }
     ensures write { result ≡ Err Write → Rose (R.faults replies.old) (R.faults replies.new) }
     ensures faults_kept { R.faults replies.old ≤ R.faults replies.new }
@@ -43,7 +44,7 @@ pub fn session<R: Replies>(
     one_session();
     match load(alloc, program) {
         Ok(loaded) => answer_lines(alloc, &loaded, text, bound, replies),
-        // The program has no fault, so memory was wanting.
+        // The program has no fault, so memory ran out.
         Err(_) => Err(OutFault::OutOfMemory),
     }
 }

@@ -25,8 +25,10 @@ pub fn ask_text(
 ) -> Result<Problem, TextFault>
     requires text { length text.now ≤ 16777216 }
     requires bound { bound ≤ 1000000 }
-    ensures asks { IfOk result (λ problem. (program : ProgramTree) → IsProgramOf program loaded → TextAsks program text.now bound problem × IsValid problem) }
-    ensures cause { IfErr result (IsCauseOf (λ fault. (program : ProgramTree) → loaded ≡ part_of program → IsQueryFault program text.now fault)) }
+    ensures asks { IfOk result (λ problem. (program : ProgramTree) → IsProgramOf program loaded
+        → TextAsks program text.now bound problem × IsValid problem) }
+    ensures cause { IfErr result (IsCauseOf (λ fault. (program : ProgramTree) → loaded ≡ part_of program
+        → IsQueryFault program text.now fault)) }
 {
     let query = read_query(alloc, text)?;
     let problem = ask(alloc, loaded, &query, bound)?;

@@ -13,7 +13,8 @@ pub fn one_session()
     ensures some { (program : ProgramTree) → program_faults program ≡ [] → (bound line : ℕ) (texts : List (List ℕ))
         → (queries : List QueryLine) × HaveQueries program bound line texts queries }
     ensures one { (program : ProgramTree) (bound line : ℕ) (texts : List (List ℕ)) (queries others : List QueryLine)
-        → HaveQueries program bound line texts queries → HaveQueries program bound line texts others → queries ≡ others }
+        → HaveQueries program bound line texts queries → HaveQueries program bound line texts others
+        → queries ≡ others }
 {
     one_reading();
     one_query();

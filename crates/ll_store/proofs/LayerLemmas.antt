@@ -96,16 +96,6 @@ one-more whole own xs made last a s first second l v leads f w m e o within begi
 
 -- ---- layers whose first parts are those of others
 
--- as many segments at the front, one more than before
-pub same-more : (xs ys : List (Arc SegmentSight Global)) (n : ℕ) (a b : Arc SegmentSight Global) → n < length xs → n < length ys
-    → segments_of (take n xs) ≡ segments_of (take n ys)
-    → arc_value (slice_index_or xs n a) ≡ arc_value (slice_index_or ys n b) → segments_of (take (n + 1) xs) ≡ segments_of (take (n + 1) ys)
-same-more xs ys n a b k l e f = front xs a k ∙ ((λ i. e i ++ f i ∷ []) ∙ sym (front ys b l))
-  where
-    front : (zs : List (Arc SegmentSight Global)) (d : Arc SegmentSight Global) → n < length zs
-        → segments_of (take (n + 1) zs) ≡ segments_of (take n zs) ++ arc_value (slice_index_or zs n d) ∷ []
-    front zs d m = ap segments_of (take_more zs n d m) ∙ map-append (λ (x : Arc SegmentSight Global). arc_value x) (take n zs) (slice_index_or zs n d ∷ [])
-
 -- the segments that the others have besides lead on to their state
 pub leads-on : (whole other : Arc Store Global) (xs ys : List (Arc SegmentSight Global)) (n : ℕ) (l m : LayersSight) → layered whole xs ≡ l
     → layered other ys ≡ m → whole_of whole ≡ whole_of other

@@ -1,15 +1,15 @@
 -- Marks over the changes of a store.
 use Rattle.std.proofs.Common.{◌≡◌, ℕ, zero, suc, ◌≤◌, List, [], ◌∷◌, ◌++◌, length, take, drop, refl, ap, sym, subst, ◌∙◌, arith, length-append}
 use Rattle.std.specs.Prelude.{Result, Ok, Err, OnOk, OnErr, min}
-use Rattle.std.proofs.lemmas.List.{drop_all, drop-append-le, take-append-le, take-append-drop, take-take, take_all, length-take, length-take-le}
+use Rattle.std.proofs.lemmas.List.{drop-append-le, take-append-le, take-append-drop, take-take, take_all, length-take, length-take-le}
 use Rattle.std.proofs.lemmas.List.Sums.{sum_by-take-le}
 use Rattle.ll_bank.specs.Nodes.{Nodes, front, HasSize, IsCutTo, IsNotPast, Extends, size_of, argument_count, load_argument_count}
 use Rattle.ll_bank.specs.declared.BankSize.{BankSize}
 use Rattle.ll_store.specs.declared.cells.Cell.{Cell}
 use Rattle.ll_store.specs.declared.cells.Change.{Change}
 use Rattle.ll_store.specs.declared.store.Mark.{Mark}
-use Rattle.ll_store.specs.Cells.{taken_back, before}
-use Rattle.ll_store.specs.Stored.{State, Stored, state_of, state_at, AreWithin, IsGood, StandsFor, KeepsMarks, IsBefore, KeepsMarksTo}
+use Rattle.ll_store.specs.Cells.{before}
+use Rattle.ll_store.specs.Stored.{State, Stored, state_at, AreWithin, IsGood, StandsFor, KeepsMarks, IsBefore, KeepsMarksTo}
 use Rattle.ll_store.specs.Tables.{before-append}
 use Rattle.ll_store.proofs.CellLemmas.{before-length, before-take}
 
@@ -25,21 +25,6 @@ stands old new m c t b e g = record {
   good = record { cells = c; trail = t; bank = b; within = subst (λ s. AreWithin s) (sym e) g.within };
   state = e;
 }
-
--- one more change
-pub marks-change : (old new : Stored) (c : Change) → new.nodes ≡ old.nodes → new.changes ≡ old.changes ++ c ∷ [] → taken_back c new.cells ≡ old.cells
-    → length new.cells ≡ length old.cells → KeepsMarks old new
-marks-change old new c n e b l m g =
-    stands old new m (let k = g.cells in omega (arith, k, l)) (let k = g.trail in let q = ap length e ∙ length-append old.changes (c ∷ []) in
-    omega (arith, k, q))
-    (subst (λ ns. HasSize ns m.bank) (sym n) g.bank)
-    (same_state _ _ _ _ (ap (λ ns. front ns m.bank) n) (ap (take m.cells) past)) g
-  where
-    past : before (drop m.trail new.changes) new.cells ≡ before (drop m.trail old.changes) old.cells
-    past =
-        ap (λ cs. before (drop m.trail cs) new.cells) e
-        ∙ (ap (λ cs. before cs new.cells) (drop-append-le m.trail old.changes (c ∷ []) g.trail)
-        ∙ (before-append (drop m.trail old.changes) (c ∷ []) new.cells ∙ ap (before (drop m.trail old.changes)) b))
 
 -- more changes, which taken back give the earlier cells, keep each good mark: so does a unifier that only adds to the trail
 pub marks-grow : (old new : Stored) (more : List Change) → new.nodes ≡ old.nodes → new.changes ≡ old.changes ++ more → before more new.cells ≡ old.cells
@@ -75,12 +60,6 @@ marks-cell old new d n e b m g =
 -- nothing changed
 pub marks-same : (s : Stored) → KeepsMarks s s
 marks-same s m g = record { good = g; state = refl }
-
--- the state at the present mark
-pub state-now : (m : Mark) (s : Stored) → m.cells ≡ length s.cells → m.trail ≡ length s.changes → front s.nodes m.bank ≡ s.nodes → state_at m s ≡ state_of s
-state-now m s c t b =
-    same_state _ _ _ _ b
-    (ap (λ cs. take m.cells (before cs s.cells)) (drop_all m.trail s.changes (omega (arith, t))) ∙ take_all m.cells s.cells (omega (arith, c)))
 
 -- the first nodes of a bank that has been cut
 pub front-cut : (size : BankSize) (old new : Nodes) → IsCutTo size old new → new ≡ front old size

@@ -6,7 +6,7 @@ use Rattle.ll_store.specs.declared.cells.Cell.{Cell}
 use Rattle.ll_store.specs.declared.cells.Change.{Change}
 use Rattle.ll_store.specs.Cells.{taken_back, before}
 use Rattle.ll_store.specs.Trails.{Trailed, Grows}
-use Rattle.ll_bindings.specs.Bindings.{Table}
+use Rattle.ll_unify.specs.Bindings.{Table}
 
 -- what the cells are bound to, and their levels
 abbrev pub table_of : List Cell → Table

@@ -147,7 +147,8 @@ impl Cells {
     pub fn image(&self, cells: usize, changes: usize) -> Result<Self, OutOfMemory>
         requires cells { cells ≤ length self.now.cells }
         requires changes { changes ≤ length self.now.changes }
-        ensures cells { IfOk result (λ image. image.cells ≡ take cells (before (drop changes self.now.changes) self.now.cells)) }
+        ensures cells { IfOk result (λ image. image.cells
+            ≡ take cells (before (drop changes self.now.changes) self.now.cells)) }
         ensures changes { IfOk result (λ image. image.changes ≡ take changes self.now.changes) }
     {
         let alloc = *self.slots.allocator();
@@ -196,7 +197,8 @@ fn take_one_back(cells: &mut Vec<Slot>, change: Change)
 /// Takes back all but the first `from` of changes that were made one after another.
 pub(crate) fn take_back(cells: &mut Vec<Slot>, changes: &[Entry], from: usize)
     requires { from ≤ length changes.now }
-    ensures { map cell_of cells.new.items ≡ before (drop from (map change_of changes.now)) (map cell_of cells.old.items) }
+    ensures { map cell_of cells.new.items ≡ before (drop from (map change_of changes.now))
+        (map cell_of cells.old.items) }
 {
     let mut at = changes.len();
     while at > from {

@@ -118,7 +118,8 @@ impl Store {
     /// Goes on to the state to which segments lead, one after another. After a refusal nothing is said of the store.
     pub fn apply_segments(&mut self, segments: &[Arc<Segment>]) -> Result<(), OutOfMemory>
         requires { BeginAll (segments_of segments.now) (state_of (stored self.old)) }
-        ensures { OnOk result (state_of (stored self.new) ≡ state_after_all (segments_of segments.now) (state_of (stored self.old))) }
+        ensures { OnOk result (state_of (stored self.new) ≡ state_after_all (segments_of segments.now)
+            (state_of (stored self.old))) }
     {
         for segment in segments {
             self.apply_segment(segment)?;

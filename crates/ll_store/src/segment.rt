@@ -128,7 +128,8 @@ fn note(
 ) -> Result<(), OutOfMemory>
     requires { count ≤ length cells.now }
     ensures { OnOk result (map renewed_of made.new.items ≡ map renewed_of made.old.items
-        ++ kept_if (nat_lt (changed_in (change_of entry)) count) (renewal (map cell_of cells.now) (change_of entry)) []) }
+        ++ kept_if (nat_lt (changed_in (change_of entry)) count)
+        (renewal (map cell_of cells.now) (change_of entry)) []) }
 {
     let var = entry.var();
     if count <= var {
@@ -150,7 +151,8 @@ fn behind(alloc: Global, cells: &[Slot], count: usize) -> Result<Vec<Slot>, OutO
 
 // Notes the changes. After a refusal the trail is as before.
 fn note_changes(trail: &mut Vec<Entry>, renewed: &[Renewal]) -> Result<(), OutOfMemory>
-    ensures noted { OnOk result (map change_of trail.new.items ≡ map change_of trail.old.items ++ map (λ r. r.change) (map renewed_of renewed.now)) }
+    ensures noted { OnOk result (map change_of trail.new.items ≡ map change_of trail.old.items ++ map (λ r. r.change)
+        (map renewed_of renewed.now)) }
     ensures refused { OnErr result (map change_of trail.new.items ≡ map change_of trail.old.items) }
 {
     trail.reserve(renewed.len())?;

@@ -52,7 +52,8 @@ impl Store {
     /// A new unbound variable of this level. After a refusal the store is as before.
     pub fn fresh(&mut self, level: u32) -> Result<u64, OutOfMemory>
         ensures number { IfOk result (λ var. var ≡ length self.old.cells.cells) }
-        ensures cells { OnOk result (self.new.cells.cells ≡ self.old.cells.cells ++ (record { to = None; level = level }) ∷ []) }
+        ensures cells { OnOk result (self.new.cells.cells
+            ≡ self.old.cells.cells ++ (record { to = None; level = level }) ∷ []) }
         ensures bank { self.new.bank ≡ self.old.bank }
         ensures marks { KeepsMarks (stored self.old) (stored self.new) }
         ensures refused { OnErr result (stored self.new ≡ stored self.old) }
@@ -106,11 +107,13 @@ impl Store {
         &self.bank
     }
 
-    /// Lends the bank, and keeps cells and trail. Where places are only added to it, each good mark stays good, with its state.
+    /// Lends the bank, and keeps cells and trail. Where places are only added to it, each good mark stays good, with its state. The program
+    /// does not call it: those who build a store of their own do.
     pub fn bank_mut(&mut self) -> &mut Bank
         ensures* lends { sem 𝓛 (LendsBank self.entry result) }
         ensures value { result.now ≡ self.old.bank }
-        ensures marks { (nodes : Nodes) → Extends self.old.bank nodes → KeepsMarks (stored self.old) (record (stored self.old) { nodes = nodes }) }
+        ensures marks { (nodes : Nodes) → Extends self.old.bank nodes
+            → KeepsMarks (stored self.old) (record (stored self.old) { nodes = nodes }) }
     {
         &mut self.bank
     }

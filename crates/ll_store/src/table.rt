@@ -1,7 +1,7 @@
 //! Cells as a table of bindings.
 use crate::cells::Cells;
 use ll_bank::{At, OutOfMemory};
-use ll_bindings::Bindings;
+use ll_unify::Bindings;
 
 impl Bindings for Cells {
     ghost use Rattle.ll_store.specs.Tables.{table_of, grows-same, grows-again};

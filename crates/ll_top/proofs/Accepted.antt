@@ -19,7 +19,7 @@ use Rattle.ll_parser.proofs.CallerLemmas.{whole-read}
 use Rattle.ll_polarity.proofs.CallerLemmas.{asked_problem_valid}
 use Rattle.ll_prooftext.specs.Mentions.{text_names}
 use Rattle.ll_prooftext.specs.Versions.{IsProofText}
-use Rattle.ll_spelled.specs.Laws.{AnswersAreSpelled, SpelledIsRead}
+use Rattle.ll_top.specs.spelled.Laws.{AnswersAreSpelled, SpelledIsRead}
 use Rattle.ll_top.specs.forms.Words.{RunWords, CheckWords}
 use Rattle.ll_top.specs.texts.Judging.{TextsAsk}
 use Rattle.ll_top.specs.texts.Outcome.{AnyName, NoName, IsRead, RunAsks}

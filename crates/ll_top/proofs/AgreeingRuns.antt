@@ -16,7 +16,7 @@ use Rattle.ll_laws.specs.Search.{is_answer, is_reached, any_reached}
 use Rattle.ll_laws.specs.Problem.{ProblemTree, setting_of, start_of, problem_events, problem_cost}
 use Rattle.ll_laws.specs.Output.{answer_text, summary_text, output_status, run_status, status_by}
 use Rattle.ll_laws.specs.ProofText.{derivation_text, proof_text}
-use Rattle.ll_textbook.specs.Kept.{bounded_by, answers_by, short_answers, AnswersAreKept}
+use Rattle.ll_top.specs.textbook.Kept.{bounded_by, answers_by, short_answers, AnswersAreKept}
 use Rattle.ll_top.specs.lines.Running.{event_lines}
 use Rattle.ll_top.specs.forms.Words.{RunWords, SessionWords, DeepenWords, HasFirst, IsRun, IsSession, IsDeepen}
 use Rattle.ll_top.proofs.wording.FirstWords.{bad-not-in-form, run-in-form, session-in-form, deepen-in-form, run-kind, session-kind, deepen-kind}

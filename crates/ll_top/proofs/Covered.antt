@@ -17,9 +17,9 @@ use Rattle.ll_laws.specs.Problem.{ProblemTree, setting_of, start_of, problem_eve
 use Rattle.ll_laws.specs.ProofText.{proof_text}
 use Rattle.ll_laws.specs.Verdict.{DerivationShows}
 use Rattle.ll_laws.proofs.CallerLemmas.{among, subs_id}
-use Rattle.ll_textbook.proofs.CallerLemmas.{steps_within}
+use Rattle.ll_top.proofs.following.Steps.{steps_within}
 use Rattle.ll_cover.specs.Covering.{IsCoveredBy, NamesFirst}
-use Rattle.ll_spelled.specs.Laws.{AnswersAreSpelled, SpelledIsRead}
+use Rattle.ll_top.specs.spelled.Laws.{AnswersAreSpelled, SpelledIsRead}
 use Rattle.ll_top.specs.forms.Words.{CheckWords, IsCheck}
 use Rattle.ll_top.proofs.wording.FirstWords.{bad-not-in-form, checked-in-form, checked-kind}
 use Rattle.ll_top.specs.declared.texts.judge.Role.TheVariants.{Program, Query, Proof}

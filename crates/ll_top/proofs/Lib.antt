@@ -22,3 +22,5 @@ pub mod RewritingProofs
 pub mod RewritingBack
 pub mod RewritingNames
 pub mod RewritingChecks
+pub mod following
+pub mod respelling

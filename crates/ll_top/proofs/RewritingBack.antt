@@ -17,7 +17,7 @@ use Rattle.ll_prooftext.specs.Mentions.{text_names}
 use Rattle.ll_prooftext.specs.Sizes.{text_in}
 use Rattle.ll_prooftext.specs.Twins.{Numbers, moved_head, moved, moved_line, moved_derivation}
 use Rattle.ll_prooftext.specs.Versions.{IsProofText}
-use Rattle.ll_spelled.proofs.CallerLemmas.{nothing-spelled, all-names}
+use Rattle.ll_top.proofs.respelling.Carried.{nothing-spelled, all-names}
 use Rattle.ll_top.specs.Rewriting.{WrittenIsReadBack}
 use Rattle.ll_top.proofs.RewritingProofs.{Twins, IsReadOver, written-over, added-names}
 use Rattle.ll_top.proofs.calls.DistinctNames.{differ-names}

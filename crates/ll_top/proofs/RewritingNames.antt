@@ -21,7 +21,7 @@ use Rattle.ll_laws.specs.Shows.{all_in, Found, Missing, Took, behind, take_label
 use Rattle.ll_laws.specs.Fault.{Checked, Fits, Fault, then_check, unless, is_empty, term_eq, parts_fit, parts_deal, Judged, Wrong, Right, judge_leaf}
 use Rattle.ll_laws.specs.Fault.{judge_clause, on_judged, on_module, fault, fault_parts}
 use Rattle.std.proofs.lemmas.Bool.{cases_lt}
-use Rattle.ll_lists.proofs.CallerLemmas.{and_true_both as both}
+use Rattle.ll_list_laws.proofs.CallerLemmas.{and_true_both as both}
 use Rattle.ll_laws.specs.Line.{DerivationLines}
 use Rattle.ll_laws.specs.Number.{operators_of, operator_spelled}
 use Rattle.ll_laws.specs.Problem.{ProblemTree, setting_of}
@@ -235,7 +235,7 @@ module _ (r : Numbers) where
   leaf-moved e (Use m us f) k ts = refl
   leaf-moved e (Num q t u) k ts = refl
 
-  -- ---- eigenconstants
+  -- ---- eigenvariables
 
   eigen-moved : (c : ℕ) (t : Term) → has_eigen c (moved r t) ≡ has_eigen c t
   eigen-moved c (Var x) = refl

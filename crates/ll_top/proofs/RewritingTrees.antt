@@ -2,7 +2,7 @@
 use Rattle.std.proofs.Common.{◌≡◌, ℕ, refl, ap, ◌∙◌, Bool, true, false, List, [], ◌∷◌, ◌++◌, map, length, codes}
 use Rattle.std.specs.Prelude.{cond, if◌then◌else◌}
 use Rattle.std.proofs.lemmas.List.{length-map}
-use Rattle.ll_lists.proofs.CallerLemmas.{map_map}
+use Rattle.ll_list_laws.proofs.CallerLemmas.{map_map}
 use Rattle.ll_bank.specs.Names.{with_name}
 use Rattle.ll_laws.specs.Module as laws
 use Rattle.ll_bank.specs.Form.{Form, Relation, Is, Less, Most, Use, Num}

@@ -2,7 +2,8 @@
 use Rattle.std.proofs.Common.{◌≡◌, ℕ, ◌<◌, ◌≤◌, ◌⊎◌, Bool, true, false, List, [], ◌∷◌, Some, refl, ap, sym, subst, ◌∙◌, inl, inr, if◌then◌else◌, arith}
 use Rattle.std.specs.Prelude.{codes}
 use Rattle.std.specs.Str.Parse.{digits_value}
-use Rattle.ll_top.specs.forms.Words.{Part, ThisWord, AnyName, NumberFrom, is_word, is_name_word, is_number_word, is_part, OptionForm, Takes, here, behind, Fits}
+use Rattle.ll_top.specs.forms.Words.{Part, ThisWord, AnyName, NumberFrom, is_word, is_name_word}
+use Rattle.ll_top.specs.forms.Words.{is_number_word, is_part, OptionForm, TakesOption, here, behind, FitsParts}
 use Rattle.ll_top.specs.forms.Words.{part, option, done}
 use Rattle.ll_top.specs.forms.Words.{greatest_bound, greatest_workers, greatest_first, number_behind, run_form, RunWords, IsRun}
 use Rattle.ll_top.proofs.wording.Forms.{part-first}
@@ -40,7 +41,7 @@ module _ (sought : List ℕ) (no_number : is_number_word sought ≡ false) (no_n
   AreSound [] = Unit {0}
   AreSound (o ∷ os) = IsSound o × AreSound os
 
-  sound-taken : (o : OptionForm) (os others : List OptionForm) → Takes o os others → AreSound os → IsSound o × AreSound others
+  sound-taken : (o : OptionForm) (os others : List OptionForm) → TakesOption o os others → AreSound os → IsSound o × AreSound others
   sound-taken o _ _ (here e) s = (subst IsSound e s.0, s.1)
   sound-taken o _ _ (behind {os = os} {others = others} t) s = let r = sound-taken o os others t s.1 in (r.0, (s.0, r.1))
 
@@ -53,7 +54,7 @@ module _ (sought : List ℕ) (no_number : is_number_word sought ≡ false) (no_n
   skipped w [] h = refl
   skipped w (x ∷ ws) h = ap (λ b. if b then Some (digits_value 10 x) else number_behind sought (x ∷ ws)) h
 
-  value-bounded : (others : List OptionForm) (w : List ℕ) (ws : List (List ℕ)) (v : ℕ) → Fits (NumberFrom least greatest ∷ []) others ws
+  value-bounded : (others : List OptionForm) (w : List ℕ) (ws : List (List ℕ)) (v : ℕ) → FitsParts (NumberFrom least greatest ∷ []) others ws
       → (number_behind sought ws ≡ Some v → IsWithin v) → number_behind sought (w ∷ ws) ≡ Some v → IsWithin v
   value-bounded others w [] v f go e = cc
   value-bounded others w (x ∷ ws) v f go e = step (is_word w sought) e
@@ -63,13 +64,13 @@ module _ (sought : List ℕ) (no_number : is_number_word sought ≡ false) (no_n
           let n : digits_value 10 x ≡ v = cc in let k = part-number least greatest x (part-first f).0 in subst IsWithin n (k.least_is, k.greatest_is)
       step false q = go q
 
-  option-bounded : (o : OptionForm) (others : List OptionForm) (w : List ℕ) (ws : List (List ℕ)) (v : ℕ) → w ≡ o.word → Fits o.values others ws
+  option-bounded : (o : OptionForm) (others : List OptionForm) (w : List ℕ) (ws : List (List ℕ)) (v : ℕ) → w ≡ o.word → FitsParts o.values others ws
       → (o.values ≡ NumberFrom least greatest ∷ []) ⊎ (is_word o.word sought ≡ false)
       → (number_behind sought ws ≡ Some v → IsWithin v) → number_behind sought (w ∷ ws) ≡ Some v → IsWithin v
-  option-bounded o others w ws v is f (inl q) go e = value-bounded others w ws v (subst (λ ps. Fits ps others ws) q f) go e
+  option-bounded o others w ws v is f (inl q) go e = value-bounded others w ws v (subst (λ ps. FitsParts ps others ws) q f) go e
   option-bounded o others w ws v is f (inr n) go e = go (sym (skipped w ws (ap (λ u. is_word u sought) is ∙ n)) ∙ e)
 
-  bounded : (ps : List Part) (os : List OptionForm) (ws : List (List ℕ)) (v : ℕ) → ArePassed ps → AreSound os → Fits ps os ws
+  bounded : (ps : List Part) (os : List OptionForm) (ws : List (List ℕ)) (v : ℕ) → ArePassed ps → AreSound os → FitsParts ps os ws
       → number_behind sought ws ≡ Some v → IsWithin v
   bounded _ _ _ v p s (part {ps = ps} {os = os} {w = w} {ws = ws} h f) e =
       bounded ps os ws v p.1 s f (sym (skipped w ws (p.0 w h)) ∙ e)

@@ -13,7 +13,7 @@ use Rattle.ll_laws.specs.Line.{DerivationLines}
 use Rattle.ll_laws.specs.Search.{any_reached}
 use Rattle.ll_laws.specs.Output.{line, answer_text}
 use Rattle.ll_laws.specs.ProofText.{proof_text}
-use Rattle.ll_textbook.specs.Kept.{bounded_by, answers_by, short_answers}
+use Rattle.ll_top.specs.textbook.Kept.{bounded_by, answers_by, short_answers}
 use Rattle.ll_session.specs.Lines.{lines, is_query_line}
 use Rattle.ll_session.specs.Queries.{on_line}
 use Rattle.ll_top.specs.lines.Running.{event_lines}

@@ -23,3 +23,5 @@ pub mod Shown
 pub mod Accepted
 pub mod Agreeing
 pub mod Rewriting
+pub mod textbook
+pub mod spelled

@@ -3,7 +3,7 @@ use Rattle.std.specs.Prelude.{◌≡◌, ℕ, true, List, Option}
 use Rattle.ll_edge.specs.Texts.{Texts}
 use Rattle.ll_bank.specs.Term.{Term}
 use Rattle.ll_laws.specs.Problem.{ProblemTree}
-use Rattle.ll_textbook.specs.Follows.{IsFilling, Follows, reckons, IsNumberless}
+use Rattle.ll_top.specs.textbook.Follows.{IsFilling, Follows, reckons, IsNumberless}
 use Rattle.ll_top.specs.forms.Words.{RunWords}
 use Rattle.ll_top.specs.texts.Outcome.{RunAsks}
 

@@ -13,7 +13,7 @@ use Rattle.ll_laws.specs.Line.{DerivationLines, IsWhole}
 use Rattle.ll_laws.specs.Verdict.{DerivationShows}
 use Rattle.ll_laws.specs.Dealt.{asked_terms, dealt}
 use Rattle.ll_laws.specs.Instance.{IsInstance}
-use Rattle.ll_textbook.specs.Follows.{IsFilling, Follows, reckons, IsAnswered}
+use Rattle.ll_top.specs.textbook.Follows.{IsFilling, Follows, reckons, IsAnswered}
 use Rattle.ll_laws.specs.Output.{answer_text, summary_text}
 use Rattle.ll_laws.specs.ProofText.{proof_text}
 use Rattle.ll_top.specs.forms.Words.{RunWords}

@@ -8,7 +8,7 @@ use Rattle.ll_laws.specs.Problem.{ProblemTree, problem_events}
 use Rattle.ll_laws.specs.Output.{run_status}
 use Rattle.ll_laws.specs.Sound.{Every}
 use Rattle.ll_laws.specs.Valid.{IsValid}
-use Rattle.ll_textbook.specs.Follows.{IsFilling, Follows, reckons, IsAnswered, IsNumberless}
+use Rattle.ll_top.specs.textbook.Follows.{IsFilling, Follows, reckons, IsAnswered, IsNumberless}
 use Rattle.ll_parser.specs.Raw.{ProgramTree}
 use Rattle.ll_session.specs.Queries.{QueryLine, AreQueries}
 use Rattle.ll_top.specs.forms.Words.{SessionWords, DeepenWords}

@@ -2,11 +2,11 @@
 
 ghost use Rattle.ll_top.specs.Accepted.{PrintedIsAccepted, PrintedIsCovered};
 
+use crate::answers_are_spelled;
 use ll_laws::answers_are_shown;
 use ll_lexer::one_reading;
 use ll_parser::{one_program, one_query};
 use ll_prooftext::one_derivation_in_any;
-use ll_spelled::answers_are_spelled;
 
 /// A check says yes to each derivation that a run prints with `--proofs`, over the same program and query, where its text has at most
 /// 16,777,216 bytes.

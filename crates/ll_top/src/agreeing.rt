@@ -2,12 +2,12 @@
 
 ghost use Rattle.ll_top.specs.Agreeing.{FirstIsFront, DeepeningIsRun, SessionIsRuns, DerivationIsPrinted, GreaterBoundKeeps, WorkersChangeNothing};
 
+use crate::answers_are_kept;
 use ll_laws::steady_search;
 use ll_lexer::one_reading;
 use ll_parser::{one_program, one_query};
 use ll_polarity::faults_in_order;
 use ll_prooftext::one_derivation_in_any;
-use ll_textbook::answers_are_kept;
 
 /// A run with `--first K` writes the front of what the same run without it writes, with the first K answers, and then the line `stopped after K`,
 /// with the same status. Where there are fewer answers, or a text has a fault, the two come to the same.

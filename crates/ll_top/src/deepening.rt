@@ -3,7 +3,7 @@ ghost use Rattle.std.specs.Prelude.{◌≡◌, ◌≤◌, Option, Some, IfOk, If
 ghost use Rattle.std.specs.Arc.{arc_value};
 ghost use Rattle.ll_deepen.specs.Deciding.{events_within, cost_within, IsDeciding, IsSeries};
 ghost use Rattle.ll_edge.specs.Counts.{Rose};
-ghost use Rattle.ll_edge.specs.Log.{ShelfKept, Fits, Met, NoText, Unreadable};
+ghost use Rattle.ll_edge.specs.Log.{ShelfKept, ToldFits, Met, NoText, Unreadable};
 ghost use Rattle.ll_edge.specs.Texts.{Texts};
 ghost use Rattle.ll_index.specs.Index.{HasIndex};
 ghost use Rattle.ll_laws.specs.Valid.{IsValid};
@@ -19,18 +19,16 @@ ghost use Rattle.ll_top.specs.Shown.{DeepenShown};
 ghost use Rattle.ll_top.specs.forms.Words.{shown_deepen};
 
 use crate::forms::{DeepenCommand, RunCommand};
-use crate::found_status;
-use crate::indexes::problem_index;
 use crate::made_runs::count_events;
 use crate::refused::{Names, end_refused};
 use crate::run::{Found, Wanted, run_with};
-use crate::team::Team;
 use crate::texts::{Refusal, prepare, write_heading};
+use crate::{answers_are_what_follows, found_status};
+use ll_crew::{Team, index_of};
 use ll_deepen::{Series, is_decided};
 use ll_edge::{Gate, Shelf, Sink};
 use ll_index::Index;
 use ll_laws::{Counts, Problem, answers_are_shown};
-use ll_textbook::answers_are_what_follows;
 use std::sync::{Arc, Wait};
 use std::thread::Threads;
 
@@ -48,11 +46,11 @@ pub fn serve_deepen<R: Threads + Wait + Sync, F: Shelf, O: Sink, G: Gate>(
     ensures sink_faults_kept { O.faults sink.old ≤ O.faults sink.new }
     ensures faults_told { StatusTold F.faults F.absences O.faults shelf.old shelf.new sink.old sink.new result }
 
-    ensures ends { (told : Option Texts) → Fits told (F.log shelf.old) (F.log shelf.new)
-        → Ends (DeepenComesTo told (Met F.absences F.log shelf.old shelf.new NoText) (Met F.faults F.log shelf.old shelf.new Unreadable)
-        (shown_deepen deepen.now))
+    ensures ends { (told : Option Texts) → ToldFits told (F.log shelf.old) (F.log shelf.new)
+        → Ends (DeepenComesTo told (Met F.absences F.log shelf.old shelf.new NoText)
+        (Met F.faults F.log shelf.old shelf.new Unreadable) (shown_deepen deepen.now))
         (Rose (O.faults sink.old) (O.faults sink.new)) (Some (O.taken sink.old)) (Some (O.taken sink.new)) result }
-    ensures deepened { result ≤ 2 → (told : Option Texts) → Fits told (F.log shelf.old) (F.log shelf.new)
+    ensures deepened { result ≤ 2 → (told : Option Texts) → ToldFits told (F.log shelf.old) (F.log shelf.new)
         → DeepenShown told (shown_deepen deepen.now) (Some (O.taken sink.old)) (Some (O.taken sink.new)) result }
 {
     match deepen_texts(team, deepen, shelf, sink) {
@@ -81,14 +79,15 @@ fn deepen_texts<R: Threads + Wait + Sync, F: Shelf, O: Sink, G: Gate>(
     ensures shelf_told { ShelfTold F.faults F.absences shelf.old shelf.new result }
     ensures sink_told { SinkTold (O.faults sink.old) (O.faults sink.new) result }
 
-    ensures ends { (told : Option Texts) → Fits told (F.log shelf.old) (F.log shelf.new)
-        → EndsOwn (DeepenComesTo told (Met F.absences F.log shelf.old shelf.new NoText) (Met F.faults F.log shelf.old shelf.new Unreadable)
-        (shown_deepen deepen.now))
-        status_of_found (DeepenRefuses told (Met F.absences F.log shelf.old shelf.new NoText) (Met F.faults F.log shelf.old shelf.new Unreadable)
-        (shown_deepen deepen.now))
+    ensures ends { (told : Option Texts) → ToldFits told (F.log shelf.old) (F.log shelf.new)
+        → EndsOwn (DeepenComesTo told (Met F.absences F.log shelf.old shelf.new NoText)
+        (Met F.faults F.log shelf.old shelf.new Unreadable) (shown_deepen deepen.now)) status_of_found
+        (DeepenRefuses told (Met F.absences F.log shelf.old shelf.new NoText)
+        (Met F.faults F.log shelf.old shelf.new Unreadable) (shown_deepen deepen.now))
         (Rose (O.faults sink.old) (O.faults sink.new)) (Some (O.taken sink.old)) (Some (O.taken sink.new)) result }
-    ensures deepened { IfOk result (λ found. (told : Option Texts) → Fits told (F.log shelf.old) (F.log shelf.new)
-        → DeepenShown told (shown_deepen deepen.now) (Some (O.taken sink.old)) (Some (O.taken sink.new)) (status_of_found found)) }
+    ensures deepened { IfOk result (λ found. (told : Option Texts) → ToldFits told (F.log shelf.old) (F.log shelf.new)
+        → DeepenShown told (shown_deepen deepen.now) (Some (O.taken sink.old)) (Some (O.taken sink.new))
+        (status_of_found found)) }
 {
     answers_are_shown();
     answers_are_what_follows();
@@ -120,7 +119,7 @@ fn run_deepened<R: Threads + Wait + Sync, O: Sink, G: Gate>(
     ensures ends { EndsOwn (DeepensTo proofs «series».now problem.old) status_of_found NoneFails
         (Rose (O.faults sink.old) (O.faults sink.new)) (Some (O.taken sink.old)) (Some (O.taken sink.new)) result }
 {
-    let index = problem_index(team.alloc, problem)?;
+    let index = index_of(team.alloc, problem)?;
     let bound = decide(team, series, problem, &index)?;
     write_heading(sink, "bound ", bound)?;
     let wanted = Wanted {
@@ -133,7 +132,7 @@ fn run_deepened<R: Threads + Wait + Sync, O: Sink, G: Gate>(
 }
 
 // Gives a problem the bound that decides: the first of the series at which the search has an answer or reaches no bound, and the last one
-// where there is none. After a refusal, which is want of memory, it has some bound.
+// where there is none. After a refusal, which is out of memory, it has some bound.
 //
 // This is the loop of `ll_deepen::deepen` again, which tries the bounds by an `impl Trial`. A search starts threads, and no method of a
 // trait of our own can be proved to do that: its contract would rest on a bound that is assumed of this thread alone.
@@ -173,7 +172,8 @@ fn count_within<R: Threads + Wait + Sync, G: Gate>(
     requires bound { bound ≤ 1000000 }
     ensures problem { problem.new ≡ with_bound problem.old bound }
     ensures valid { IsValid problem.new }
-    ensures counts { IfOk result (λ counts. CountsOf counts (events_within problem.old bound) (cost_within problem.old bound)) }
+    ensures counts { IfOk result (λ counts. CountsOf counts (events_within problem.old bound)
+        (cost_within problem.old bound)) }
     ensures refused { IfErr result (λ refusal. refusal ≡ OutOfMemory) }
 {
     problem.bound = bound;

@@ -5,7 +5,6 @@ ghost use Rattle.ll_index.specs.Index.{HasIndex};
 
 use ll_bank::OutOfMemory;
 use ll_index::Index;
-use ll_laws::Problem;
 use ll_polarity::Loaded;
 use std::alloc::Global;
 use std::sync::Arc;
@@ -16,13 +15,5 @@ pub fn program_index(alloc: Global, loaded: &Loaded) -> Result<Arc<Index>, OutOf
 {
     let (bank, clauses) = loaded.clauses();
     let index = Index::over(alloc, bank, clauses)?;
-    Ok(Arc::new(alloc, index)?)
-}
-
-/// An index of a problem's clauses.
-pub fn problem_index(alloc: Global, problem: &Problem) -> Result<Arc<Index>, OutOfMemory>
-    ensures { IfOk result (λ index. HasIndex problem.now.clauses (arc_value index)) }
-{
-    let index = Index::build(alloc, problem)?;
     Ok(Arc::new(alloc, index)?)
 }

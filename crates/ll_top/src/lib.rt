@@ -15,12 +15,14 @@ mod refused;
 mod rewriting;
 mod run;
 mod session;
+mod spelled;
 mod team;
+mod textbook;
 mod texts;
 
 ghost use Rattle.std.specs.Prelude.{◌≡◌, ◌≤◌, ◌<◌, ◌↔◌, ◌⊎◌, ℕ, List, Option, None, Some, IfSome, IfOk};
 ghost use Rattle.ll_edge.specs.Counts.{Rose};
-ghost use Rattle.ll_edge.specs.Log.{ShelfKept, Agrees, Fits, Met, NoText, Unreadable};
+ghost use Rattle.ll_edge.specs.Log.{ShelfKept, Agrees, ToldFits, Met, NoText, Unreadable};
 ghost use Rattle.ll_edge.specs.Texts.{Texts};
 ghost use Rattle.ll_top.specs.forms.Words.{FitsForm, cover_form, IsInForm, IsInWorkersForm, RunWords, IsRun, SessionWords, IsSession, DeepenWords, IsDeepen};
 ghost use Rattle.ll_top.specs.forms.Words.{CheckWords, IsCheck, shown_words, word_texts};
@@ -46,13 +48,13 @@ pub use agreeing::{
 };
 use deepening::serve_deepen;
 pub use faultless::made_texts;
+use ll_crew::Team;
 use ll_edge::{FileShelf, Gate, OpenGate, Shelf, Sink, StdSink};
 use ll_laws::answers_are_shown;
 use ll_lexer::one_reading;
 use ll_parser::{one_program, one_query};
 use ll_prooftext::one_derivation_in_any;
 use ll_session::one_session;
-use ll_textbook::answers_are_what_follows;
 pub use made_runs::made_asks;
 use made_runs::serve_made_run;
 use making::serve_make;
@@ -63,11 +65,13 @@ pub use rewriting::{
 };
 use run::{Found, run};
 use session::serve_session;
+pub use spelled::answers_are_spelled;
 use std::alloc::Global;
 use std::rt::Files;
 use std::sync::Wait;
 use std::thread::Threads;
-use team::{Means, Team};
+use team::Means;
+pub use textbook::{answers_are_kept, answers_are_what_follows};
 
 /// Does what the words say, over the texts of the shelf, and writes to the sink. The answer is the program's exit status:
 ///
@@ -87,18 +91,18 @@ pub fn lolli<R: Threads + Wait + Sync, F: Shelf, O: Sink, G: Gate>(
     gate: &G,
 ) -> u8
     // What was taken, and why, over every shelf and sink, the real ones too: with any texts that the answers of this call fit.
-    ensures outcome { (told : Option Texts) → Fits told (F.log shelf.old) (F.log shelf.new)
+    ensures outcome { (told : Option Texts) → ToldFits told (F.log shelf.old) (F.log shelf.new)
         → Ends (ComesTo (word_texts words.now) told (Met F.absences F.log shelf.old shelf.new NoText)
-        (Met F.faults F.log shelf.old shelf.new Unreadable)) (Rose (O.faults sink.old) (O.faults sink.new)) (Some (O.taken sink.old)) (Some
-        (O.taken sink.new)) result }
-
-    // Where nothing failed, the one status and the whole text, or want of memory.
-    ensures complete { (told : Option Texts) → Fits told (F.log shelf.old) (F.log shelf.new)
-        → Completes (word_texts words.now) told (Rose (F.faults shelf.old) (F.faults shelf.new)) (Rose (O.faults sink.old) (O.faults sink.new))
+        (Met F.faults F.log shelf.old shelf.new Unreadable)) (Rose (O.faults sink.old) (O.faults sink.new))
         (Some (O.taken sink.old)) (Some (O.taken sink.new)) result }
 
+    // Where nothing failed, the one status and the whole text, or that memory ran out.
+    ensures complete { (told : Option Texts) → ToldFits told (F.log shelf.old) (F.log shelf.new)
+        → Completes (word_texts words.now) told (Rose (F.faults shelf.old) (F.faults shelf.new))
+        (Rose (O.faults sink.old) (O.faults sink.new)) (Some (O.taken sink.old)) (Some (O.taken sink.new)) result }
+
     // The headline: a run whose texts ask a problem writes the answers of one engine in its order, and its counts, whatever the number of workers.
-    ensures headline { (told : Option Texts) → Fits told (F.log shelf.old) (F.log shelf.new)
+    ensures headline { (told : Option Texts) → ToldFits told (F.log shelf.old) (F.log shelf.new)
         → Headline (word_texts words.now) told (Some (O.taken sink.old)) (Some (O.taken sink.new)) result }
 
     // Exactly, for a run that ends: the shelf handed out the program's text and then the query's, each whole, and nothing else, and the sink took
@@ -108,28 +112,31 @@ pub fn lolli<R: Threads + Wait + Sync, F: Shelf, O: Sink, G: Gate>(
 
     // Each answer of a run is right: its query follows from the program in the sequent calculus, and so does each instance of it. With `--proofs` the
     // text of a derivation stands behind it. What follows within the bound is an instance of an answer, whole-number goals aside.
-    ensures proved { (run : RunWords) → IsRun (word_texts words.now) run → result ≤ 2
-        → (told : Option Texts) → Fits told (F.log shelf.old) (F.log shelf.new) → WritesShown told run (Some (O.taken sink.old)) (Some (O.taken sink.new)) }
+    ensures proved { (run : RunWords) → IsRun (word_texts words.now) run → result ≤ 2 → (told : Option Texts)
+        → ToldFits told (F.log shelf.old) (F.log shelf.new)
+        → WritesShown told run (Some (O.taken sink.old)) (Some (O.taken sink.new)) }
 
     // Where a run ends with status 1, its query does not follow, whatever its terms and the number of nodes, but perhaps by whole-number goals.
     ensures nothing { (run : RunWords) → IsRun (word_texts words.now) run → result ≡ 1
-        → (told : Option Texts) → Fits told (F.log shelf.old) (F.log shelf.new) → AsksInVain told run }
+        → (told : Option Texts) → ToldFits told (F.log shelf.old) (F.log shelf.new) → AsksInVain told run }
 
     // The reply to each query of a session is right in the same way, and so is the run with the bound that decides.
     ensures replied { (session : SessionWords) → IsSession (word_texts words.now) session → result ≡ 0
-        → (told : Option Texts) → Fits told (F.log shelf.old) (F.log shelf.new) → SessionShown told session (Some (O.taken sink.old)) (Some
-        (O.taken sink.new)) }
+        → (told : Option Texts) → ToldFits told (F.log shelf.old) (F.log shelf.new)
+        → SessionShown told session (Some (O.taken sink.old)) (Some (O.taken sink.new)) }
     ensures deepened { (deepen : DeepenWords) → IsDeepen (word_texts words.now) deepen → result ≤ 2
-        → (told : Option Texts) → Fits told (F.log shelf.old) (F.log shelf.new) → DeepenShown told deepen (Some (O.taken sink.old)) (Some
-        (O.taken sink.new)) result }
+        → (told : Option Texts) → ToldFits told (F.log shelf.old) (F.log shelf.new)
+        → DeepenShown told deepen (Some (O.taken sink.old)) (Some (O.taken sink.new)) result }
 
     // Where a derivation shows the query, so that a check or a cover ends with 0, the query follows with its terms, by as many nodes.
     ensures shown { (check : CheckWords) → IsCheck (word_texts words.now) check → result ≡ 0
-        → (told : Option Texts) → Fits told (F.log shelf.old) (F.log shelf.new) → IsProved told check }
-    ensures denied { result ≡ 9 → (told : Option Texts) → Fits told (F.log shelf.old) (F.log shelf.new) → IsDenied (word_texts words.now) told }
-    ensures covered { FitsForm cover_form (word_texts words.now) → result ≡ 0
-        → (told : Option Texts) → Fits told (F.log shelf.old) (F.log shelf.new) → IsCoveredCall (word_texts words.now) told }
-    ensures uncovered { result ≡ 11 → (told : Option Texts) → Fits told (F.log shelf.old) (F.log shelf.new) → IsUncoveredCall (word_texts words.now) told }
+        → (told : Option Texts) → ToldFits told (F.log shelf.old) (F.log shelf.new) → IsProved told check }
+    ensures denied { result ≡ 9 → (told : Option Texts) → ToldFits told (F.log shelf.old) (F.log shelf.new)
+        → IsDenied (word_texts words.now) told }
+    ensures covered { FitsForm cover_form (word_texts words.now) → result ≡ 0 → (told : Option Texts)
+        → ToldFits told (F.log shelf.old) (F.log shelf.new) → IsCoveredCall (word_texts words.now) told }
+    ensures uncovered { result ≡ 11 → (told : Option Texts) → ToldFits told (F.log shelf.old) (F.log shelf.new)
+        → IsUncoveredCall (word_texts words.now) told }
 
     // The causes of the other statuses.
     ensures usage { result ≡ 3 → IsInForm (word_texts words.now) → ⊥ }
@@ -145,16 +152,21 @@ pub fn lolli<R: Threads + Wait + Sync, F: Shelf, O: Sink, G: Gate>(
     ensures faults_told { StatusTold F.faults F.absences O.faults shelf.old shelf.new sink.old sink.new result }
 
     // Where the shelf tells its texts, they are texts that fit; and the sink may tell what was written.
-    ensures told_outcome { Ends (ComesTo (word_texts words.now) (F.texts shelf.old) (Met F.absences F.log shelf.old shelf.new NoText)
-        (Met F.faults F.log shelf.old shelf.new Unreadable)) (Rose (O.faults sink.old) (O.faults sink.new)) (O.written sink.old) (O.written sink.new) result }
-    ensures told_complete { Completes (word_texts words.now) (F.texts shelf.old) (Rose (F.faults shelf.old) (F.faults shelf.new))
+    ensures told_outcome { Ends (ComesTo (word_texts words.now) (F.texts shelf.old)
+        (Met F.absences F.log shelf.old shelf.new NoText) (Met F.faults F.log shelf.old shelf.new Unreadable))
         (Rose (O.faults sink.old) (O.faults sink.new)) (O.written sink.old) (O.written sink.new) result }
-    ensures told_headline { Headline (word_texts words.now) (F.texts shelf.old) (O.written sink.old) (O.written sink.new) result }
+    ensures told_complete { Completes (word_texts words.now) (F.texts shelf.old)
+        (Rose (F.faults shelf.old) (F.faults shelf.new)) (Rose (O.faults sink.old) (O.faults sink.new))
+        (O.written sink.old) (O.written sink.new) result }
+    ensures told_headline { Headline (word_texts words.now) (F.texts shelf.old) (O.written sink.old)
+        (O.written sink.new) result }
     ensures told_proved { (run : RunWords) → IsRun (word_texts words.now) run → result ≤ 2
         → WritesShown (F.texts shelf.old) run (O.written sink.old) (O.written sink.new) }
-    ensures told_nothing { (run : RunWords) → IsRun (word_texts words.now) run → result ≡ 1 → AsksInVain (F.texts shelf.old) run }
+    ensures told_nothing { (run : RunWords) → IsRun (word_texts words.now) run → result ≡ 1
+        → AsksInVain (F.texts shelf.old) run }
     ensures told_denied { result ≡ 9 → IsDenied (word_texts words.now) (F.texts shelf.old) }
-    ensures told_covered { FitsForm cover_form (word_texts words.now) → result ≡ 0 → IsCoveredCall (word_texts words.now) (F.texts shelf.old) }
+    ensures told_covered { FitsForm cover_form (word_texts words.now) → result ≡ 0
+        → IsCoveredCall (word_texts words.now) (F.texts shelf.old) }
     ensures told_uncovered { result ≡ 11 → IsUncoveredCall (word_texts words.now) (F.texts shelf.old) }
 {
     one_text();
@@ -176,18 +188,19 @@ pub fn lolli_real<R: Threads + Wait + Sync + Files + Print>(
         → Headline (word_texts words.now) (Some texts) (Some sink.old.taken) (Some sink.new.taken) result }
     ensures run_reads { (run : RunWords) → IsRun (word_texts words.now) run → result ≤ 2
         → RunReads run shelf.old.log shelf.new.log sink.old.taken sink.new.taken result }
-    ensures proved { (run : RunWords) → IsRun (word_texts words.now) run → result ≤ 2
-        → (texts : Texts) → Agrees texts shelf.old.log shelf.new.log → WritesShown (Some texts) run (Some sink.old.taken) (Some sink.new.taken) }
+    ensures proved { (run : RunWords) → IsRun (word_texts words.now) run → result ≤ 2 → (texts : Texts)
+        → Agrees texts shelf.old.log shelf.new.log
+        → WritesShown (Some texts) run (Some sink.old.taken) (Some sink.new.taken) }
     ensures nothing { (run : RunWords) → IsRun (word_texts words.now) run → result ≡ 1
         → (texts : Texts) → Agrees texts shelf.old.log shelf.new.log → AsksInVain (Some texts) run }
-    ensures faults_told { StatusTold (λ shelf. shelf.counts.faults) (λ shelf. shelf.counts.absences) (λ sink. sink.faults) shelf.old shelf.new sink.old
-        sink.new result }
+    ensures faults_told { StatusTold (λ shelf. shelf.counts.faults) (λ shelf. shelf.counts.absences)
+        (λ sink. sink.faults) shelf.old shelf.new sink.old sink.new result }
 {
     lolli(rt, alloc, words, shelf, sink, &OpenGate)
 }
 
 /// Does what `lolli` does for all words but those of a form with `--workers`, and answers the status. For these it answers
-/// `None`, and has called neither shelf nor sink.
+/// `None`, and has called neither shelf nor sink. The program does not call it: it is for callers that have no threads.
 pub fn lolli_plain<F: Shelf, O: Sink>(
     alloc: Global,
     words: &[&str],
@@ -197,20 +210,22 @@ pub fn lolli_plain<F: Shelf, O: Sink>(
     ensures workers { (result ≡ None) ↔ IsInWorkersForm (word_texts words.now) }
     ensures untouched { result ≡ None → (shelf.new ≡ shelf.old) × (sink.new ≡ sink.old) }
 
-    ensures outcome { IfSome result (λ status. (told : Option Texts) → Fits told (F.log shelf.old) (F.log shelf.new)
+    ensures outcome { IfSome result (λ status. (told : Option Texts) → ToldFits told (F.log shelf.old) (F.log shelf.new)
         → Ends (ComesTo (word_texts words.now) told (Met F.absences F.log shelf.old shelf.new NoText)
-        (Met F.faults F.log shelf.old shelf.new Unreadable)) (Rose (O.faults sink.old) (O.faults sink.new)) (Some (O.taken sink.old)) (Some
-        (O.taken sink.new)) status) }
-    ensures complete { IfSome result (λ status. (told : Option Texts) → Fits told (F.log shelf.old) (F.log shelf.new)
-        → Completes (word_texts words.now) told (Rose (F.faults shelf.old) (F.faults shelf.new)) (Rose (O.faults sink.old) (O.faults sink.new))
+        (Met F.faults F.log shelf.old shelf.new Unreadable)) (Rose (O.faults sink.old) (O.faults sink.new))
         (Some (O.taken sink.old)) (Some (O.taken sink.new)) status) }
+    ensures complete { IfSome result (λ status. (told : Option Texts) → ToldFits told (F.log shelf.old) (F.log shelf.new)
+        → Completes (word_texts words.now) told (Rose (F.faults shelf.old) (F.faults shelf.new))
+        (Rose (O.faults sink.old) (O.faults sink.new)) (Some (O.taken sink.old)) (Some (O.taken sink.new)) status) }
 
     ensures shown { (check : CheckWords) → IsCheck (word_texts words.now) check → result ≡ Some 0
-        → (told : Option Texts) → Fits told (F.log shelf.old) (F.log shelf.new) → IsProved told check }
-    ensures denied { result ≡ Some 9 → (told : Option Texts) → Fits told (F.log shelf.old) (F.log shelf.new) → IsDenied (word_texts words.now) told }
-    ensures covered { FitsForm cover_form (word_texts words.now) → result ≡ Some 0
-        → (told : Option Texts) → Fits told (F.log shelf.old) (F.log shelf.new) → IsCoveredCall (word_texts words.now) told }
-    ensures uncovered { result ≡ Some 11 → (told : Option Texts) → Fits told (F.log shelf.old) (F.log shelf.new) → IsUncoveredCall (word_texts words.now) told }
+        → (told : Option Texts) → ToldFits told (F.log shelf.old) (F.log shelf.new) → IsProved told check }
+    ensures denied { result ≡ Some 9 → (told : Option Texts) → ToldFits told (F.log shelf.old) (F.log shelf.new)
+        → IsDenied (word_texts words.now) told }
+    ensures covered { FitsForm cover_form (word_texts words.now) → result ≡ Some 0 → (told : Option Texts)
+        → ToldFits told (F.log shelf.old) (F.log shelf.new) → IsCoveredCall (word_texts words.now) told }
+    ensures uncovered { result ≡ Some 11 → (told : Option Texts) → ToldFits told (F.log shelf.old) (F.log shelf.new)
+        → IsUncoveredCall (word_texts words.now) told }
 
     ensures usage { result ≡ Some 3 → IsInForm (word_texts words.now) → ⊥ }
     ensures misused { (IsInForm (word_texts words.now) → ⊥) → (result ≡ Some 3) ⊎ (result ≡ Some 6) }
@@ -220,14 +235,19 @@ pub fn lolli_plain<F: Shelf, O: Sink>(
 
     ensures kept { ShelfKept F.texts F.faults F.absences F.log shelf.old shelf.new }
     ensures sink_faults_kept { O.faults sink.old ≤ O.faults sink.new }
-    ensures faults_told { IfSome result (StatusTold F.faults F.absences O.faults shelf.old shelf.new sink.old sink.new) }
+    ensures faults_told { IfSome result
+        (StatusTold F.faults F.absences O.faults shelf.old shelf.new sink.old sink.new) }
 
-    ensures told_outcome { IfSome result (Ends (ComesTo (word_texts words.now) (F.texts shelf.old) (Met F.absences F.log shelf.old shelf.new NoText)
-        (Met F.faults F.log shelf.old shelf.new Unreadable)) (Rose (O.faults sink.old) (O.faults sink.new)) (O.written sink.old) (O.written sink.new)) }
-    ensures told_complete { IfSome result (Completes (word_texts words.now) (F.texts shelf.old) (Rose (F.faults shelf.old) (F.faults shelf.new))
+    ensures told_outcome { IfSome result
+        (Ends (ComesTo (word_texts words.now) (F.texts shelf.old) (Met F.absences F.log shelf.old shelf.new NoText)
+        (Met F.faults F.log shelf.old shelf.new Unreadable)) (Rose (O.faults sink.old) (O.faults sink.new))
+        (O.written sink.old) (O.written sink.new)) }
+    ensures told_complete { IfSome result
+        (Completes (word_texts words.now) (F.texts shelf.old) (Rose (F.faults shelf.old) (F.faults shelf.new))
         (Rose (O.faults sink.old) (O.faults sink.new)) (O.written sink.old) (O.written sink.new)) }
     ensures told_denied { result ≡ Some 9 → IsDenied (word_texts words.now) (F.texts shelf.old) }
-    ensures told_covered { FitsForm cover_form (word_texts words.now) → result ≡ Some 0 → IsCoveredCall (word_texts words.now) (F.texts shelf.old) }
+    ensures told_covered { FitsForm cover_form (word_texts words.now) → result ≡ Some 0
+        → IsCoveredCall (word_texts words.now) (F.texts shelf.old) }
     ensures told_uncovered { result ≡ Some 11 → IsUncoveredCall (word_texts words.now) (F.texts shelf.old) }
 {
     one_text();
@@ -259,22 +279,23 @@ fn serve<R: Threads + Wait + Sync, F: Shelf, O: Sink, G: Gate>(
     ensures sink_faults_kept { O.faults sink.old ≤ O.faults sink.new }
     ensures faults_told { StatusTold F.faults F.absences O.faults shelf.old shelf.new sink.old sink.new result }
 
-    ensures outcome { (told : Option Texts) → Fits told (F.log shelf.old) (F.log shelf.new)
+    ensures outcome { (told : Option Texts) → ToldFits told (F.log shelf.old) (F.log shelf.new)
         → Ends (ComesTo (word_texts words.now) told (Met F.absences F.log shelf.old shelf.new NoText)
-        (Met F.faults F.log shelf.old shelf.new Unreadable)) (Rose (O.faults sink.old) (O.faults sink.new)) (Some (O.taken sink.old)) (Some
-        (O.taken sink.new)) result }
+        (Met F.faults F.log shelf.old shelf.new Unreadable)) (Rose (O.faults sink.old) (O.faults sink.new))
+        (Some (O.taken sink.old)) (Some (O.taken sink.new)) result }
     ensures run_reads { (run : RunWords) → IsRun (word_texts words.now) run → result ≤ 2
         → RunReads run (F.log shelf.old) (F.log shelf.new) (O.taken sink.old) (O.taken sink.new) result }
-    ensures proved { (run : RunWords) → IsRun (word_texts words.now) run → result ≤ 2
-        → (told : Option Texts) → Fits told (F.log shelf.old) (F.log shelf.new) → WritesShown told run (Some (O.taken sink.old)) (Some (O.taken sink.new)) }
+    ensures proved { (run : RunWords) → IsRun (word_texts words.now) run → result ≤ 2 → (told : Option Texts)
+        → ToldFits told (F.log shelf.old) (F.log shelf.new)
+        → WritesShown told run (Some (O.taken sink.old)) (Some (O.taken sink.new)) }
     ensures nothing { (run : RunWords) → IsRun (word_texts words.now) run → result ≡ 1
-        → (told : Option Texts) → Fits told (F.log shelf.old) (F.log shelf.new) → AsksInVain told run }
+        → (told : Option Texts) → ToldFits told (F.log shelf.old) (F.log shelf.new) → AsksInVain told run }
     ensures replied { (session : SessionWords) → IsSession (word_texts words.now) session → result ≡ 0
-        → (told : Option Texts) → Fits told (F.log shelf.old) (F.log shelf.new) → SessionShown told session (Some (O.taken sink.old)) (Some
-        (O.taken sink.new)) }
+        → (told : Option Texts) → ToldFits told (F.log shelf.old) (F.log shelf.new)
+        → SessionShown told session (Some (O.taken sink.old)) (Some (O.taken sink.new)) }
     ensures deepened { (deepen : DeepenWords) → IsDeepen (word_texts words.now) deepen → result ≤ 2
-        → (told : Option Texts) → Fits told (F.log shelf.old) (F.log shelf.new) → DeepenShown told deepen (Some (O.taken sink.old)) (Some
-        (O.taken sink.new)) result }
+        → (told : Option Texts) → ToldFits told (F.log shelf.old) (F.log shelf.new)
+        → DeepenShown told deepen (Some (O.taken sink.old)) (Some (O.taken sink.new)) result }
     ensures misused { (IsInForm (word_texts words.now) → ⊥) → (result ≡ 3) ⊎ (result ≡ 6) }
 {
     match read_command(words) {
@@ -308,12 +329,13 @@ fn serve_plain<F: Shelf, O: Sink>(
 
     ensures kept { ShelfKept F.texts F.faults F.absences F.log shelf.old shelf.new }
     ensures sink_faults_kept { O.faults sink.old ≤ O.faults sink.new }
-    ensures faults_told { IfSome result (StatusTold F.faults F.absences O.faults shelf.old shelf.new sink.old sink.new) }
+    ensures faults_told { IfSome result
+        (StatusTold F.faults F.absences O.faults shelf.old shelf.new sink.old sink.new) }
 
-    ensures outcome { IfSome result (λ status. (told : Option Texts) → Fits told (F.log shelf.old) (F.log shelf.new)
+    ensures outcome { IfSome result (λ status. (told : Option Texts) → ToldFits told (F.log shelf.old) (F.log shelf.new)
         → Ends (ComesTo (word_texts words.now) told (Met F.absences F.log shelf.old shelf.new NoText)
-        (Met F.faults F.log shelf.old shelf.new Unreadable)) (Rose (O.faults sink.old) (O.faults sink.new)) (Some (O.taken sink.old)) (Some
-        (O.taken sink.new)) status) }
+        (Met F.faults F.log shelf.old shelf.new Unreadable)) (Rose (O.faults sink.old) (O.faults sink.new))
+        (Some (O.taken sink.old)) (Some (O.taken sink.new)) status) }
     ensures misused { (IsInForm (word_texts words.now) → ⊥) → (result ≡ Some 3) ⊎ (result ≡ Some 6) }
 {
     match read_command(words) {
@@ -343,14 +365,17 @@ fn serve_run<R: Threads + Wait + Sync, F: Shelf, O: Sink, G: Gate>(
     ensures sink_faults_kept { O.faults sink.old ≤ O.faults sink.new }
     ensures faults_told { StatusTold F.faults F.absences O.faults shelf.old shelf.new sink.old sink.new result }
 
-    ensures ends { (told : Option Texts) → Fits told (F.log shelf.old) (F.log shelf.new)
-        → Ends (RunComesTo told (Met F.absences F.log shelf.old shelf.new NoText) (Met F.faults F.log shelf.old shelf.new Unreadable) (shown_words run.now))
+    ensures ends { (told : Option Texts) → ToldFits told (F.log shelf.old) (F.log shelf.new)
+        → Ends (RunComesTo told (Met F.absences F.log shelf.old shelf.new NoText)
+        (Met F.faults F.log shelf.old shelf.new Unreadable) (shown_words run.now))
         (Rose (O.faults sink.old) (O.faults sink.new)) (Some (O.taken sink.old)) (Some (O.taken sink.new)) result }
     ensures run_reads { result ≤ 2
-        → RunReads (shown_words run.now) (F.log shelf.old) (F.log shelf.new) (O.taken sink.old) (O.taken sink.new) result }
-    ensures proved { result ≤ 2 → (told : Option Texts) → Fits told (F.log shelf.old) (F.log shelf.new)
+        → RunReads (shown_words run.now) (F.log shelf.old) (F.log shelf.new) (O.taken sink.old)
+        (O.taken sink.new) result }
+    ensures proved { result ≤ 2 → (told : Option Texts) → ToldFits told (F.log shelf.old) (F.log shelf.new)
         → WritesShown told (shown_words run.now) (Some (O.taken sink.old)) (Some (O.taken sink.new)) }
-    ensures nothing { result ≡ 1 → (told : Option Texts) → Fits told (F.log shelf.old) (F.log shelf.new) → AsksInVain told (shown_words run.now) }
+    ensures nothing { result ≡ 1 → (told : Option Texts) → ToldFits told (F.log shelf.old) (F.log shelf.new)
+        → AsksInVain told (shown_words run.now) }
 {
     answers_are_shown();
     answers_are_what_follows();
@@ -381,9 +406,10 @@ fn run_texts<R: Threads + Wait + Sync, F: Shelf, O: Sink, G: Gate>(
     ensures shelf_told { ShelfTold F.faults F.absences shelf.old shelf.new result }
     ensures sink_told { SinkTold (O.faults sink.old) (O.faults sink.new) result }
 
-    ensures ends { (told : Option Texts) → Fits told (F.log shelf.old) (F.log shelf.new)
-        → RunEnds told (Met F.absences F.log shelf.old shelf.new NoText) (Met F.faults F.log shelf.old shelf.new Unreadable)
-        (Rose (O.faults sink.old) (O.faults sink.new)) (shown_words command.now) (Some (O.taken sink.old)) (Some (O.taken sink.new)) result }
+    ensures ends { (told : Option Texts) → ToldFits told (F.log shelf.old) (F.log shelf.new)
+        → RunEnds told (Met F.absences F.log shelf.old shelf.new NoText)
+        (Met F.faults F.log shelf.old shelf.new Unreadable) (Rose (O.faults sink.old) (O.faults sink.new))
+        (shown_words command.now) (Some (O.taken sink.old)) (Some (O.taken sink.new)) result }
     ensures run_reads { IfOk result (λ found. RunReads (shown_words command.now) (F.log shelf.old) (F.log shelf.new)
         (O.taken sink.old) (O.taken sink.new) (status_of_found found)) }
 {

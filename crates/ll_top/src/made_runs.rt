@@ -10,7 +10,7 @@ ghost use Rattle.ll_laws.specs.Problem.{ProblemTree, problem_events, problem_cos
 ghost use Rattle.ll_laws.specs.Valid.{IsValid};
 ghost use Rattle.ll_lexer.specs.declared.Fault.{Fault};
 ghost use Rattle.ll_make.specs.declared.kind.MakeKind.{MakeKind};
-ghost use Rattle.ll_make.specs.Kinds.{Fits, query_text};
+ghost use Rattle.ll_make.specs.Kinds.{InRange, query_text};
 ghost use Rattle.ll_make.specs.Programs.{program_text};
 ghost use Rattle.ll_order.specs.Outlets.{CountsOf};
 ghost use Rattle.ll_top.specs.declared.texts.judge.Role.{Role};
@@ -27,13 +27,11 @@ ghost use Rattle.ll_top.specs.Running.{IsRunRefusal};
 use crate::faultless::made_texts;
 use crate::forms::MadeRunCommand;
 use crate::found_status;
-use crate::indexes::problem_index;
 use crate::lines::Silent;
 use crate::refused::{Names, end_refused};
 use crate::run::{Found, write_summary};
-use crate::team::Team;
 use crate::texts::{Refusal, problem_of};
-use ll_crew::crew_with;
+use ll_crew::{Team, crew_with, index_of};
 use ll_edge::{Gate, Sink};
 use ll_index::Index;
 use ll_laws::{Counts, Problem};
@@ -51,7 +49,7 @@ pub fn serve_made_run<R: Threads + Wait + Sync, O: Sink, G: Gate>(
     run: MadeRunCommand,
     sink: &mut O,
 ) -> u8
-    requires fits { Fits run.make.kind run.make.number }
+    requires fits { InRange run.make.kind run.make.number }
     requires bound { run.bound ≤ 1000000 }
     ensures faults_kept { O.faults sink.old ≤ O.faults sink.new }
     ensures write_told { O.faults sink.old < O.faults sink.new → result ≡ 6 }
@@ -73,8 +71,10 @@ pub fn serve_made_run<R: Threads + Wait + Sync, O: Sink, G: Gate>(
 
 /// A program that is made and the query of its kind ask a problem, and neither has a fault.
 pub fn made_asks()
-    ensures asks { (kind : MakeKind) (n bound : ℕ) → Fits kind n → (p : ProblemTree) × TextsAsk (program_text kind n) (query_text kind) bound p }
-    ensures no_fault { (kind : MakeKind) (n : ℕ) (role : Role) (f : Fault) → Fits kind n → IsTextFault (program_text kind n) (query_text kind) role f → ⊥ }
+    ensures asks { (kind : MakeKind) (n bound : ℕ) → InRange kind n → (p : ProblemTree)
+        × TextsAsk (program_text kind n) (query_text kind) bound p }
+    ensures no_fault { (kind : MakeKind) (n : ℕ) (role : Role) (f : Fault) → InRange kind n
+        → IsTextFault (program_text kind n) (query_text kind) role f → ⊥ }
 {
     made_texts();
     one_reading();
@@ -89,11 +89,12 @@ fn run_made<R: Threads + Wait + Sync, O: Sink, G: Gate>(
     run: MadeRunCommand,
     sink: &mut O,
 ) -> Result<Found, Refusal>
-    requires fits { Fits run.make.kind run.make.number }
+    requires fits { InRange run.make.kind run.make.number }
     requires bound { run.bound ≤ 1000000 }
     ensures faults_kept { O.faults sink.old ≤ O.faults sink.new }
     ensures sink_told { SinkTold (O.faults sink.old) (O.faults sink.new) result }
-    ensures ends { MadeRunEnds (Rose (O.faults sink.old) (O.faults sink.new)) (shown_made_run run) (Some (O.taken sink.old)) (Some (O.taken sink.new)) result }
+    ensures ends { MadeRunEnds (Rose (O.faults sink.old) (O.faults sink.new)) (shown_made_run run)
+        (Some (O.taken sink.old)) (Some (O.taken sink.new)) result }
 {
     made_asks();
     let text = program(team.alloc, run.make.kind, run.make.number)?;
@@ -112,11 +113,13 @@ fn write_counts<R: Threads + Wait + Sync, O: Sink, G: Gate>(
     ensures faults_kept { O.faults sink.old ≤ O.faults sink.new }
     ensures sink_told { SinkTold (O.faults sink.old) (O.faults sink.new) result }
     ensures found { IfOk result (λ found. status_of_found found ≡ run_status problem.now) }
-    ensures line { OnOk result (Some (O.taken sink.new) ≡ append_known (Some (O.taken sink.old)) (last_line problem.now)) }
+    ensures line { OnOk result (Some (O.taken sink.new)
+        ≡ append_known (Some (O.taken sink.old)) (last_line problem.now)) }
     ensures refused { IfErr result (IsRunRefusal (O.faults sink.old) (O.faults sink.new)) }
-    ensures prefix { OnErr result (AppendsFront (Some (O.taken sink.old)) (last_line problem.now) (Some (O.taken sink.new))) }
+    ensures prefix { OnErr result (AppendsFront (Some (O.taken sink.old)) (last_line problem.now)
+        (Some (O.taken sink.new))) }
 {
-    let index = problem_index(team.alloc, problem)?;
+    let index = index_of(team.alloc, problem)?;
     let counts = count_events(team, problem, &index)?;
     let mut line = Vec::new(team.alloc);
     write_summary(&counts, &mut line, sink)
@@ -134,15 +137,7 @@ pub fn count_events<R: Threads + Wait + Sync, G: Gate>(
     ensures refused { IfErr result (λ refusal. refusal ≡ OutOfMemory) }
 {
     let mut out = Silent {};
-    match crew_with(
-        team.rt,
-        team.alloc,
-        problem,
-        index,
-        team.workers,
-        team.gate,
-        &mut out,
-    ) {
+    match crew_with(team, problem, index, &mut out) {
         Ok(counts) => Ok(counts),
         // No write of a silent outlet fails.
         Err(_) => Err(Refusal::OutOfMemory),

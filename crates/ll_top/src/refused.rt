@@ -31,8 +31,9 @@ impl<'a> Names<'a> {
 pub fn end_refused<O: Sink>(refusal: Refusal, names: &Names<'_>, sink: &mut O) -> u8
     ensures faults_kept { O.faults sink.old ≤ O.faults sink.new }
     ensures write_told { O.faults sink.old < O.faults sink.new → result ≡ 6 }
-    ensures ends { EndsRefused (named names.now.program.now names.now.query.now) (Rose (O.faults sink.old) (O.faults sink.new))
-        (sink.new ≡ sink.old) (Some (O.taken sink.old)) (Some (O.taken sink.new)) result refusal }
+    ensures ends { EndsRefused (named names.now.program.now names.now.query.now)
+        (Rose (O.faults sink.old) (O.faults sink.new)) (sink.new ≡ sink.old) (Some (O.taken sink.old))
+        (Some (O.taken sink.new)) result refusal }
 {
     match refusal {
         Refusal::Text(role, refusal) => refuse(refusal.cause(names.name(role)), sink),

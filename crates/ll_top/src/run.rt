@@ -16,12 +16,10 @@ ghost use Rattle.ll_top.specs.Endings.{status_of_found};
 ghost use Rattle.ll_top.specs.Outcome.{text_of_run, status_of_run, stopped_text};
 ghost use Rattle.ll_top.specs.Proved.{events_told};
 
-use crate::indexes::problem_index;
 use crate::lines::{Asked, Line, Lined, Writing};
-use crate::team::Team;
 use crate::texts::{Refusal, write_parts};
 use itoa::Buffer;
-use ll_crew::{crew_first_with, crew_with};
+use ll_crew::{Team, crew_first_with, crew_with, index_of};
 use ll_edge::{Gate, Sink, WriteFailed, write_all};
 use ll_first::First;
 use ll_index::Index;
@@ -77,11 +75,13 @@ pub fn run<R: Threads + Wait + Sync, O: Sink, G: Gate>(
     ensures faults_kept { O.faults sink.old ≤ O.faults sink.new }
     ensures sink_told { SinkTold (O.faults sink.old) (O.faults sink.new) result }
     ensures found { IfOk result (λ found. status_of_found found ≡ status_of_run limit problem.now) }
-    ensures text { OnOk result (Some (O.taken sink.new) ≡ append_known (Some (O.taken sink.old)) (text_of_run limit proofs problem.now)) }
+    ensures text { OnOk result (Some (O.taken sink.new)
+        ≡ append_known (Some (O.taken sink.old)) (text_of_run limit proofs problem.now)) }
     ensures refused { IfErr result (IsRunRefusal (O.faults sink.old) (O.faults sink.new)) }
-    ensures prefix { OnErr result (AppendsFront (Some (O.taken sink.old)) (text_of_run limit proofs problem.now) (Some (O.taken sink.new))) }
+    ensures prefix { OnErr result (AppendsFront (Some (O.taken sink.old)) (text_of_run limit proofs problem.now)
+        (Some (O.taken sink.new))) }
 {
-    let index = problem_index(team.alloc, problem)?;
+    let index = index_of(team.alloc, problem)?;
     let wanted = Wanted {
         problem,
         index: &index,
@@ -104,12 +104,15 @@ pub fn run_with<R: Threads + Wait + Sync, O: Sink, G: Gate>(
 
     ensures faults_kept { O.faults sink.old ≤ O.faults sink.new }
     ensures sink_told { SinkTold (O.faults sink.old) (O.faults sink.new) result }
-    ensures found { IfOk result (λ found. status_of_found found ≡ status_of_run wanted.now.limit wanted.now.problem.now) }
+    ensures found { IfOk result (λ found. status_of_found found
+        ≡ status_of_run wanted.now.limit wanted.now.problem.now) }
     ensures text { OnOk result (Some (O.taken sink.new)
-        ≡ append_known (Some (O.taken sink.old)) (text_of_run wanted.now.limit wanted.now.proofs wanted.now.problem.now)) }
+        ≡ append_known (Some (O.taken sink.old))
+        (text_of_run wanted.now.limit wanted.now.proofs wanted.now.problem.now)) }
     ensures refused { IfErr result (IsRunRefusal (O.faults sink.old) (O.faults sink.new)) }
-    ensures prefix { OnErr result (AppendsFront (Some (O.taken sink.old)) (text_of_run wanted.now.limit wanted.now.proofs wanted.now.problem.now)
-        (Some (O.taken sink.new))) }
+    ensures prefix { OnErr result
+        (AppendsFront (Some (O.taken sink.old))
+        (text_of_run wanted.now.limit wanted.now.proofs wanted.now.problem.now) (Some (O.taken sink.new))) }
 {
     let mut lines = Vec::new(team.alloc);
     let mut waiting = Vec::new(team.alloc);
@@ -123,9 +126,11 @@ fn write_end<O: Sink>(ended: &Ended, lines: &mut Vec<u8>, sink: &mut O) -> Resul
     ensures faults_kept { O.faults sink.old ≤ O.faults sink.new }
     ensures sink_told { SinkTold (O.faults sink.old) (O.faults sink.new) result }
     ensures found { IfOk result (λ found. status_of_found found ≡ ended_status ended.now) }
-    ensures text { OnOk result (Some (O.taken sink.new) ≡ append_known (Some (O.taken sink.old)) (ended_text ended.now)) }
+    ensures text { OnOk result (Some (O.taken sink.new)
+        ≡ append_known (Some (O.taken sink.old)) (ended_text ended.now)) }
     ensures refused { IfErr result (IsRunRefusal (O.faults sink.old) (O.faults sink.new)) }
-    ensures prefix { OnErr result (AppendsFront (Some (O.taken sink.old)) (ended_text ended.now) (Some (O.taken sink.new))) }
+    ensures prefix { OnErr result (AppendsFront (Some (O.taken sink.old)) (ended_text ended.now)
+        (Some (O.taken sink.new))) }
 {
     match ended {
         Ended::Whole(counts) => write_summary(counts, lines, sink),
@@ -145,12 +150,14 @@ pub fn write_summary<O: Sink>(
 ) -> Result<Found, Refusal>
     ensures faults_kept { O.faults sink.old ≤ O.faults sink.new }
     ensures sink_told { SinkTold (O.faults sink.old) (O.faults sink.new) result }
-    ensures found { IfOk result (λ found. status_of_found found ≡ status_of_counts counts.now.answers counts.now.reached) }
+    ensures found { IfOk result (λ found. status_of_found found
+        ≡ status_of_counts counts.now.answers counts.now.reached) }
     ensures text { OnOk result (Some (O.taken sink.new) ≡ append_known (Some (O.taken sink.old))
         (counts_text counts.now.answers counts.now.reached counts.now.inferences)) }
     ensures refused { IfErr result (IsRunRefusal (O.faults sink.old) (O.faults sink.new)) }
-    ensures prefix { OnErr result (AppendsFront (Some (O.taken sink.old)) (counts_text counts.now.answers counts.now.reached counts.now.inferences)
-        (Some (O.taken sink.new))) }
+    ensures prefix { OnErr result
+        (AppendsFront (Some (O.taken sink.old))
+        (counts_text counts.now.answers counts.now.reached counts.now.inferences) (Some (O.taken sink.new))) }
 {
     lines.clear();
     summary(counts, lines)?;
@@ -162,9 +169,11 @@ pub fn write_summary<O: Sink>(
 fn write_stop<O: Sink>(answers: u32, sink: &mut O) -> Result<(), WriteFailed>
     ensures faults_kept { O.faults sink.old ≤ O.faults sink.new }
     ensures quiet { OnOk result (O.faults sink.new ≡ O.faults sink.old) }
-    ensures line { OnOk result (Some (O.taken sink.new) ≡ append_known (Some (O.taken sink.old)) (stopped_text answers)) }
+    ensures line { OnOk result (Some (O.taken sink.new)
+        ≡ append_known (Some (O.taken sink.old)) (stopped_text answers)) }
     ensures failed { OnErr result (Rose (O.faults sink.old) (O.faults sink.new)) }
-    ensures prefix { OnErr result (AppendsFront (Some (O.taken sink.old)) (stopped_text answers) (Some (O.taken sink.new))) }
+    ensures prefix { OnErr result (AppendsFront (Some (O.taken sink.old)) (stopped_text answers)
+        (Some (O.taken sink.new))) }
 {
     let mut digits = Buffer::new();
     let digits = digits.format(answers);
@@ -205,8 +214,9 @@ fn write_events<K: Asked, R: Threads + Wait + Sync, O: Sink, G: Gate>(
     ensures lines { OnOk result (Some (O.taken sink.new) ≡ append_known (Some (O.taken sink.old))
         (all_lines wanted.now.proofs wanted.now.problem.now 0 (events_told wanted.now.limit wanted.now.problem.now))) }
     ensures refused { IfErr result (IsRunRefusal (O.faults sink.old) (O.faults sink.new)) }
-    ensures prefix { OnErr result (AppendsFront (Some (O.taken sink.old)) (text_of_run wanted.now.limit wanted.now.proofs wanted.now.problem.now)
-        (Some (O.taken sink.new))) }
+    ensures prefix { OnErr result
+        (AppendsFront (Some (O.taken sink.old))
+        (text_of_run wanted.now.limit wanted.now.proofs wanted.now.problem.now) (Some (O.taken sink.new))) }
 {
     if wanted.proofs {
         return write_events_as::<Event, R, O, G>(team, wanted, lines, waiting, sink);
@@ -234,8 +244,9 @@ fn write_events_as<E: Lined, R: Threads + Wait + Sync, O: Sink, G: Gate>(
     ensures lines { OnOk result (Some (O.taken sink.new) ≡ append_known (Some (O.taken sink.old))
         (all_lines wanted.now.proofs wanted.now.problem.now 0 (events_told wanted.now.limit wanted.now.problem.now))) }
     ensures refused { IfErr result (IsRunRefusal (O.faults sink.old) (O.faults sink.new)) }
-    ensures prefix { OnErr result (AppendsFront (Some (O.taken sink.old)) (text_of_run wanted.now.limit wanted.now.proofs wanted.now.problem.now)
-        (Some (O.taken sink.new))) }
+    ensures prefix { OnErr result
+        (AppendsFront (Some (O.taken sink.old))
+        (text_of_run wanted.now.limit wanted.now.proofs wanted.now.problem.now) (Some (O.taken sink.new))) }
 {
     let writing = Writing::<O, E> {
         alloc: team.alloc,
@@ -285,35 +296,22 @@ fn give<'p, 's, E: Lined, R: Threads + Wait + Sync, O: Sink, G: Gate>(
     ensures faults_kept { O.faults out.old.out.sink.now ≤ O.faults out.new.out.sink.now }
     ensures sink_told { SinkTold (O.faults out.old.out.sink.now) (O.faults out.new.out.sink.now) result }
     ensures ended { IfOk result (λ ended. IsEndOf wanted.now.limit wanted.now.problem.now ended) }
-    ensures lines { OnOk result (Some (O.taken out.new.out.sink.now) ≡ append_known (Some (O.taken out.old.out.sink.now))
+    ensures lines { OnOk result (Some (O.taken out.new.out.sink.now)
+        ≡ append_known (Some (O.taken out.old.out.sink.now))
         (all_lines out.old.out.proofs wanted.now.problem.now 0 (events_told wanted.now.limit wanted.now.problem.now))) }
     ensures refused { IfErr result (IsRunRefusal (O.faults out.old.out.sink.now) (O.faults out.new.out.sink.now)) }
-    ensures prefix { OnErr result (AppendsFront (Some (O.taken out.old.out.sink.now))
-        (text_of_run wanted.now.limit out.old.out.proofs wanted.now.problem.now) (Some (O.taken out.new.out.sink.now))) }
+    ensures prefix { OnErr result
+        (AppendsFront (Some (O.taken out.old.out.sink.now))
+        (text_of_run wanted.now.limit out.old.out.proofs wanted.now.problem.now)
+        (Some (O.taken out.new.out.sink.now))) }
 {
     answers_are_shown();
     match wanted.limit {
-        None => match crew_with(
-            team.rt,
-            team.alloc,
-            wanted.problem,
-            wanted.index,
-            team.workers,
-            team.gate,
-            &mut out.out,
-        ) {
+        None => match crew_with(team, wanted.problem, wanted.index, &mut out.out) {
             Ok(counts) => Ok(Ended::Whole(counts)),
             Err(_) => Err(refusal_of(out.out.failed)),
         },
-        Some(limit) => match crew_first_with(
-            team.rt,
-            team.alloc,
-            wanted.problem,
-            wanted.index,
-            team.workers,
-            team.gate,
-            out,
-        ) {
+        Some(limit) => match crew_first_with(team, wanted.problem, wanted.index, out) {
             Ok(counts) => Ok(end_of(limit, counts)),
             Err(_) => Err(refusal_of(out.out.failed)),
         },

@@ -3,7 +3,7 @@ ghost use Rattle.std.specs.Prelude.{◌≡◌, ◌≤◌, length, Option, Some, 
 ghost use Rattle.std.specs.Io.KnownBytes.{append_known};
 ghost use Rattle.std.specs.Arc.{arc_value};
 ghost use Rattle.ll_edge.specs.Counts.{Rose};
-ghost use Rattle.ll_edge.specs.Log.{ShelfKept, Fits, Met, NoText, Unreadable};
+ghost use Rattle.ll_edge.specs.Log.{ShelfKept, ToldFits, Met, NoText, Unreadable};
 ghost use Rattle.ll_edge.specs.Pieces.{AppendsFront};
 ghost use Rattle.ll_index.specs.Index.{HasIndex};
 ghost use Rattle.ll_edge.specs.Texts.{Texts};
@@ -21,19 +21,19 @@ ghost use Rattle.ll_top.specs.texts.Judging.{IsFaultless};
 ghost use Rattle.ll_top.specs.Shown.{WritesReplies, SessionShown};
 ghost use Rattle.ll_top.specs.forms.Words.{shown_session};
 
+use crate::answers_are_what_follows;
 use crate::forms::SessionCommand;
 use crate::indexes::program_index;
 use crate::refused::{Names, end_refused};
 use crate::run::{Wanted, run_with};
-use crate::team::Team;
 use crate::texts::{Cause, Refusal, Role, load_text, read, refusal, write_heading, write_line};
+use ll_crew::Team;
 use ll_edge::{Gate, Shelf, Sink};
 use ll_index::Index;
 use ll_laws::{Problem, answers_are_shown};
 use ll_lexer::{Fault, TextFault};
 use ll_polarity::Loaded;
 use ll_session::{ask_text, is_query_line, on_line, one_session, split_line};
-use ll_textbook::answers_are_what_follows;
 use std::sync::{Arc, Wait};
 use std::thread::Threads;
 
@@ -60,11 +60,11 @@ pub fn serve_session<R: Threads + Wait + Sync, F: Shelf, O: Sink, G: Gate>(
     ensures sink_faults_kept { O.faults sink.old ≤ O.faults sink.new }
     ensures faults_told { StatusTold F.faults F.absences O.faults shelf.old shelf.new sink.old sink.new result }
 
-    ensures ends { (told : Option Texts) → Fits told (F.log shelf.old) (F.log shelf.new)
-        → Ends (SessionComesTo told (Met F.absences F.log shelf.old shelf.new NoText) (Met F.faults F.log shelf.old shelf.new Unreadable)
-        (shown_session session.now))
+    ensures ends { (told : Option Texts) → ToldFits told (F.log shelf.old) (F.log shelf.new)
+        → Ends (SessionComesTo told (Met F.absences F.log shelf.old shelf.new NoText)
+        (Met F.faults F.log shelf.old shelf.new Unreadable) (shown_session session.now))
         (Rose (O.faults sink.old) (O.faults sink.new)) (Some (O.taken sink.old)) (Some (O.taken sink.new)) result }
-    ensures replied { result ≡ 0 → (told : Option Texts) → Fits told (F.log shelf.old) (F.log shelf.new)
+    ensures replied { result ≡ 0 → (told : Option Texts) → ToldFits told (F.log shelf.old) (F.log shelf.new)
         → SessionShown told (shown_session session.now) (Some (O.taken sink.old)) (Some (O.taken sink.new)) }
 {
     match reply_to_texts(team, session, shelf, sink) {
@@ -93,13 +93,13 @@ fn reply_to_texts<R: Threads + Wait + Sync, F: Shelf, O: Sink, G: Gate>(
     ensures shelf_told { ShelfTold F.faults F.absences shelf.old shelf.new result }
     ensures sink_told { SinkTold (O.faults sink.old) (O.faults sink.new) result }
 
-    ensures ends { (told : Option Texts) → Fits told (F.log shelf.old) (F.log shelf.new)
-        → EndsOwn (SessionComesTo told (Met F.absences F.log shelf.old shelf.new NoText) (Met F.faults F.log shelf.old shelf.new Unreadable)
-        (shown_session session.now))
-        (λ done. 0) (RefusesText told (Met F.absences F.log shelf.old shelf.new NoText) (Met F.faults F.log shelf.old shelf.new Unreadable)
-        (shown_session session.now))
+    ensures ends { (told : Option Texts) → ToldFits told (F.log shelf.old) (F.log shelf.new)
+        → EndsOwn (SessionComesTo told (Met F.absences F.log shelf.old shelf.new NoText)
+        (Met F.faults F.log shelf.old shelf.new Unreadable) (shown_session session.now)) (λ done. 0)
+        (RefusesText told (Met F.absences F.log shelf.old shelf.new NoText)
+        (Met F.faults F.log shelf.old shelf.new Unreadable) (shown_session session.now))
         (Rose (O.faults sink.old) (O.faults sink.new)) (Some (O.taken sink.old)) (Some (O.taken sink.new)) result }
-    ensures replied { OnOk result ((told : Option Texts) → Fits told (F.log shelf.old) (F.log shelf.new)
+    ensures replied { OnOk result ((told : Option Texts) → ToldFits told (F.log shelf.old) (F.log shelf.new)
         → SessionShown told (shown_session session.now) (Some (O.taken sink.old)) (Some (O.taken sink.new))) }
 {
     answers_are_shown();
@@ -125,7 +125,8 @@ fn reply_to_text<R: Threads + Wait + Sync, O: Sink, G: Gate>(
     ensures ends { EndsOwn (TextsComeTo session.now.proofs session.now.queries.now program.now text.now session.now.bound) (λ done. 0)
         (RefusesProgram program.now) (Rose (O.faults sink.old) (O.faults sink.new)) (Some (O.taken sink.old)) (Some (O.taken sink.new)) result }
     ensures replied { OnOk result ((tree : ProgramTree) × IsFaultless program.now tree
-        × WritesReplies session.now.proofs session.now.queries.now tree text.now session.now.bound (Some (O.taken sink.old)) (Some (O.taken sink.new))) }
+        × WritesReplies session.now.proofs session.now.queries.now tree text.now session.now.bound
+        (Some (O.taken sink.old)) (Some (O.taken sink.new))) }
 {
     match load_text(team.alloc, program) {
         Ok(loaded) => reply_over(team, session, &loaded, text, sink),
@@ -147,10 +148,12 @@ fn reply_over<R: Threads + Wait + Sync, O: Sink, G: Gate>(
     ensures faults_kept { O.faults sink.old ≤ O.faults sink.new }
     ensures sink_told { SinkTold (O.faults sink.old) (O.faults sink.new) result }
     ensures ends { (program : ProgramTree) → IsProgramOf program loaded.now
-        → EndsOwn (RepliesTo session.now.proofs session.now.queries.now program text.now session.now.bound) (λ done. 0) NoneFails
-        (Rose (O.faults sink.old) (O.faults sink.new)) (Some (O.taken sink.old)) (Some (O.taken sink.new)) result }
+        → EndsOwn (RepliesTo session.now.proofs session.now.queries.now program text.now session.now.bound)
+        (λ done. 0) NoneFails (Rose (O.faults sink.old) (O.faults sink.new)) (Some (O.taken sink.old))
+        (Some (O.taken sink.new)) result }
     ensures replied { OnOk result ((program : ProgramTree) → IsProgramOf program loaded.now
-        → WritesReplies session.now.proofs session.now.queries.now program text.now session.now.bound (Some (O.taken sink.old)) (Some (O.taken sink.new))) }
+        → WritesReplies session.now.proofs session.now.queries.now program text.now session.now.bound
+        (Some (O.taken sink.old)) (Some (O.taken sink.new))) }
 {
     let index = program_index(team.alloc, loaded)?;
     let base = Base {
@@ -180,8 +183,10 @@ fn reply_to_lines<R: Threads + Wait + Sync, O: Sink, G: Gate>(
     ensures ends { let s = base.now.session.now in (program : ProgramTree) → IsProgramOf program base.now.loaded.now
         → EndsOwn (RepliesTo s.proofs s.queries.now program text.now s.bound) (λ done. 0) NoneFails
         (Rose (O.faults sink.old) (O.faults sink.new)) (Some (O.taken sink.old)) (Some (O.taken sink.new)) result }
-    ensures replied { let s = base.now.session.now in OnOk result ((program : ProgramTree) → IsProgramOf program base.now.loaded.now
-        → WritesReplies s.proofs s.queries.now program text.now s.bound (Some (O.taken sink.old)) (Some (O.taken sink.new))) }
+    ensures replied { let s = base.now.session.now in
+        OnOk result ((program : ProgramTree) → IsProgramOf program base.now.loaded.now
+        → WritesReplies s.proofs s.queries.now program text.now s.bound (Some (O.taken sink.old))
+        (Some (O.taken sink.new))) }
 {
     one_session();
     let mut rest = text;
@@ -211,12 +216,16 @@ fn reply_to_line<R: Threads + Wait + Sync, O: Sink, G: Gate>(
     requires bound { base.now.session.now.bound ≤ 1000000 }
     ensures faults_kept { O.faults sink.old ≤ O.faults sink.new }
     ensures sink_told { SinkTold (O.faults sink.old) (O.faults sink.new) result }
-    ensures replies { let s = base.now.session.now in OnOk result ((program : ProgramTree) → IsProgramOf program base.now.loaded.now
-        → Replies (WritesReply s.proofs s.queries.now) (CutsReply s.proofs s.queries.now) program s.bound number line.now
-        (Some (O.taken sink.old)) (Some (O.taken sink.new))) }
-    ensures cut { let s = base.now.session.now in OnErr result ((program : ProgramTree) → IsProgramOf program base.now.loaded.now
-        → RefusesLine (WritesReply s.proofs s.queries.now) (CutsReply s.proofs s.queries.now) program s.bound number line.now
-        (Some (O.taken sink.old)) (Some (O.taken sink.new))) }
+    ensures replies { let s = base.now.session.now in
+        OnOk result ((program : ProgramTree) → IsProgramOf program base.now.loaded.now
+        → Replies (WritesReply s.proofs s.queries.now)
+        (CutsReply s.proofs s.queries.now) program s.bound number line.now (Some (O.taken sink.old))
+        (Some (O.taken sink.new))) }
+    ensures cut { let s = base.now.session.now in
+        OnErr result ((program : ProgramTree) → IsProgramOf program base.now.loaded.now
+        → RefusesLine (WritesReply s.proofs s.queries.now)
+        (CutsReply s.proofs s.queries.now) program s.bound number line.now (Some (O.taken sink.old))
+        (Some (O.taken sink.new))) }
     ensures refused { IfErr result (IsRunRefusal (O.faults sink.old) (O.faults sink.new)) }
 {
     let part = base.loaded.copy(team.alloc)?;
@@ -245,11 +254,15 @@ fn reply_with_run<R: Threads + Wait + Sync, O: Sink, G: Gate>(
     requires index { HasIndex problem.now.clauses (arc_value base.now.index.now) }
     ensures faults_kept { O.faults sink.old ≤ O.faults sink.new }
     ensures sink_told { SinkTold (O.faults sink.old) (O.faults sink.new) result }
-    ensures text { let s = base.now.session.now in OnOk result (Some (O.taken sink.new) ≡ append_known (Some (O.taken sink.old))
+    ensures text { let s = base.now.session.now in
+        OnOk result (Some (O.taken sink.new)
+        ≡ append_known (Some (O.taken sink.old))
         (reply_text s.proofs s.queries.now (record { line = number; asked = Ok problem.now }))) }
     ensures refused { IfErr result (IsRunRefusal (O.faults sink.old) (O.faults sink.new)) }
-    ensures prefix { let s = base.now.session.now in OnErr result (AppendsFront (Some (O.taken sink.old))
-        (reply_text s.proofs s.queries.now (record { line = number; asked = Ok problem.now })) (Some (O.taken sink.new))) }
+    ensures prefix { let s = base.now.session.now in
+        OnErr result (AppendsFront (Some (O.taken sink.old))
+        (reply_text s.proofs s.queries.now (record { line = number; asked = Ok problem.now }))
+        (Some (O.taken sink.new))) }
 {
     write_heading(sink, "query ", number)?;
     let wanted = Wanted {
@@ -273,8 +286,10 @@ fn reply_with_fault<O: Sink>(
     ensures text { OnOk result (Some (O.taken sink.new) ≡ append_known (Some (O.taken sink.old))
         (reply_text session.now.proofs session.now.queries.now (record { line = fault.at.line; asked = Err fault }))) }
     ensures refused { IfErr result (IsRunRefusal (O.faults sink.old) (O.faults sink.new)) }
-    ensures prefix { OnErr result (AppendsFront (Some (O.taken sink.old))
-        (reply_text session.now.proofs session.now.queries.now (record { line = fault.at.line; asked = Err fault })) (Some (O.taken sink.new))) }
+    ensures prefix { OnErr result
+        (AppendsFront (Some (O.taken sink.old))
+        (reply_text session.now.proofs session.now.queries.now (record { line = fault.at.line; asked = Err fault }))
+        (Some (O.taken sink.new))) }
 {
     write_heading(sink, "query ", fault.at.line)?;
     write_line(Cause::Faulty(session.queries, fault), sink)?;

@@ -5,7 +5,7 @@ use Rattle.std.specs.Prelude.{slice_get, slice_index, Contains}
 use Rattle.std.specs.Vec.{vec_len}
 use Rattle.std.proofs.lemmas.List.{length-map}
 use Rattle.std.proofs.lemmas.List.Elements.{All-nil, All-cons, All-take, All-map}
-use Rattle.ll_lists.proofs.CallerLemmas.{length-drop_same}
+use Rattle.ll_list_laws.proofs.CallerLemmas.{length-drop_same}
 use Rattle.ll_bank.specs.declared.At.{At}
 use Rattle.ll_bank.specs.declared.FormAt.{FormAt}
 use Rattle.ll_bank.specs.declared.BankSize.{BankSize}

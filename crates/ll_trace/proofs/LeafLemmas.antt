@@ -6,7 +6,7 @@ use Rattle.std.proofs.lemmas.Bool.{lt-ltb, ltb-true}
 use Rattle.std.proofs.lemmas.List.{reverse-append, append-nil}
 use Rattle.std.proofs.lemmas.List.Elements.{All-nil, All-append, All-pop, All-push}
 use Rattle.std.proofs.lemmas.List.Sums.{sum_by-append}
-use Rattle.ll_lists.proofs.CallerLemmas.{length-map_suc as length-suc, lt_false as not_below, slice_index-append as index_left}
+use Rattle.ll_list_laws.proofs.CallerLemmas.{length-map_suc as length-suc, lt_false as not_below, slice_index-append as index_left}
 use Rattle.ll_bank.specs.declared.At.{At}
 use Rattle.ll_bank.specs.declared.FormAt.{FormAt}
 use Rattle.ll_bank.specs.declared.FormNode.{FormNode}

@@ -48,9 +48,6 @@ exists-passing t = record {
       λ d x. refl;
 }
 
-pub lolli-unary : (n : ℕ) → IsUnary (LolliLine n) (LolliNode n)
-lolli-unary n = record { none = refl; some = λ x us. refl; nodes = λ x. refl; erases = λ x. refl; picks = λ b x. refl }
-
 -- a line over two trees
 pub record IsBinary (l : Line) (mk : Tree → Tree → Tree) : Type 0 where
   pub none : put l [] ≡ None
@@ -58,12 +55,6 @@ pub record IsBinary (l : Line) (mk : Tree → Tree → Tree) : Type 0 where
   pub some : (x y : Tree) (us : List Tree) → put l (x ∷ y ∷ us) ≡ Some (mk x y ∷ us)
   pub nodes : (x y : Tree) → nodes (mk x y) ≡ suc (nodes x + nodes y)
   pub picks : (b : ℕ) (x y : Tree) → picks_of b (mk x y) ≡ None ∷ (picks_of b x ++ picks_of b y)
-
-pub tensor-binary : (s t : List ℕ) → IsBinary (TensorLine s t) (TensorNode s t)
-tensor-binary s t = record { none = refl; one = λ x. refl; some = λ x y us. refl; nodes = λ x y. refl; picks = λ b x y. refl }
-
-pub with-binary : IsBinary WithLine WithNode
-with-binary = record { none = refl; one = λ x. refl; some = λ x y us. refl; nodes = λ x y. refl; picks = λ b x y. refl }
 
 -- a premise's tree in front of those of the others
 abbrev pub join : PartLine → Tree → Parts → Parts

@@ -9,18 +9,18 @@ use Rattle.std.proofs.lemmas.Bool.{ne_eqb, eq-eqb}
 use Rattle.std.proofs.lemmas.List.{append-nil, drop_all, reverse-append, length-reverse, length-map}
 use Rattle.std.proofs.lemmas.List.Folds.{list_any-append}
 use Rattle.std.proofs.Math.Bool.{and-false as off}
-use Rattle.ll_lists.proofs.CallerLemmas.{reverse-push as newest}
+use Rattle.ll_list_laws.proofs.CallerLemmas.{reverse-push as newest}
 use Rattle.ll_bank.specs.Term.{Term}
 use Rattle.ll_laws.specs.declared.Part.{Part}
 use Rattle.ll_laws.specs.declared.Part.TheVariants.{Bounded, Unbounded}
 use Rattle.ll_laws.specs.Dealing.{uses, uses_part}
-use Rattle.ll_laws.specs.Line.{PartLine, Line, OneLine, EraseLine, BangLine, ClauseLine, Cuts, cut_parts, put, trees_of, NumLine}
+use Rattle.ll_laws.specs.Line.{PartLine, Line, OneLine, ClauseLine, Cuts, cut_parts, put, trees_of}
 use Rattle.ll_laws.specs.Shows.{Tree, OneNode, EraseNode, TensorNode, WithNode, LeftNode, RightNode, BangNode, LolliNode, ImpNode, ForallNode, ExistsNode}
 use Rattle.ll_laws.specs.Shows.{UseNode, ClauseNode, Parts, NoParts, BoundedPart, UnboundedPart, nodes, part_nodes, NumNode}
 use Rattle.ll_laws.specs.ShownLines.{part_line}
 use Rattle.ll_trace.specs.declared.picks.Pick.{Pick}
 use Rattle.ll_trace.specs.Picks.{picks_of, picks_of_parts, all_picks, is_pick, is_used_between, level_of_part, IsPickStep}
-use Rattle.ll_trace.proofs.Making.{IsUnary, IsBinary, cut-step, cut-end, clause-made, first-made, made-some, IsCutStep, drop_item}
+use Rattle.ll_trace.proofs.Making.{cut-step, cut-end, clause-made, first-made, made-some, IsCutStep, drop_item}
 
 both : (n a : ℕ) (xs ys : List (Option Pick)) → list_any (is_pick n a) xs ≡ false → list_any (is_pick n a) ys ≡ false
     → list_any (is_pick n a) (xs ++ ys) ≡ false
@@ -127,46 +127,6 @@ drop-on from to picks here more h e = ap (λ i. drop i picks) e
 
 pub pick-one : (b : ℕ) (old : List ℕ) (ts vs : List Tree) → put OneLine ts ≡ Some vs → IsPickStep b old old None ts vs
 pick-one b old ts vs h = let e : OneNode ∷ ts ≡ vs = cc in subst (IsPickStep b old old None ts) e (record { same = refl; count = λ k. omega (arith, k) })
-
-pub pick-num : (b : ℕ) (old : List ℕ) (ts vs : List Tree) → put NumLine ts ≡ Some vs → IsPickStep b old old None ts vs
-pick-num b old ts vs h = let e : NumNode ∷ ts ≡ vs = cc in subst (IsPickStep b old old None ts) e (record { same = refl; count = λ k. omega (arith, k) })
-
-pub pick-erase : (b : ℕ) (old : List ℕ) (ts vs : List Tree) → put EraseLine ts ≡ Some vs → IsPickStep b old old None ts vs
-pick-erase b old ts vs h = let e : EraseNode ∷ ts ≡ vs = cc in subst (IsPickStep b old old None ts) e (record { same = refl; count = λ k. omega (arith, k) })
-
-pub pick-unary : (l : Line) (mk : Tree → Tree) → IsUnary l mk → (b : ℕ) (old new : List ℕ) (ts vs : List Tree) → new ≡ old ++ b ∷ [] → put l ts ≡ Some vs
-    → IsPickStep b old new None ts vs
-pick-unary l mk u b old new [] vs e h = let n = u.none in cc
-pick-unary l mk u b old new (x ∷ us) vs e h =
-    let s : Some (mk x ∷ us) ≡ Some vs = sym (u.some x us) ∙ h in let i : mk x ∷ us ≡ vs = cc in
-    subst (IsPickStep b old new None (x ∷ us)) i (record {
-      same = ap (λ ps. ps ++ all_picks (reverse old) us) (u.picks b x) ∙ ap (λ bs. None ∷ all_picks bs (x ∷ us)) (sym (ap reverse e ∙ newest old b));
-      count = λ k. let j = ap length e in let m = length-append old (b ∷ []) in omega (arith, k, j, m);
-    })
-
-pub pick-bang : (b : ℕ) (old new : List ℕ) (ts vs : List Tree) → new ≡ old ++ (b + 1) ∷ [] → put BangLine ts ≡ Some vs → IsPickStep b old new None ts vs
-pick-bang b old new [] vs e h = cc
-pick-bang b old new (x ∷ us) vs e h =
-    let i : BangNode x ∷ us ≡ vs = cc in
-    subst (IsPickStep b old new None (x ∷ us)) i (record {
-      same = ap (λ bs. None ∷ all_picks bs (x ∷ us)) (sym (ap reverse e ∙ newest old (b + 1)));
-      count = λ k. let j = ap length e in let m = length-append old ((b + 1) ∷ []) in omega (arith, k, j, m);
-    })
-
-pub pick-binary : (l : Line) (mk : Tree → Tree → Tree) → IsBinary l mk → (b : ℕ) (old mid new : List ℕ) (ts vs : List Tree) → mid ≡ old ++ b ∷ []
-    → new ≡ mid ++ b ∷ [] → put l ts ≡ Some vs → IsPickStep b old new None ts vs
-pick-binary l mk u b old mid new [] vs e f h = let n = u.none in cc
-pick-binary l mk u b old mid new (x ∷ []) vs e f h = let n = u.one x in cc
-pick-binary l mk u b old mid new (x ∷ y ∷ us) vs e f h =
-    let s : Some (mk x y ∷ us) ≡ Some vs = sym (u.some x y us) ∙ h in let i : mk x y ∷ us ≡ vs = cc in
-    subst (IsPickStep b old new None (x ∷ y ∷ us)) i (record {
-      same =
-          ap (λ ps. ps ++ all_picks (reverse old) us) (u.picks b x y)
-          ∙ (ap (λ ps. None ∷ ps) (append_assoc (picks_of b x) (picks_of b y) (all_picks (reverse old) us))
-          ∙ ap (λ bs. None ∷ all_picks bs (x ∷ y ∷ us)) (sym (ap reverse f ∙ (newest mid b ∙ ap (λ bs. b ∷ bs) (ap reverse e ∙ newest old b)))));
-      count = λ k. let j = ap length e in let m = length-append old (b ∷ []) in let j2 = ap length f in let m2 = length-append mid (b ∷ []) in
-          omega (arith, k, j, m, j2, m2);
-    })
 
 twice : (xs : List ℕ) → reverse (reverse xs) ≡ xs
 twice [] = refl

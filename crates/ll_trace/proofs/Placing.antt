@@ -1,20 +1,19 @@
 -- Rows of places, and what is found in them.
-use Rattle.std.proofs.Common.{◌≡◌, ℕ, suc, zero, ◌+◌, ◌-◌, ◌≤◌, ◌<◌, refl, ap, sym, subst, ◌∙◌, List, [], ◌∷◌, ◌++◌, length, get_or, take, drop, arith, Vec}
-use Rattle.std.proofs.Common.{Global}
-use Rattle.std.specs.Prelude.{Bool, true, false, ◌||◌, ◌&&◌, cond, nat_eq, nat_lt, nat_le, Option, Some, None, unwrap_or}
+use Rattle.std.proofs.Common.{◌≡◌, ℕ, suc, zero, ◌+◌, ◌-◌, ◌≤◌, ◌<◌, refl, ap, sym, subst, ◌∙◌, List, [], ◌∷◌, ◌++◌, length, get_or, take, drop, arith}
+use Rattle.std.specs.Prelude.{Bool, true, false, ◌||◌, ◌&&◌, cond, nat_eq, nat_lt, nat_le, Option, Some, None}
 use Rattle.std.proofs.Common.{length-take, drop-cons}
 use Rattle.std.proofs.Math.Bool.{and-false}
 use Rattle.std.proofs.lemmas.Bool.Decides.{nat_tests}
 use Rattle.std.specs.Ordering.{nat_cmp}
 use Rattle.std.specs.BTreeMap.{is_at}
 use Rattle.std.specs.List.{list_any}
-use Rattle.std.proofs.lemmas.Bool.{eqb-true, ltb-true, ltb-false, lt-ltb}
-use Rattle.std.proofs.lemmas.List.{append-nil, take_all, drop_all, take_more}
-use Rattle.ll_lists.proofs.CallerLemmas.{lt_false}
+use Rattle.std.proofs.lemmas.Bool.{ltb-true, ltb-false, lt-ltb}
+use Rattle.std.proofs.lemmas.List.{take_all, drop_all, take_more}
+use Rattle.ll_list_laws.proofs.CallerLemmas.{lt_false}
 use Rattle.ll_trace.specs.declared.picks.Pick.{Pick}
 use Rattle.ll_trace.specs.declared.places.Place.{Place}
 use Rattle.ll_trace.specs.Picks.{is_pick, is_used_between}
-use Rattle.ll_trace.specs.Places.{places_of, row_of, RisesFrom, is_hit}
+use Rattle.ll_trace.specs.Places.{places_of, RisesFrom, is_hit}
 
 le_false : (a b : ℕ) → b < a → nat_le a b ≡ false
 le_false a b h = grind (arith, nat_tests)
@@ -184,19 +183,6 @@ index-step n k picks o old new h e a b =
     ∙ ap (λ i. places_of n 0 (take k picks) ++ places_of n i (o ∷ [])) z)
     ∙ ap (places_of n 0) (sym (take_more picks k o h ∙ ap (λ (x : Option Pick). take k picks ++ x ∷ []) (sym e)))))
 
-pub row-more : (q label : ℕ) (old mid new : ℕ → Option (Vec Place Global)) (row kept default : Vec Place Global) (removed : Option (Vec Place Global))
-    (p : Place) (b : Bool) → nat_eq q label ≡ b → new q ≡ cond b (Some row) (mid q) → mid q ≡ cond b None (old q)
-    → removed ≡ old label → kept ≡ unwrap_or removed default → default.items ≡ [] → row.items ≡ kept.items ++ p ∷ []
-    → row_of (new q) ≡ row_of (old q) ++ cond b (p ∷ []) []
-row-more q label old mid new row kept default removed p true e n m r k d i =
-    ap row_of n ∙ (i ∙ ap (λ xs. xs ++ p ∷ []) (ap (λ (v : Vec Place Global). v.items) k
-    ∙ (opened removed ∙ ap row_of (r ∙ ap old (sym (eqb-true q label e))))))
-  where
-    opened : (o : Option (Vec Place Global)) → (unwrap_or o default).items ≡ row_of o
-    opened None = d
-    opened (Some v) = refl
-row-more q label old mid new row kept default removed p false e n m r k d i = ap row_of (n ∙ m) ∙ sym (append-nil (row_of (old q)))
-
 pub at_nat : (n q : ℕ) → is_at (nat_cmp n) q ≡ nat_eq q n
 at_nat n q = grind (arith, nat_tests)
 
@@ -227,9 +213,3 @@ pub hits-past : (b from to k : ℕ) (row : List Place) (e : Place) → RisesFrom
 hits-past b from to k row e r h l m =
     hits-drop b from to k row (get_or row k e) (drop-at row k e h) r l
     ∙ ap (λ c. c && (nat_eq b (get_or row k e).level || list_any (is_hit b from to) (drop (k + 1) row))) (lt_false (get_or row k e).at to m)
-
-pub hits-next : (b from to k : ℕ) (row : List Place) (e : Place) → RisesFrom 0 row → k < length row → from ≤ (get_or row k e).at → (get_or row k e).at < to
-    → list_any (is_hit b from to) (drop k row) ≡ (nat_eq b (get_or row k e).level || list_any (is_hit b from to) (drop (k + 1) row))
-hits-next b from to k row e r h l m =
-    hits-drop b from to k row (get_or row k e) (drop-at row k e h) r l
-    ∙ ap (λ c. c && (nat_eq b (get_or row k e).level || list_any (is_hit b from to) (drop (k + 1) row))) (lt-ltb (get_or row k e).at to m)

@@ -20,7 +20,7 @@ use Rattle.ll_trace.specs.declared.deal.Share.{Share}
 use Rattle.ll_trace.specs.declared.picks.Pick.{Pick}
 use Rattle.ll_trace.specs.declared.spans.Span.{Span}
 use Rattle.ll_trace.specs.Picks.{picks_of, picks_of_parts, all_picks, is_pick, is_used_between}
-use Rattle.ll_trace.specs.Spans.{span_or_none, Fits}
+use Rattle.ll_trace.specs.Spans.{span_or_none, SpansFit}
 use Rattle.ll_trace.specs.Shares.{all_dealt, levels, goes_to_first, IsNodeStep, ArePartsDealt}
 use Rattle.ll_bank.specs.Nodes.{term_tree}
 use Rattle.ll_bank.specs.declared.At.{At}
@@ -29,7 +29,7 @@ use Rattle.ll_laws.specs.Shows.{LeftNode, RightNode, ImpNode, ForallNode, Exists
 use Rattle.std.proofs.Common.{Vec, Global, get_or, drop-cons, ◌≤◌}
 use Rattle.std.specs.Prelude.{true, false}
 use Rattle.std.proofs.lemmas.List.{drop_all, drop-map}
-use Rattle.ll_lists.proofs.CallerLemmas.{reverse-push as newest}
+use Rattle.ll_list_laws.proofs.CallerLemmas.{reverse-push as newest}
 use Rattle.ll_trace.specs.Shares.{GivesRule, GivesTensor, GivesAnywhere}
 use Rattle.ll_trace.specs.Spans.{AreSpans}
 use Rattle.ll_trace.proofs.Making.{IsPassing, left-passing, right-passing, use-passing, imp-passing, forall-passing, exists-passing, IsCutStep, cut-step}
@@ -178,14 +178,14 @@ pub tensor-step : (outline : Outline) (at : ℕ) (share first second : Share) (f
     → IsFork outline at share.level fork
     → first.labels.items ≡ filter (goes_to_first outline.uses fork) share.labels.items → first.level ≡ share.level
     → second.labels.items ≡ filter (λ n. not (goes_to_first outline.uses fork n)) share.labels.items → second.level ≡ share.level
-    → mid ≡ old ++ second ∷ [] → new ≡ mid ++ first ∷ [] → put (TensorLine s t) ts ≡ Some vs → Fits outline.spans.items at vs
-    → Fits outline.spans.items (at + 1) ts → drop at outline.uses ≡ all_picks (share.level ∷ levels (reverse old)) vs
+    → mid ≡ old ++ second ∷ [] → new ≡ mid ++ first ∷ [] → put (TensorLine s t) ts ≡ Some vs → SpansFit outline.spans.items at vs
+    → SpansFit outline.spans.items (at + 1) ts → drop at outline.uses ≡ all_picks (share.level ∷ levels (reverse old)) vs
     → IsNodeStep outline (at + 1) share old new (TensorLine first.labels.items second.labels.items) ts vs
 tensor-step outline at share first second fork old mid new s t [] vs k a b a2 b2 e f h f1 f2 d = cc
 tensor-step outline at share first second fork old mid new s t (x ∷ []) vs k a b a2 b2 e f h f1 f2 d = cc
 tensor-step outline at share first second fork old mid new s t (x ∷ y ∷ us) vs k a b a2 b2 e f h f1 f2 d =
     let i : TensorNode s t x y ∷ us ≡ vs = cc in
-    let g1 : Fits outline.spans.items at (TensorNode s t x y ∷ us) = subst (Fits outline.spans.items at) (sym i) f1 in
+    let g1 : SpansFit outline.spans.items at (TensorNode s t x y ∷ us) = subst (SpansFit outline.spans.items at) (sym i) f1 in
     let d1 = d ∙ ap (all_picks (share.level ∷ levels (reverse old))) (sym i) in
     subst (IsNodeStep outline (at + 1) share old new (TensorLine first.labels.items second.labels.items) (x ∷ y ∷ us)) i
     (children-step outline at share first second old mid new (TensorLine first.labels.items second.labels.items) (TensorNode s t x y) x y us
@@ -202,7 +202,7 @@ tensor-step outline at share first second fork old mid new s t (x ∷ y ∷ us) 
         let o2 = filter (λ n. not (goes_to (uses n x) (uses n y) (erases x))) d in
         ap (λ z. TensorLine z o2 ∷ (lines (deal z x) ++ lines (deal o2 y))) (sym p) ∙ ap (λ z. TensorLine m z ∷ (lines (deal m x) ++ lines (deal z y))) (sym q)
 
-    goes : Fits outline.spans.items at (TensorNode s t x y ∷ us)
+    goes : SpansFit outline.spans.items at (TensorNode s t x y ∷ us)
         → drop at outline.uses ≡ all_picks (share.level ∷ levels (reverse old)) (TensorNode s t x y ∷ us) → (n : ℕ)
         → goes_to_first outline.uses fork n ≡ goes_to (uses n x) (uses n y) (erases x)
     goes g1 d1 n =
@@ -249,7 +249,7 @@ passing-rule (Clause n k us ps) z a b c d e f g = absurd (g n k us ps refl)
 pub record PartsAt (outline : Outline) (from end b : ℕ) (first : List ℕ) (all : Parts) (ts us : List Tree) (more : List (Option Pick)) (ls : List PartLine)
     (labels : List ℕ) (dealt : List Part) (shares : List Share) (trees : List Tree) (parts : Parts) : Type 0 where
   pub cut : cut_parts ls trees ≡ Cuts parts us
-  pub fits : Fits outline.spans.items from trees
+  pub fits : SpansFit outline.spans.items from trees
   pub reach : end ≡ from + part_nodes parts
   pub dropped : drop from outline.uses ≡ picks_of_parts b parts ++ more
   pub lines : map part_line dealt ++ part_lines (deal_parts labels parts) ≡ part_lines (deal_parts first all)
@@ -269,7 +269,7 @@ pub record PartsDealt (outline : Outline) (from end b : ℕ) (first : List ℕ) 
 
 pub dealt-start : (outline : Outline) (from end b : ℕ) (first : List ℕ) (all : Parts) (ts us : List Tree) (more : List (Option Pick)) (ls : List PartLine)
     (dealt : List Part) (shares : List Share) → dealt ≡ [] → shares ≡ []
-    → cut_parts ls ts ≡ Cuts all us → Fits outline.spans.items from ts → end ≡ from + part_nodes all → drop from outline.uses ≡ picks_of_parts b all ++ more
+    → cut_parts ls ts ≡ Cuts all us → SpansFit outline.spans.items from ts → end ≡ from + part_nodes all → drop from outline.uses ≡ picks_of_parts b all ++ more
     → PartsDealt outline from end b first all ts us more ls first dealt shares
 dealt-start outline from end b first all ts us more ls dealt shares e f h g k d = record {
   trees = ts;
@@ -302,7 +302,7 @@ one_more : (outline : Outline) (from next end b : ℕ) (first : List ℕ) (all :
     → PartsAt outline next end b first all ts us more ls rest dealt2 shares2 trees qs
 one_more outline from next end b first all ts us more p ls labels rest dealt dealt2 shares shares2 q s x trees parts qs h e n pl ll pk ed es w = record {
   cut = h;
-  fits = subst (λ i. Fits outline.spans.items i trees) (sym e) w.fits.1;
+  fits = subst (λ i. SpansFit outline.spans.items i trees) (sym e) w.fits.1;
   reach = let i = w.reach in omega (arith, i, e, n);
   dropped =
       let c = picks-count s.level x in
@@ -434,10 +434,10 @@ twice (x ∷ xs) = ap (λ ys. reverse ys) (reverse-append (x ∷ []) xs) ∙ (ne
 pub clause-step : (n k : ℕ) (terms : List Term) (outline : Outline) (at : ℕ) (share : Share) (parts dealt : List Part) (shares old new : List Share)
     (labels : List ℕ) (end : ℕ) (ts vs : List Tree) → labels ≡ without n share.labels.items → end ≡ (span_or_none outline.spans.items at).end
     → new ≡ old ++ reverse shares
-    → ((us : List Tree) (ps : Parts) (more : List (Option Pick)) → cut_parts (map part_line parts) ts ≡ Cuts ps us → Fits outline.spans.items (at + 1) ts
+    → ((us : List Tree) (ps : Parts) (more : List (Option Pick)) → cut_parts (map part_line parts) ts ≡ Cuts ps us → SpansFit outline.spans.items (at + 1) ts
     → end ≡ at + 1 + part_nodes ps → drop (at + 1) outline.uses ≡ picks_of_parts share.level ps ++ more
     → ArePartsDealt labels share.level ps dealt shares ts us)
-    → put (ClauseLine n k terms (map part_line parts)) ts ≡ Some vs → Fits outline.spans.items at vs → Fits outline.spans.items (at + 1) ts
+    → put (ClauseLine n k terms (map part_line parts)) ts ≡ Some vs → SpansFit outline.spans.items at vs → SpansFit outline.spans.items (at + 1) ts
     → drop at outline.uses ≡ all_picks (share.level ∷ levels (reverse old)) vs
     → IsNodeStep outline (at + 1) share old new (ClauseLine n k terms (map part_line dealt)) ts vs
 clause-step n k terms outline at share parts dealt shares old new labels end ts vs e1 e2 e3 go h f1 f2 d =
@@ -445,7 +445,7 @@ clause-step n k terms outline at share parts dealt shares old new labels end ts 
   where
     step : IsClauseMade n k terms (map part_line parts) ts vs → IsNodeStep outline (at + 1) share old new (ClauseLine n k terms (map part_line dealt)) ts vs
     step m =
-        let g1 : Fits outline.spans.items at (ClauseNode n k terms m.parts ∷ m.left) = subst (Fits outline.spans.items at) (sym m.is) f1 in
+        let g1 : SpansFit outline.spans.items at (ClauseNode n k terms m.parts ∷ m.left) = subst (SpansFit outline.spans.items at) (sym m.is) f1 in
         let d1 = drop-next at outline.uses (picks_of_parts share.level m.parts ++ all_picks (levels (reverse old)) m.left)
         (Some (record { label = n; level = share.level })) (d ∙ ap (all_picks (share.level ∷ levels (reverse old))) (sym m.is)) in
         let q = ap (λ (z : Span). z.end) g1.0 in
@@ -512,9 +512,9 @@ deal-start ls x labels done pending picks share d e f p h = record {
 pub deal-step : (l l2 : Line) (ls : List Line) (x : Tree) (labels : List ℕ) (done more : List Line) (pending rest new : List Share) (top : Option Share)
     (share default : Share) (outline : Outline) (at : ℕ) → pending ≡ rest ++ option_to_list top → share ≡ unwrap_or top default → more ≡ done ++ l2 ∷ []
     → (0 < length pending → IsSome top)
-    → ((ts : List Tree) → trees_of (l ∷ ls) ≡ Some ts → Fits outline.spans.items at ts)
-    → ((ts : List Tree) → trees_of ls ≡ Some ts → Fits outline.spans.items (at + 1) ts)
-    → ((ts vs : List Tree) → put l ts ≡ Some vs → Fits outline.spans.items at vs → Fits outline.spans.items (at + 1) ts
+    → ((ts : List Tree) → trees_of (l ∷ ls) ≡ Some ts → SpansFit outline.spans.items at ts)
+    → ((ts : List Tree) → trees_of ls ≡ Some ts → SpansFit outline.spans.items (at + 1) ts)
+    → ((ts vs : List Tree) → put l ts ≡ Some vs → SpansFit outline.spans.items at vs → SpansFit outline.spans.items (at + 1) ts
     → drop at outline.uses ≡ all_picks (share.level ∷ levels (reverse rest)) vs → IsNodeStep outline (at + 1) share rest new l2 ts vs)
     → DealLeft (l ∷ ls) x labels done pending (drop at outline.uses) → DealLeft ls x labels more new (drop (at + 1) outline.uses)
 deal-step l l2 ls x labels done more pending rest new None share default outline at b e f v s1 s2 go w = let m = first-made l ls w.trees w.is in

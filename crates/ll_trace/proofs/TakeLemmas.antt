@@ -4,7 +4,7 @@ use Rattle.std.proofs.Common.{slice_index_or}
 use Rattle.std.specs.Prelude.{Option, Some, None, Result, Ok, Err, IfOk, slice_get, slice_index}
 use Rattle.std.proofs.lemmas.List.{map-append, length-map, append-nil as append_none}
 use Rattle.std.proofs.lemmas.List.Elements.{All-nil, All-cons, All-append, All-take, All-drop}
-use Rattle.ll_lists.proofs.CallerLemmas.{length-take_most}
+use Rattle.ll_list_laws.proofs.CallerLemmas.{length-take_most}
 use Rattle.ll_bank.specs.declared.At.{At}
 use Rattle.ll_bank.specs.declared.FormAt.{FormAt}
 use Rattle.ll_bank.specs.Term.{Term, Var}
@@ -32,7 +32,7 @@ use Rattle.ll_trace.specs.Bare.{bare, some_atom, premises_at, bare_load, bare_lo
 use Rattle.ll_trace.specs.Walk.{Walk, Told, Tells, to_prove, with_clause, tell_load, tell_leaf, tell_clause, tell_goal, tell_front, tell, IsTold}
 use Rattle.ll_trace.specs.Goals.{stacked, shown_goal, HasGoal, loading_goal, clauses_of}
 use Rattle.ll_trace.specs.Opening.{Opens}
-use Rattle.ll_trace.specs.Walker.{trees, bare_clauses, walk_of, IsInside, MayTake, Takes, MayStep, Steps, Pushes, HasLeaf}
+use Rattle.ll_trace.specs.Walker.{trees, bare_clauses, walk_of, IsInside, MayTake, TellsGoal, MayStep, Steps, Pushes, HasLeaf}
 
 -- what holds of a value holds weakened
 pub if_ok : {A E : Type 0} (P Q : A → Type 0) → ((x : A) → P x → Q x) → (r : Result A E) → IfOk r P → IfOk r Q
@@ -140,9 +140,9 @@ module _ (forms : Nodes) (modules : List Module) (terms : List At) (old : Walker
   tells all g = tell_goal (trees forms modules) all here g below c
 
   -- from the formula's sign to the formula
-  pub takes_tree : (form : ℕ) (t : Form) (rule : Rule) (new : Walker) → form_tree forms form ≡ t → Takes forms modules terms old (bare t) c rule new
-      → Takes forms modules terms old (bare (form_tree forms form)) c rule new
-  takes_tree form t rule new e h = subst (λ (x : Form). Takes forms modules terms old (bare x) c rule new) (sym e) h
+  pub takes_tree : (form : ℕ) (t : Form) (rule : Rule) (new : Walker) → form_tree forms form ≡ t → TellsGoal forms modules terms old (bare t) c rule new
+      → TellsGoal forms modules terms old (bare (form_tree forms form)) c rule new
+  takes_tree form t rule new e h = subst (λ (x : Form). TellsGoal forms modules terms old (bare x) c rule new) (sym e) h
 
   more_goals : (new : List Goal) (goals : List Goal) → new ≡ old.goals.items ++ goals → All (HasGoal forms (length modules)) goals
       → All (HasGoal forms (length modules)) new
@@ -153,7 +153,7 @@ module _ (forms : Nodes) (modules : List Module) (terms : List At) (old : Walker
       → new.clauses.items ≡ old.clauses.items → new.eigens ≡ old.eigens → new.used ≡ old.used
       → All (HasGoal forms (length modules)) goals → ((bank : Nodes) → line_of bank rule ≡ n)
       → ((all : List Term) → tells all g ≡ Tells n (to_prove here (stacked forms ms goals below)))
-      → ((bank : Nodes) → AllInTerms bank terms → HasLine bank rule) → Takes forms modules terms old g c rule new
+      → ((bank : Nodes) → AllInTerms bank terms → HasLine bank rule) → TellsGoal forms modules terms old g c rule new
   takes_goals g rule n goals new e1 e2 e3 e4 a l t p =
       let walk : to_prove here (stacked forms ms goals below) ≡ walk_of forms ms new =
       (λ j. record {
@@ -174,7 +174,7 @@ module _ (forms : Nodes) (modules : List Module) (terms : List At) (old : Walker
       → HasGoal forms (length modules) goal → HasForm forms clause.0
       → ((bank : Nodes) → line_of bank rule ≡ n) → ((all : List Term)
       → tells all g ≡ Tells n (with_clause here (bare (form_tree forms clause.0)) (shown_goal forms ms goal ∷ below)))
-      → ((bank : Nodes) → AllInTerms bank terms → HasLine bank rule) → Takes forms modules terms old g c rule new
+      → ((bank : Nodes) → AllInTerms bank terms → HasLine bank rule) → TellsGoal forms modules terms old g c rule new
   takes_load g goal clause rule n new s hg hf l t p =
       let e3 = s.eigens in
       let e4 = s.used in
@@ -208,11 +208,11 @@ module _ (forms : Nodes) (modules : List Module) (terms : List At) (old : Walker
   pub label_is : (label : ℕ) → label ≡ length old.clauses.items → label ≡ length here.clauses
   label_is label h = h ∙ sym (length-map old.clauses.items (λ (f : FormAt). bare (form_tree forms f.0)))
 
-  -- one eigenconstant more
+  -- one eigenvariable more
   pub takes_open : (g : Form) (goal : Goal) (rule : Rule) (new : Walker) → Pushes old goal [] 1 0 new → HasGoal forms (length modules) goal
       → ((bank : Nodes) → line_of bank rule ≡ ForallLine old.eigens)
       → ((all : List Term) → tells all g ≡ Tells (ForallLine old.eigens) (record here { goals = shown_goal forms ms goal ∷ below; eigens = suc old.eigens }))
-      → ((bank : Nodes) → AllInTerms bank terms → HasLine bank rule) → Takes forms modules terms old g c rule new
+      → ((bank : Nodes) → AllInTerms bank terms → HasLine bank rule) → TellsGoal forms modules terms old g c rule new
   takes_open g goal rule new s hg l t p =
       let e3 = s.eigens in
       let e4 = s.used in
@@ -240,7 +240,7 @@ module _ (forms : Nodes) (modules : List Module) (terms : List At) (old : Walker
   -- one term more is used
   pub takes_fill : (f : Form) (body : FormAt) (term : At) (new : Walker) → Pushes old (Plain body) [] 0 1 new → HasForm forms body.0
       → slice_get terms old.used ≡ Some term → f ≡ bare (form_tree forms body.0)
-      → Takes forms modules terms old (Exists f) c (ExistsRule term) new
+      → TellsGoal forms modules terms old (Exists f) c (ExistsRule term) new
   takes_fill f body term new s hb got same =
       let e3 = s.eigens in
       let e4 = s.used in
@@ -271,7 +271,7 @@ module _ (forms : Nodes) (modules : List Module) (terms : List At) (old : Walker
       → IsTold (tells (term_trees no_nodes terms) (Use module' ts (bare (form_tree forms g.0)))) → d ≡ slice_index_or modules module' d → HasForm forms g.0
       → new.goals.items ≡ old.goals.items ++ LoadingGoal (record { locals = d.locals; «module» = module'; next = 0; goal = g }) ∷ []
       → new.clauses.items ≡ old.clauses.items → new.eigens ≡ old.eigens → new.used ≡ old.used
-      → Takes forms modules terms old (Use module' ts (bare (form_tree forms g.0))) c UseRule new
+      → TellsGoal forms modules terms old (Use module' ts (bare (form_tree forms g.0))) c UseRule new
   takes_use module' d g ts new told is hg e1 e2 e3 e4 =
       let k = known_module here (bare (form_tree forms g.0)) below forms modules module' d told is in
       let goal : Loading = record { locals = d.locals; «module» = module'; next = 0; goal = g } in
@@ -289,7 +289,7 @@ module _ (forms : Nodes) (modules : List Module) (terms : List At) (old : Walker
       → new.used ≡ old.used + length taken
       → taken ≡ take opened.quantifiers (drop old.used terms)
       → ((bank : Nodes) → line_of bank rule ≡ ClauseLine label k (term_trees bank taken) (map shown_part opened.parts.items))
-      → ((bank : Nodes) → HasLine bank rule ≡ AllInTerms bank taken) → Takes forms modules terms old some_atom c rule new
+      → ((bank : Nodes) → HasLine bank rule ≡ AllInTerms bank taken) → TellsGoal forms modules terms old some_atom c rule new
   takes_leaf label k d opened new rule taken step leaf is o e2 e3 e4 t l p =
       let r = bare (form_tree forms d.0) in
       let n = slice_index (ways r) k in
@@ -332,11 +332,11 @@ module _ (forms : Nodes) (modules : List Module) (terms : List At) (old : Walker
       → HasForm forms loading.goal.0 → loading.«module» < length modules
       → Pushes old (LoadingGoal rest) [] 1 0 new → ((bank : Nodes) → line_of bank rule ≡ ForallLine old.eigens)
       → ((bank : Nodes) → AllInTerms bank terms → HasLine bank rule)
-      → Takes forms modules terms old (loading_goal forms ms loading) c rule new
+      → TellsGoal forms modules terms old (loading_goal forms ms loading) c rule new
   takes_local loading rest rule new pos e hg hm s l p =
       let inner = bare_load_all (drop loading.next (clauses_of (slice_get ms loading.«module»))) (bare (form_tree forms loading.goal.0)) in
       let left : Loading = record loading { locals = loading.locals - 1 } in
-      subst (λ (g : Form). Takes forms modules terms old g c rule new) (sym (forall_less loading.locals inner pos))
+      subst (λ (g : Form). TellsGoal forms modules terms old g c rule new) (sym (forall_less loading.locals inner pos))
       (takes_open (Forall (forall_all (loading.locals - 1) inner)) (LoadingGoal left) rule new
       (subst (λ (x : Loading). Pushes old (LoadingGoal x) [] 1 0 new) e s) (hg, hm) l (λ all. refl) p)
 
@@ -346,7 +346,7 @@ module _ (forms : Nodes) (modules : List Module) (terms : List At) (old : Walker
       → loading.«module» < length modules → d.form ≡ form_tree forms clause.0 → HasForm forms clause.0
       → slice_get (clauses_of (slice_get ms loading.«module»)) loading.next ≡ Some d → Pushes old (LoadingGoal rest) (clause ∷ []) 0 0 new
       → label ≡ length old.clauses.items → ((bank : Nodes) → line_of bank rule ≡ load_line d.kind label)
-      → ((bank : Nodes) → AllInTerms bank terms → HasLine bank rule) → Takes forms modules terms old (loading_goal forms ms loading) c rule new
+      → ((bank : Nodes) → AllInTerms bank terms → HasLine bank rule) → TellsGoal forms modules terms old (loading_goal forms ms loading) c rule new
   takes_clause loading rest d clause rule label new none e hg hm same hf at s lab l p =
       let cs = clauses_of (slice_get ms loading.«module») in
       let g = bare (form_tree forms loading.goal.0) in
@@ -356,7 +356,7 @@ module _ (forms : Nodes) (modules : List Module) (terms : List At) (old : Walker
       let front : loading_goal forms ms loading ≡ load d.kind (bare (form_tree forms clause.0)) (shown_goal forms ms (LoadingGoal left)) =
       ap (λ n. forall_all n (bare_load_all (drop loading.next cs) g)) none
       ∙ (ap (λ xs. bare_load_all xs g) (drop-got cs loading.next d at) ∙ (λ j. load d.kind (bare (same j)) (sym shown j))) in
-      subst (λ (x : Form). Takes forms modules terms old x c rule new) (sym front)
+      subst (λ (x : Form). TellsGoal forms modules terms old x c rule new) (sym front)
       (takes_load (load d.kind (bare (form_tree forms clause.0)) (shown_goal forms ms (LoadingGoal left))) (LoadingGoal left) clause rule
       (load_line d.kind (length here.clauses)) new
       (subst (λ (x : Loading). Pushes old (LoadingGoal x) (clause ∷ []) 0 0 new) e s) (hg, hm) hf (λ bank. l bank ∙ ap (load_line d.kind) (label_is label lab))
@@ -389,7 +389,7 @@ front_is forms modules terms old popped g c e e2 e3 e4 =
 
 pub steps_of : (forms : Nodes) (modules : List Module) (terms : List At) (old popped new : Walker) (g : Goal) (c : Step) (rule : Rule)
     → old.goals.items ≡ popped.goals.items ++ g ∷ [] → popped.clauses.items ≡ old.clauses.items
-    → popped.eigens ≡ old.eigens → popped.used ≡ old.used → Takes forms modules terms popped (shown_goal forms (trees forms modules) g) c rule new
+    → popped.eigens ≡ old.eigens → popped.used ≡ old.used → TellsGoal forms modules terms popped (shown_goal forms (trees forms modules) g) c rule new
     → Steps forms modules terms old c rule new
 steps_of forms modules terms old popped new g c rule e e2 e3 e4 t =
     record {

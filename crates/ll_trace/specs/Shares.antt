@@ -13,7 +13,7 @@ use Rattle.ll_trace.specs.declared.deal.Outline.{Outline}
 use Rattle.ll_trace.specs.declared.picks.Pick.{Pick}
 use Rattle.ll_trace.specs.declared.deal.Share.{Share}
 use Rattle.ll_trace.specs.Picks.{all_picks, picks_of_parts, is_used_between}
-use Rattle.ll_trace.specs.Spans.{Fits}
+use Rattle.ll_trace.specs.Spans.{SpansFit}
 
 -- the nodes of trees in prefix order, with their shares dealt out
 abbrev pub all_dealt : List Share → List Tree → List Line
@@ -39,7 +39,7 @@ pub record IsNodeStep (outline : Outline) (first : ℕ) (share : Share) (old new
 -- what a node of these trees becomes, and what the trees to come get
 abbrev pub GivesLine : Outline → ℕ → (Nodes → Line) → Share → List Share → List Share → (Nodes → Line) → Type 0
 GivesLine outline at line share old new dealt =
-    (bank : Nodes) (ts vs : List Tree) → put (line bank) ts ≡ Some vs → Fits outline.spans.items at vs → Fits outline.spans.items (at + 1) ts
+    (bank : Nodes) (ts vs : List Tree) → put (line bank) ts ≡ Some vs → SpansFit outline.spans.items at vs → SpansFit outline.spans.items (at + 1) ts
     → drop at outline.uses ≡ all_picks (share.level ∷ levels (reverse old)) vs → IsNodeStep outline (at + 1) share old new (dealt bank) ts vs
 
 -- the same of a rule
@@ -75,5 +75,5 @@ pub record ArePartsDealt (labels : List ℕ) (b : ℕ) (ps : Parts) (dealt : Lis
 -- what premises become that take these trees, and what those get
 abbrev pub GivesParts : Outline → ℕ → ℕ → ℕ → List ℕ → List Part → List Part → List Share → Type 0
 GivesParts outline from end b labels parts dealt shares =
-    (ts us : List Tree) (ps : Parts) (more : List (Option Pick)) → cut_parts (map part_line parts) ts ≡ Cuts ps us → Fits outline.spans.items from ts
+    (ts us : List Tree) (ps : Parts) (more : List (Option Pick)) → cut_parts (map part_line parts) ts ≡ Cuts ps us → SpansFit outline.spans.items from ts
     → end ≡ from + part_nodes ps → drop from outline.uses ≡ picks_of_parts b ps ++ more → ArePartsDealt labels b ps dealt shares ts us

@@ -13,7 +13,7 @@ use Rattle.ll_laws.specs.Problem.{ProblemTree}
 use Rattle.ll_trace.specs.Bare.{bare, premises_at, bare_load}
 
 -- where a walk stands, all formulas without terms: the goals still to be proved, the clauses loaded so far by their labels, the number of
--- eigenconstants, and how many of the branch's terms have been used
+-- eigenvariables, and how many of the branch's terms have been used
 pub record Walk : Type 0 where
   pub goals : List Form
   pub clauses : List Form

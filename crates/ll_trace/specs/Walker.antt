@@ -42,7 +42,7 @@ MayTake forms modules terms w g c = IsTold (tell_goal (trees forms modules) (ter
     (stacked forms (trees forms modules) w.goals.items []) c)
 
 -- the step tells this node of the goal in front, and the walker goes on
-pub record Takes (forms : Nodes) (modules : List Module) (terms : List At) (old : Walker) (g : Form) (c : Step) (rule : Rule) (new : Walker) : Type 0 where
+pub record TellsGoal (forms : Nodes) (modules : List Module) (terms : List At) (old : Walker) (g : Form) (c : Step) (rule : Rule) (new : Walker) : Type 0 where
   pub told : (bank : Nodes) → tell_goal (trees forms modules) (term_trees bank terms) (walk_of forms (trees forms modules) old) g
       (stacked forms (trees forms modules) old.goals.items []) c
       ≡ Tells (line_of bank rule) (walk_of forms (trees forms modules) new)
@@ -62,7 +62,7 @@ pub record Steps (forms : Nodes) (modules : List Module) (terms : List At) (old 
   pub used : new.used ≤ length terms
   pub places : (bank : Nodes) → AllInTerms bank terms → HasLine bank rule
 
--- one goal more is in front, there are these clauses more, and so many more eigenconstants and used terms
+-- one goal more is in front, there are these clauses more, and so many more eigenvariables and used terms
 pub record Pushes (old : Walker) (goal : Goal) (loads : List FormAt) (opens fills : ℕ) (new : Walker) : Type 0 where
   pub goals : new.goals.items ≡ old.goals.items ++ goal ∷ []
   pub clauses : new.clauses.items ≡ old.clauses.items ++ loads

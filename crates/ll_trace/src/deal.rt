@@ -48,8 +48,8 @@ pub(crate) fn deal(
     labels: Vec<u32>,
     rules: &mut Vec<Rule>,
 ) -> Result<(), OutOfMemory>
-    ensures dealt { OnOk result ((bank : Nodes) (x : Tree) → trees_of (map (line_of bank) rules.old.items) ≡ Some (x ∷ [])
-        → map (line_of bank) rules.new.items ≡ lines (deal_labels labels.items x)) }
+    ensures dealt { OnOk result ((bank : Nodes) (x : Tree) → trees_of (map (line_of bank) rules.old.items)
+        ≡ Some (x ∷ []) → map (line_of bank) rules.new.items ≡ lines (deal_labels labels.items x)) }
     ensures places { OnOk result ((bank : Nodes) → HasLines bank rules.old.items → HasLines bank rules.new.items) }
 {
     let picks = picks(alloc, rules)?;
@@ -69,8 +69,8 @@ fn deal_by(
 ) -> Result<(), OutOfMemory>
     requires spans { AreSpans rules.old.items outline.now.spans.items }
     requires picks { ArePicks rules.old.items outline.now.uses }
-    ensures dealt { OnOk result ((bank : Nodes) (x : Tree) → trees_of (map (line_of bank) rules.old.items) ≡ Some (x ∷ [])
-        → map (line_of bank) rules.new.items ≡ lines (deal_labels labels.items x)) }
+    ensures dealt { OnOk result ((bank : Nodes) (x : Tree) → trees_of (map (line_of bank) rules.old.items)
+        ≡ Some (x ∷ []) → map (line_of bank) rules.new.items ≡ lines (deal_labels labels.items x)) }
     ensures places { OnOk result ((bank : Nodes) → HasLines bank rules.old.items → HasLines bank rules.new.items) }
 {
     let nodes = std::mem::replace(rules, Vec::new(alloc));
@@ -154,7 +154,8 @@ fn deal_bang(alloc: Global, share: &Share, pending: &mut Vec<Share>) -> Result<R
 
 // A lolli node with its share, which goes to the tree below it with one label more.
 fn deal_lolli(label: u32, mut share: Share, pending: &mut Vec<Share>) -> Result<Rule, OutOfMemory>
-    ensures dealt { IfOk result (λ dealt. GivesAnywhere (LolliLine label) share pending.old.items pending.new.items dealt) }
+    ensures dealt { IfOk result (λ dealt. GivesAnywhere
+        (LolliLine label) share pending.old.items pending.new.items dealt) }
     ensures keeps { IfOk result (λ dealt. (bank : Nodes) → HasLine bank dealt) }
 {
     share.labels.push(label)?;

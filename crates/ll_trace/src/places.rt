@@ -82,7 +82,8 @@ fn add_place(
     pick: Pick,
     at: usize,
 ) -> Result<(), OutOfMemory>
-    ensures { OnOk result ((n : ℕ) → row_of (get nat_cmp places.new n) ≡ row_of (get nat_cmp places.old n) ++ places_of n at (Some pick ∷ [])) }
+    ensures { OnOk result ((n : ℕ) → row_of (get nat_cmp places.new n) ≡ row_of (get nat_cmp places.old n)
+        ++ places_of n at (Some pick ∷ [])) }
 {
     let mut row = places.remove(&pick.label).unwrap_or(Vec::new(alloc));
     row.push(Place {

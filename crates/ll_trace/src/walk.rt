@@ -8,7 +8,7 @@ ghost use Rattle.ll_trace.specs.Bare.{bare, some_atom};
 ghost use Rattle.ll_trace.specs.Walk.{told};
 ghost use Rattle.ll_trace.specs.Goals.{loading_goal};
 ghost use Rattle.ll_trace.specs.declared.walk.Goal.TheVariants.{Plain};
-ghost use Rattle.ll_trace.specs.Walker.{trees, walk_of, IsInside, MayTake, Takes, MayStep, Steps, Pushes, TakesSide, MayTakeAtom, AreNodes};
+ghost use Rattle.ll_trace.specs.Walker.{trees, walk_of, IsInside, MayTake, TellsGoal, MayStep, Steps, Pushes, TakesSide, MayTakeAtom, AreNodes};
 
 use crate::leaf::open_leaf;
 use ll_bank::{At, Bank, FormAt, FormNode, OutOfMemory};
@@ -57,7 +57,7 @@ pub(crate) struct Walker {
     pub goals: Vec<Goal>,
     /// The clauses loaded so far, by their labels.
     pub clauses: Vec<FormAt>,
-    /// The number of eigenconstants.
+    /// The number of eigenvariables.
     pub eigens: u32,
     /// How many of the branch's terms have been used.
     pub used: usize,
@@ -133,7 +133,8 @@ impl Walker {
         requires used { self.old.used ≤ length terms.now }
         requires form { HasForm forms.now form.0 }
         requires may { MayTake forms.now modules.now terms.now self.old (bare (form_tree forms.now form.0)) step }
-        ensures { IfOk result (λ rule. Takes forms.now modules.now terms.now self.old (bare (form_tree forms.now form.0)) step rule self.new) }
+        ensures { IfOk result (λ rule. TellsGoal forms.now modules.now terms.now self.old
+            (bare (form_tree forms.now form.0)) step rule self.new) }
     {
         match forms.form_at(form) {
             FormNode::One => Ok(Rule::One),
@@ -197,9 +198,10 @@ impl Walker {
         requires used { self.old.used ≤ length terms.now }
         requires goal { HasForm forms.now loading.goal.0 }
         requires known { loading.«module» < length modules.now }
-        requires may { MayTake forms.now modules.now terms.now self.old (loading_goal forms.now (trees forms.now modules.now) loading) step }
-        ensures { IfOk result (λ rule. Takes forms.now modules.now terms.now self.old (loading_goal forms.now (trees forms.now modules.now) loading) step rule
-            self.new) }
+        requires may { MayTake forms.now modules.now terms.now self.old
+            (loading_goal forms.now (trees forms.now modules.now) loading) step }
+        ensures { IfOk result (λ rule. TellsGoal forms.now modules.now terms.now self.old
+            (loading_goal forms.now (trees forms.now modules.now) loading) step rule self.new) }
     {
         if loading.locals > 0 {
             let locals = loading.locals - 1;
@@ -229,7 +231,7 @@ impl Walker {
         requires used { self.old.used ≤ length terms.now }
         requires may { MayTakeAtom forms.now self.old step }
         ensures { IfOk result (λ rule. (modules : List ModuleView) → IsInside forms.now (length modules) self.old
-            → Takes forms.now modules terms.now self.old some_atom step rule self.new) }
+            → TellsGoal forms.now modules terms.now self.old some_atom step rule self.new) }
     {
         let Step::Clause { label, leaf } = step else {
             unreachable!()
@@ -259,7 +261,7 @@ impl Walker {
         Ok(label)
     }
 
-    /// Opens a goal with the next eigenconstant, and gives its number.
+    /// Opens a goal with the next eigenvariable, and gives its number.
     fn open(&mut self, goal: Goal) -> Result<u32, OutOfMemory>
         ensures eigen { IfOk result (λ eigen. eigen ≡ self.old.eigens) }
         ensures pushed { OnOk result (Pushes self.old goal [] 1 0 self.new) }

@@ -1,6 +1,6 @@
 -- What the first pass finds when it closes the turn.
 use Rattle.std.proofs.Common.{◌≡◌, ℕ, List, [], Option, Some, None, ap, sym, ◌∙◌, subst}
-use Rattle.ll_lists.proofs.CallerLemmas.{some_is as value_of_some}
+use Rattle.ll_list_laws.proofs.CallerLemmas.{some_is as value_of_some}
 use mathlib.Core.Option.{some, some-injective}
 use lib.ListN.{get_elem?}
 use Rattle.atomic_table.specs.Table.{Final, Seen}

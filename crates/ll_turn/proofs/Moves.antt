@@ -9,7 +9,7 @@ use lib.ListN.{get_elem?}
 use lib.Seq.{set-get_or, map-set}
 use prog.Atomic.{either}
 use Rattle.std.proofs.Common.{eqb}
-use Rattle.ll_lists.proofs.CallerLemmas.{some_is as value_of_some}
+use Rattle.ll_list_laws.proofs.CallerLemmas.{some_is as value_of_some}
 use Rattle.atomic_table.specs.Table.{State, Act, step, keeps, takes, gives, Valid, stepped, carried_after, Allows}
 use Rattle.atomic_table.proofs.Lists.{at_set, set_again, at_map, exchanged}
 use Rattle.ll_turn.specs.Numbers.{Numbers, IsProper}

@@ -44,8 +44,10 @@ impl<S: Kept> Pass<S> {
         requires own { self.old.table ≡ turn.now }
         requires rests { self.old.before ≡ None }
         requires some_left { HasToGive (S.numbers self.old.mine) }
-        ensures kept { self.new
-            ≡ record self.old { mine = (S.parted self.old.mine).0; given = (S.numbers self.old.mine).from ∷ self.old.given } }
+        ensures kept { self.new ≡ record self.old {
+          mine = (S.parted self.old.mine).0;
+          given = (S.numbers self.old.mine).from ∷ self.old.given;
+        } }
         ensures new { result ≡ record self.old { mine = (S.parted self.old.mine).1; given = [] } }
         ensures numbers { IsParted (S.numbers self.old.mine) (S.numbers self.new.mine) (S.numbers result.mine) }
     {

@@ -52,7 +52,8 @@ fn lay<S: Kept>(
     requires slots { slots.items ≡ Some origin.now.value ∷ [] }
     requires fits { S.fit origin.now.value (S.begin origin.now.value).0 (S.begin origin.now.value).1 }
     ensures table { IfOk result (λ t. HasWordAndSlot t.0.shared.table_id × (t.1.table_id ≡ t.0.shared.table_id)) }
-    ensures first { IfOk result (λ t. t.1.me ≡ (live (S.begin origin.now.value).0 (S.begin origin.now.value).1 Rests [], [])) }
+    ensures first { IfOk result (λ t. t.1.me
+        ≡ (live (S.begin origin.now.value).0 (S.begin origin.now.value).1 Rests [], [])) }
     ensures err { IfErr result (λ refused. refused.slots.items ≡ slots.items) }
 {
     Table::new(alloc, &[0], slots, origin)
@@ -64,8 +65,13 @@ impl<S: Kept> Turn<S> {
     /// Where there is no memory, `OutOfMemory` gives the value back.
     pub fn new(alloc: Global, value: S) -> Result<(Turn<S>, Pass<S>), NewFault<S>>
         requires { S.fit value (S.begin value).0 (S.begin value).1 }
-        ensures ok { IfOk result (λ t. t.1
-            ≡ record { table = t.0; problem = (S.begin value).0; mine = (S.begin value).1; before = None; given = [] }) }
+        ensures ok { IfOk result (λ t. t.1 ≡ record {
+          table = t.0;
+          problem = (S.begin value).0;
+          mine = (S.begin value).1;
+          before = None;
+          given = [];
+        }) }
         ensures numbers { IfOk result (λ t. IsFirst (S.numbers t.1.mine)) }
         ensures err { IfErr result (λ fault. fault ≡ NewFault.OutOfMemory value) }
     {

@@ -4,18 +4,19 @@ use Rattle.std.specs.Prelude.{Option, Some, None}
 use Rattle.std.specs.List.{list_all}
 use Rattle.std.proofs.lemmas.Bool.{eq-eqb, cases_lt}
 use Rattle.std.proofs.Math.ListN.{get_or-eq_default}
-use Rattle.ll_lists.proofs.CallerLemmas.{and_true_left as and_left, and_true_right as and_right}
+use Rattle.ll_list_laws.proofs.CallerLemmas.{and_true_left as and_left, and_true_right as and_right}
 use Rattle.ll_bank.specs.declared.At.{At}
 use Rattle.ll_bank.specs.Term.{Term, Var, sub, occurs}
 use Rattle.ll_bank.specs.Nodes.{Nodes, term_tree, term_trees, AllInTerms}
 use Rattle.ll_laws.specs.Unify.{Solved, mgu, vars_below}
 use Rattle.ll_laws.proofs.CallerLemmas.{sub_id, sub_same, found-unifier, found-falls, found-best, none-unifier}
-use Rattle.ll_bindings.specs.Bindings.{Table, cell, count, found, IsTable, IsPlaceOf, BindsPlaces}
-use Rattle.ll_equate.specs.Solving.{IsAnswer, wanted}
-use Rattle.ll_copy.specs.Copied.{IsFinal, AreFinal}
-use Rattle.ll_bindings.proofs.CallerLemmas.{found-free, found-unbound, place-below, table-unbound}
-use Rattle.ll_equate.proofs.CallerLemmas.{wanted-start}
-use Rattle.ll_unify.specs.declared.table.Table.{Table as KeptTable}
+use Rattle.ll_unify.specs.Bindings.{Table, cell, count, found, IsTable, IsPlaceOf, BindsPlaces}
+use Rattle.ll_unify.specs.Solving.{IsAnswer, wanted}
+use Rattle.ll_unify.specs.Copied.{IsFinal, AreFinal}
+use Rattle.ll_unify.proofs.Readings.{found-free}
+use Rattle.ll_unify.proofs.BindingLaws.{found-unbound, place-below, table-unbound}
+use Rattle.ll_unify.proofs.EquationLaws.{wanted-start}
+use Rattle.ll_unify.specs.declared.mgu_table.Table.{Table as KeptTable}
 use Rattle.ll_unify.specs.declared.Subst.{Subst}
 use Rattle.ll_unify.specs.Tables.{table_of, IsStart}
 use Rattle.ll_unify.specs.Unifies.{shown, solved_of, IsEntry, HasEntries, IsBest}

@@ -1,1 +1,20 @@
 mod Answer
+pub mod Spines
+pub mod Stacks
+pub mod Readings
+pub mod Tables
+pub mod Views
+pub mod Frames
+pub mod BindingLaws
+pub mod Scans
+pub mod Alike
+pub mod Binding
+pub mod Pairs
+pub mod Solving
+pub mod FreshLemmas
+pub mod Settling
+pub mod EquationLaws
+pub mod NovelLemmas
+pub mod Copies
+pub mod Carrying
+pub mod CallerLemmas

@@ -1,2 +1,13 @@
 pub mod Tables
 pub mod Unifies
+pub mod Spines
+pub mod Stacks
+pub mod Bindings
+pub mod Frames
+pub mod Scanned
+pub mod Fresh
+pub mod Pairs
+pub mod Solving
+pub mod Novel
+pub mod Copied
+pub mod Carried

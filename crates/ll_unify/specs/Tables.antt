@@ -1,7 +1,7 @@
 -- The bindings made so far as a table.
 use Rattle.std.specs.Prelude.{◌≡◌, ℕ, List, length, None}
-use Rattle.ll_bindings.specs.Bindings.{Table, cell}
-use Rattle.ll_unify.specs.declared.table.Table.{Table as KeptTable}
+use Rattle.ll_unify.specs.Bindings.{Table, cell}
+use Rattle.ll_unify.specs.declared.mgu_table.Table.{Table as KeptTable}
 
 -- what the variables are bound to, and their levels
 abbrev pub table_of : KeptTable → Table

@@ -1,63 +1,110 @@
-//! The bindings made so far.
-ghost use Rattle.std.specs.Prelude.{IfOk};
+//! Tables of bindings.
+ghost use Rattle.std.specs.Prelude.{◌≡◌, ◌<◌, ◌≤◌, ℕ, ◌+◌, ◌^◌, length, IfOk, OnOk, IfSome, None, slice_index, slice_index_or};
+ghost use Rattle.ll_bank.specs.Term.{Term, sub};
+ghost use Rattle.ll_bank.specs.Nodes.{term_tree, HasTerm};
+ghost use Rattle.ll_unify.specs.Bindings.{Table, IsTable, IsPlaceOf, IsValue, IsEnd, IsAmong, AreSame, IsSet, IsLevel};
+ghost use Rattle.ll_unify.specs.Spines.{IsArgument, AreArguments};
 
-use ll_bank::{At, OutOfMemory};
-use ll_bindings::Bindings;
-use std::alloc::Global;
+use ll_bank::{At, Bank, OutOfMemory, TermView};
 
-/// The bindings made so far, with the levels.
-#[derive(Drop)]
-pub struct Table {
-    /// What each variable is bound to.
-    pub bound: Vec<Option<At>>,
-    /// The level of each variable; a bound one keeps that which it had.
-    pub levels: Vec<u32>,
+/// What each variable is bound to, and its level.
+pub trait Bindings {
+    /// What contracts see of it.
+    ghost table: { Self → Table };
+
+    /// How calls may change it, besides what they do to the table.
+    ghost grows: { Self → Self → Type 0 };
+
+    /// What a variable is bound to.
+    fn value(&self, var: usize) -> Option<At>
+        requires { var < length (table self.now).bound }
+        ensures { slice_index_or (table self.now).bound var None ≡ result };
+
+    /// The level of a variable.
+    fn level(&self, var: usize) -> u32
+        requires { var < length (table self.now).levels }
+        ensures { slice_index (table self.now).levels var ≡ result };
+
+    /// Binds a variable that is unbound.
+    fn set(&mut self, var: usize, to: At) -> Result<(), OutOfMemory>
+        requires below { var < length (table self.old).bound }
+        requires free { slice_index_or (table self.old).bound var None ≡ None }
+        ensures set { OnOk result (IsSet (table self.old) (table self.new) var to) }
+        ensures grows { grows self.old self.new };
+
+    /// Gives a variable a lower level.
+    fn lower(&mut self, var: usize, level: u32) -> Result<(), OutOfMemory>
+        requires below { var < length (table self.old).levels }
+        requires lower { level < slice_index (table self.old).levels var }
+        ensures level { OnOk result (IsLevel (table self.old) (table self.new) var level) }
+        ensures grows { grows self.old self.new };
+
+    /// What stays as it is has grown.
+    ghost stays: { (t : Self) → grows t t };
+
+    /// What grew twice has grown.
+    ghost again: { (s t u : Self) → grows s t → grows t u → grows s u };
 }
 
-impl Table {
-    ghost use Rattle.ll_unify.specs.Tables.{IsStart};
+// What the variable at a place is bound to.
+#[inline]
+fn value<T: Bindings>(bank: &Bank, table: &T, at: At) -> Option<At>
+    requires table { IsTable bank.now (T.table table.now) }
+    requires place { IsPlaceOf bank.now (T.table table.now) at.0 }
+    ensures { IsValue (T.table table.now) (term_tree bank.now at.0) result }
+{
+    match bank.term_at(at) {
+        TermView::Var(var) => table.value(var as usize),
+        TermView::Int(_) => None,
+        TermView::App(_, _) => None,
+    }
+}
 
-    /// No bindings.
-    pub fn new(alloc: Global, levels: &[u32]) -> Result<Self, OutOfMemory>
-        ensures { IfOk result (λ table. IsStart table levels.now) }
-    {
-        let mut bound = Vec::new(alloc);
-        for _level in levels {
-            bound.push(None)?;
+/// The place that is reached from a place through bound variables.
+#[inline]
+pub fn walk<T: Bindings>(bank: &Bank, table: &T, at: At) -> At
+    requires table { IsTable bank.now (T.table table.now) }
+    requires place { IsPlaceOf bank.now (T.table table.now) at.0 }
+    ensures end { IsEnd bank.now (T.table table.now) result.0 }
+    ensures same { AreSame bank.now (T.table table.now) (term_tree bank.now result.0) (term_tree bank.now at.0) }
+    ensures among { IsAmong (T.table table.now) at result }
+{
+    let mut end = at;
+    while let Some(to) = value(bank, table, end) {
+        end = to;
+    }
+    end
+}
+
+/// An argument of the term at a place.
+#[inline]
+pub fn argument(bank: &Bank, at: At, number: usize) -> Option<At>
+    requires { HasTerm bank.now at.0 }
+    ensures argument { IsArgument bank.now at.0 number result }
+    ensures room { IfSome result (λ _. number + 1 < 2 ^ 64) }
+{
+    match bank.term_at(at) {
+        TermView::Var(_) => None,
+        TermView::Int(_) => None,
+        TermView::App(_, args) => {
+            if number < args.len() {
+                Some(args[number])
+            } else {
+                None
+            }
         }
-        Ok(Table {
-            bound,
-            levels: levels.to_vec(alloc)?,
-        })
     }
 }
 
-impl Bindings for Table {
-    ghost use Rattle.ll_unify.specs.Tables.{table_of};
-
-    ghost table = { table_of };
-
-    ghost grows = { λ s t. Unit {0} };
-
-    fn value(&self, var: usize) -> Option<At> {
-        self.bound[var]
+/// The arguments of the term at a place.
+#[inline]
+pub fn arguments(bank: &Bank, at: At) -> &[At]
+    requires { HasTerm bank.now at.0 }
+    ensures { AreArguments bank.now at.0 result.now }
+{
+    match bank.term_at(at) {
+        TermView::Var(_) => &[],
+        TermView::Int(_) => &[],
+        TermView::App(_, args) => args,
     }
-
-    fn level(&self, var: usize) -> u32 {
-        self.levels[var]
-    }
-
-    fn set(&mut self, var: usize, to: At) -> Result<(), OutOfMemory> {
-        self.bound[var] = Some(to);
-        Ok(())
-    }
-
-    fn lower(&mut self, var: usize, level: u32) -> Result<(), OutOfMemory> {
-        self.levels[var] = level;
-        Ok(())
-    }
-
-    ghost stays = { λ t. tt };
-
-    ghost again = { λ s t u h k. tt };
 }

@@ -5,7 +5,7 @@ use ll_edge::{FileShelf, StdSink, lent, words};
 use std::io;
 use std::process::ExitCode;
 
-// The status of a call for which memory was wanting before there were words.
+// The status of a call for which memory ran out before there were words.
 const OUT_OF_MEMORY: u8 = 10;
 
 fn main(rt: HostRuntime) -> ExitCode {

@@ -4,7 +4,7 @@ use Rattle.std.proofs.Common.{None}
 use Rattle.std.specs.Prelude.{flat_map, slice_get, sum_by}
 use Rattle.std.proofs.lemmas.Bool.{false≢true}
 use Rattle.std.proofs.lemmas.List.{take_all}
-use Rattle.ll_lists.proofs.CallerLemmas.{some_is}
+use Rattle.ll_list_laws.proofs.CallerLemmas.{some_is}
 use Rattle.ll_laws.specs.Pool.{Owed, Open, Closed, Taken, Piece, PoolData}
 use Rattle.ll_laws.specs.Spread.{share, owed_at, owes_of}
 use Rattle.ll_laws.specs.Sound.{Shaped, Sound, is_open, is_taken_status, report_of}

@@ -2,7 +2,7 @@
 use Rattle.std.proofs.Common.{◌≡◌, ℕ, zero, suc, List, [], ◌∷◌, true, not, length, refl, sym, ap, arith, Some}
 use Rattle.std.specs.Prelude.{slice_get}
 use Rattle.std.specs.List.{list_all}
-use Rattle.ll_lists.proofs.CallerLemmas.{none_not_some, some_is}
+use Rattle.ll_list_laws.proofs.CallerLemmas.{none_not_some, some_is}
 use Rattle.ll_laws.specs.Pool.{Owed, Alternative}
 use Rattle.ll_laws.specs.Spread.{walk}
 use Rattle.ll_laws.specs.Sound.{Shaped, Sound, is_taken}

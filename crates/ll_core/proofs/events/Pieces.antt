@@ -3,7 +3,7 @@ use Rattle.std.proofs.Common.{◌≡◌, ◌⊎◌, ℕ, zero, suc, ◌<◌, Lis
 use Rattle.std.proofs.Common.{Some, None}
 use Rattle.std.specs.Prelude.{flat_map, slice_get, find, cond}
 use Rattle.std.proofs.lemmas.Bool.{eqb-true, eq-eqb, cases_Bool, and_parts, and_from, cond-true, cond-false}
-use Rattle.ll_lists.proofs.CallerLemmas.{some_is, none_not_some}
+use Rattle.ll_list_laws.proofs.CallerLemmas.{some_is, none_not_some}
 use Rattle.ll_laws.specs.Pool.{Piece, Alternative}
 use Rattle.ll_laws.specs.Spread.{is_of, piece_of}
 use Rattle.ll_laws.specs.CoreEvents.{change}

@@ -8,7 +8,7 @@ use Rattle.std.proofs.lemmas.List.{take_at, length-append, length_push, map_push
 use Rattle.std.proofs.lemmas.List.Concat.{flat_map-append}
 use Rattle.std.proofs.lemmas.List.Sums.{sum_by_push, sum_by-cons}
 use Rattle.std.proofs.lemmas.List.Folds.{list_all-append}
-use Rattle.ll_lists.proofs.CallerLemmas.{some_is, none_not_some}
+use Rattle.ll_list_laws.proofs.CallerLemmas.{some_is, none_not_some}
 use Rattle.ll_laws.specs.Pool.{Owed, Status, Piece, PoolData, Alternative}
 use Rattle.ll_laws.specs.Spread.{alternatives_of, numbers, last_first, walk_deep, is_of, piece_of, kids_of, published_by, share, owed_at, owed_by}
 use Rattle.ll_laws.specs.Spread.{list_or_empty, owed_or_nothing, owes_of, length_of, walk, given_events, given_cost, batch_events, batch_cost}

@@ -5,7 +5,7 @@ use Rattle.std.specs.Prelude.{slice_get}
 use Rattle.std.specs.List.{list_all}
 use Rattle.std.proofs.lemmas.Bool.{cases_Bool, cases_eq, false≢true, true≢false, and_parts, and_from, not_from_true}
 use Rattle.std.proofs.lemmas.List.Folds.{list_all-append}
-use Rattle.ll_lists.proofs.CallerLemmas.{some_is, none_not_some}
+use Rattle.ll_list_laws.proofs.CallerLemmas.{some_is, none_not_some}
 use Rattle.ll_laws.specs.Pool.{Owed, Status, Open, Closed, Taken, Piece, PoolData, Alternative}
 use Rattle.ll_laws.specs.Spread.{is_of, piece_of, kids_of, published_by, share, owes_of, length_of, walk}
 use Rattle.ll_laws.specs.Sound.{Each, Reported, report_of, Shaped, Sound, HasPiece, is_open, is_taken, is_taken_piece, is_taken_status, count_open, count_of}

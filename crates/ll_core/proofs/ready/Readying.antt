@@ -4,7 +4,7 @@ use Rattle.std.proofs.Common.{Some, None, get_or}
 use Rattle.std.specs.Prelude.{slice_get, slice_index}
 use Rattle.std.proofs.lemmas.Bool.{cases_Bool, true≢false}
 use Rattle.std.proofs.lemmas.List.{get_or_default, map_push, length-append, length-map}
-use Rattle.ll_lists.proofs.CallerLemmas.{some_is, none_not_some}
+use Rattle.ll_list_laws.proofs.CallerLemmas.{some_is, none_not_some}
 use Rattle.ll_laws.specs.Pool.{Owed, Status, Open, Closed, Taken, Piece, PoolData, Alternative}
 use Rattle.ll_laws.specs.Spread.{last_first, length_of, is_of, piece_of, kids_of}
 use Rattle.ll_laws.specs.Sound.{is_taken_piece, is_taken_status}

@@ -9,7 +9,7 @@ use Rattle.std.specs.declared.sync.Arc.{Arc}
 use Rattle.std.proofs.Math.ListN.{set}
 use Rattle.std.proofs.lemmas.Bool.{cases_Bool, and_parts, eqb-true, false≢true}
 use Rattle.std.proofs.lemmas.List.{length-map, map_push}
-use Rattle.ll_lists.proofs.CallerLemmas.{none_not_some, some_is}
+use Rattle.ll_list_laws.proofs.CallerLemmas.{none_not_some, some_is}
 use Rattle.ll_laws.specs.Pool.{Owed, Status, Open, Closed, Taken, Piece, PoolData, Alternative, place}
 use Rattle.ll_laws.specs.Spread.{length_of, list_or_empty, piece_of, walk}
 use Rattle.ll_laws.specs.Sound.{Each, is_open, is_taken, is_taken_piece, is_taken_status, count_open}

@@ -5,7 +5,7 @@ use Rattle.std.specs.Prelude.{flat_map, slice_get, sum_by}
 use Rattle.std.proofs.lemmas.Bool.{cases_Bool, cases_eq, cases_lt, and_parts, eqb-true}
 use Rattle.std.proofs.lemmas.List.{length-append, length-map, map-append}
 use Rattle.std.proofs.lemmas.List.Sums.{sum_by-cons}
-use Rattle.ll_lists.proofs.CallerLemmas.{some_is, none_not_some, slice_get-append_left}
+use Rattle.ll_list_laws.proofs.CallerLemmas.{some_is, none_not_some, slice_get-append_left}
 use Rattle.ll_laws.specs.Pool.{Owed, Piece, PoolData, Alternative}
 use Rattle.ll_laws.specs.Spread.{list_or_empty, numbers, alternatives_of, owed_by, owes_of, length_of, is_of}
 use Rattle.ll_laws.specs.Sound.{Each, Shaped, HasPiece, is_open, count_open, count_of, all_published}
@@ -24,10 +24,6 @@ total_swap : {X Y : Type 0} (f : X → Y → ℕ) (xs : List X) (ys : List Y) �
 total_swap f [] [] = refl
 total_swap f [] (y ∷ ys) = let h = total_swap f [] ys in omega arith
 total_swap f (x ∷ xs) ys = let h = total_swap f xs ys in let e = total_sum (f x) (λ y. total (λ x. f x y) xs) ys in omega arith
-
-total_one : {X : Type 0} (xs : List X) → total (λ x. 1) xs ≡ length xs
-total_one [] = refl
-total_one (x ∷ xs) = let h = total_one xs in omega arith
 
 -- where no part is above 1 and the sum is the number of parts, each part is 1
 full : {X : Type 0} (f : X → ℕ) → ((x : X) → f x ≤ 1) → (xs : List X) → total f xs ≤ length xs

@@ -5,7 +5,7 @@ use Rattle.std.specs.Prelude.{flat_map, slice_get, sum_by}
 use Rattle.std.proofs.lemmas.Bool.{cases_eq, false≢true}
 use Rattle.std.proofs.lemmas.List.{map-append, length-map}
 use Rattle.std.proofs.lemmas.List.Sums.{sum_by-cons}
-use Rattle.ll_lists.proofs.CallerLemmas.{slice_get-append_left as get_left, some_is}
+use Rattle.ll_list_laws.proofs.CallerLemmas.{slice_get-append_left as get_left, some_is}
 use Rattle.ll_laws.specs.Pool.{Owed, Status, Open, Closed, Taken, Piece, PoolData}
 use Rattle.ll_laws.specs.Spread.{list_or_empty, owed_or_nothing, owed_by, owed_at, batch_events, batch_cost, given_events, given_cost, share, owes_of}
 use Rattle.ll_laws.specs.Sound.{Every, is_open}

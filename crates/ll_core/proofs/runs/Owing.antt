@@ -6,7 +6,7 @@ use Rattle.std.specs.List.{list_all}
 use Rattle.std.proofs.lemmas.Bool.{and_parts}
 use Rattle.std.proofs.lemmas.List.{length-append}
 use Rattle.std.proofs.lemmas.List.Concat.{flat_map-append}
-use Rattle.ll_lists.proofs.CallerLemmas.{some_is, false_from_not}
+use Rattle.ll_list_laws.proofs.CallerLemmas.{some_is, false_from_not}
 use Rattle.ll_laws.specs.Pool.{Owed, Closed, Piece, PoolData, Alternative}
 use Rattle.ll_laws.specs.Spread.{piece_of, piece_events, gives, share, owes_of, length_of, walk, kids_of}
 use Rattle.ll_laws.specs.Search.{cut_count}

@@ -8,7 +8,7 @@ use Rattle.ll_laws.specs.Spread.{numbers, last_first, piece_of, kids_of, publish
 use Rattle.ll_laws.specs.Spread.{given_events, share, piece_events, gives, owes_of, length_of, spread}
 use Rattle.ll_laws.specs.Sound.{Every, Each, Reported, Sound}
 use Rattle.std.proofs.lemmas.Bool.{cases_lt}
-use Rattle.ll_lists.proofs.CallerLemmas.{none_not_some, some_is}
+use Rattle.ll_list_laws.proofs.CallerLemmas.{none_not_some, some_is}
 use Rattle.ll_core.proofs.walks.Walks.{every_more, walk_gives}
 use Rattle.ll_core.proofs.events.Pieces.{lookup}
 

@@ -9,7 +9,7 @@ use Rattle.std.proofs.Math.ListN.{set}
 use Rattle.ll_core.proofs.events.Publishes.{get_other}
 use Rattle.std.proofs.lemmas.List.{map_push, length-append, length-map, map-append, length_push}
 use Rattle.std.proofs.lemmas.Bool.{cases_eq}
-use Rattle.ll_lists.proofs.CallerLemmas.{some_is, none_not_some}
+use Rattle.ll_list_laws.proofs.CallerLemmas.{some_is, none_not_some}
 use Rattle.ll_laws.specs.Pool.{Owed, Open, Closed, Piece, PoolData, Alternative}
 use Rattle.ll_laws.specs.Spread.{owed_by, list_or_empty, alternatives_of, numbers}
 use Rattle.ll_laws.specs.Sound.{Every, is_open, count_open}

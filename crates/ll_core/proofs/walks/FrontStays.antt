@@ -6,7 +6,7 @@ use Rattle.std.specs.Prelude.{flat_map, slice_get}
 use Rattle.std.specs.List.{list_all}
 use Rattle.std.proofs.lemmas.Bool.{cases_Bool, and_parts, and_from, false≢true, cases_lt, eqb-true}
 use Rattle.std.proofs.lemmas.List.Concat.{flat_map-append}
-use Rattle.ll_lists.proofs.CallerLemmas.{some_is}
+use Rattle.ll_list_laws.proofs.CallerLemmas.{some_is}
 use Rattle.ll_laws.specs.Pool.{Owed, Taken, Piece, PoolData, Alternative}
 use Rattle.ll_laws.specs.Spread.{numbers, last_first, walk_alternative, walk_deep, piece_of, piece_events, gives, share, owes_of, length_of, walk, kids_of}
 use Rattle.ll_laws.specs.Spread.{published_by}

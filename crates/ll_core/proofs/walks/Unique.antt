@@ -2,7 +2,7 @@
 use Rattle.std.proofs.Common.{◌≡◌, ℕ, zero, suc, ◌<◌, List, [], ◌∷◌, ◌++◌, true, false, length, refl, sym, ap, ◌∙◌, subst, ⊎_elim, arith, Option, Some, None}
 use Rattle.std.specs.Prelude.{slice_get}
 use Rattle.std.proofs.lemmas.Bool.{cases_Bool, cases_eq, false≢true}
-use Rattle.ll_lists.proofs.CallerLemmas.{some_is, none_not_some}
+use Rattle.ll_list_laws.proofs.CallerLemmas.{some_is, none_not_some}
 use Rattle.ll_laws.specs.Pool.{Owed, Piece, PoolData, Alternative}
 use Rattle.ll_laws.specs.Spread.{is_of, piece_of, kids_of, published_by, length_of, walk}
 use Rattle.ll_laws.specs.Sound.{Every, Shaped, count_of, all_published}

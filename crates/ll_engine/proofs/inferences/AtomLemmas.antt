@@ -5,7 +5,7 @@ use Rattle.std.proofs.Math.Seq.{drop-append_seam}
 use Rattle.std.proofs.lemmas.List.{take-append-drop, take-map, length-map, append-nil}
 use Rattle.std.proofs.lemmas.List.Elements.{All-head, All-tail, All-cons, All-append}
 use Rattle.std.proofs.lemmas.Grind.{flat_map-append}
-use Rattle.ll_lists.proofs.CallerLemmas.{and_true_left as and_left, and_true_right as and_right}
+use Rattle.ll_list_laws.proofs.CallerLemmas.{and_true_left as and_left, and_true_right as and_right}
 use Rattle.ll_bank.specs.declared.At.{At}
 use Rattle.ll_bank.specs.declared.FormAt.{FormAt}
 use Rattle.ll_bank.specs.declared.FormNode.{FormNode}
@@ -63,7 +63,7 @@ allowed_here m = refl
 -- what is known of the atom in front
 pub record IsAtom (m : Parts) (atom : At) : Type 0 where
   pub matches_are : matches (state_of m) ≡ flat_map (entry_matches (first_of (read_term m.bank m.bound atom)) (read_term m.bank m.bound atom)) (shown_context m)
-  pub spine : is_spine (term_tree m.bank atom.0) ≡ true
+  pub choices : is_spine (term_tree m.bank atom.0) ≡ true
   pub closed : places_below 0 (term_tree m.bank atom.0) ≡ true
   pub closed_read : places_below 0 (read_term m.bank m.bound atom) ≡ true
   pub variables : vars_below (length m.levels) (read_term m.bank m.bound atom) ≡ true
@@ -79,7 +79,7 @@ atom_front m atom f h =
     (subst (λ g. IsFormula (allowed_in (setting m) (state_of m)) GoalSide [] (sub_form (reading m.bank m.bound) g)) e (goal_in_front m w.goal _ f w.list)) in
     record {
       matches_are = matches_shown m w.goal (Atom t) _ w.list e;
-      spine = and_left (is_spine t) (may_head [] (head_of t)) (and_left (is_spine t && may_head [] (head_of t)) (is_headed [] t) stands.heads);
+      choices = and_left (is_spine t) (may_head [] (head_of t)) (and_left (is_spine t && may_head [] (head_of t)) (is_headed [] t) stands.heads);
       closed = stands.closed;
       closed_read = read.closed;
       variables = read.variables;
@@ -186,10 +186,10 @@ module _ (k : Machine) (atom : At) (asked : Asked) (f : Fits (parts_of k)) (w : 
   read = read_term m.bank m.bound atom
 
   head_read : head_of read ≡ Some asked.predicate.head
-  head_read = spine-head (reading m.bank m.bound) (term_tree m.bank atom.0) w.spine ∙ asks.head
+  head_read = spine-head (reading m.bank m.bound) (term_tree m.bank atom.0) w.choices ∙ asks.head
 
   pub arity_read : arity read ≡ asked.predicate.arity
-  arity_read = spine-arity (reading m.bank m.bound) (term_tree m.bank atom.0) w.spine ∙ asks.arity_is
+  arity_read = spine-arity (reading m.bank m.bound) (term_tree m.bank atom.0) w.choices ∙ asks.arity_is
 
   pub name_read : (n : ℕ) → asked.predicate.head ≡ Name n → head_of read ≡ Some (Name n)
   name_read n e = head_read ∙ ap (λ h. Some h) e
@@ -228,7 +228,7 @@ module _ (k : Machine) (atom : At) (asked : Asked) (f : Fits (parts_of k)) (w : 
 
 -- an atom has a predicate
 pub has_head : (m : Parts) (atom : At) (P : Type 0) → IsAtom m atom → head_of (term_tree m.bank atom.0) ≡ None → P
-has_head m atom P w e = go (term_tree m.bank atom.0) w.spine e
+has_head m atom P w e = go (term_tree m.bank atom.0) w.choices e
   where
     go : (t : Term) → is_spine t ≡ true → head_of t ≡ None → P
     go (Var x) s h = cc

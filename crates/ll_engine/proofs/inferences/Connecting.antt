@@ -15,7 +15,7 @@ use Rattle.ll_laws.specs.Settle.{Item as ItemOf}
 use Rattle.ll_laws.specs.State.{State}
 use Rattle.ll_laws.specs.Attempt.{attempt, attempt_agenda, attempt_goal, take_side, stepped, saved_of}
 use Rattle.ll_laws.specs.Valid.{IsFormula, GoalSide, ClauseSide}
-use Rattle.ll_laws.proofs.CallerLemmas.{Fits as FormFits, fits_of_formula, formula_of_fits, steps_consistent}
+use Rattle.ll_laws.proofs.CallerLemmas.{FormFits, fits_of_formula, formula_of_fits, steps_consistent}
 use Rattle.ll_freeze.specs.Keyed.{AreKeyed, clause_key}
 use Rattle.ll_engine.proofs.inferences.AtomLemmas.{splits}
 use Rattle.ll_freeze.proofs.CallerLemmas.{keyed-alike, keyed-loaded, clauses-unlive}

@@ -9,7 +9,7 @@ use Rattle.ll_laws.specs.Unify.{mgu}
 use Rattle.ll_laws.specs.Attempt.{entry_at, attempt}
 use Rattle.ll_agenda.specs.declared.agenda.Top.{Top}
 use Rattle.ll_agenda.specs.Frames.{Frames, items_at}
-use Rattle.ll_bindings.specs.Bindings.{Table}
+use Rattle.ll_unify.specs.Bindings.{Table}
 use Rattle.ll_store.specs.declared.store.Store.{Store}
 use Rattle.ll_store.specs.Tables.{table_of}
 use Rattle.ll_freeze.specs.declared.machine.Machine.{Machine}

@@ -4,7 +4,7 @@ use Rattle.std.proofs.lemmas.List.{length-map}
 use Rattle.std.proofs.lemmas.List.Elements.{All-nil, All-cons, All-head, All-tail}
 use Rattle.std.proofs.lemmas.Bool.{eqb-true}
 use Rattle.std.specs.Prelude.{Option, Some, slice_get, slice_index_or, option_map}
-use Rattle.ll_lists.proofs.CallerLemmas.{and_true_left as and_left, and_true_right as and_right}
+use Rattle.ll_list_laws.proofs.CallerLemmas.{and_true_left as and_left, and_true_right as and_right}
 use Rattle.ll_bank.specs.declared.At.{At}
 use Rattle.ll_bank.specs.declared.FormAt.{FormAt}
 use Rattle.ll_bank.specs.Term.{Term, Env, sub}
@@ -20,7 +20,7 @@ use Rattle.ll_laws.specs.Problem.{ProblemTree}
 use Rattle.ll_laws.specs.Shown.{clause_tree, module_tree, HasClauses, HasModules}
 use Rattle.ll_laws.specs.Attempt.{load_module}
 use Rattle.ll_laws.specs.Valid.{Allowed, GoalSide, fits_module, given, module_scope, places_below}
-use Rattle.ll_laws.proofs.CallerLemmas.{Grows, grows-refl, AllFit, fit-places, Fits as FormFits, formula_of_fits, formula-more, unfold_load-fits, grows_given}
+use Rattle.ll_laws.proofs.CallerLemmas.{Grows, grows-refl, AllFit, fit-places, FormFits, formula_of_fits, formula-more, unfold_load-fits, grows_given}
 use Rattle.ll_laws.proofs.CallerLemmas.{module-fits, unfold_sub}
 use Rattle.ll_modules.specs.Loads.{arguments_env, AreClosed, MayLoad}
 use Rattle.ll_freeze.specs.Parts.{Parts}

@@ -42,8 +42,8 @@ use Rattle.ll_engine.specs.Numbers.{tested}
 use Rattle.ll_engine.specs.declared.numbers.Values.{Values}
 use Rattle.ll_engine.specs.Front.{IsFront}
 use Rattle.ll_engine.specs.Rows.{GoesOn}
-use Rattle.ll_bindings.specs.Bindings.{Table, IsTable, IsOrdered, IsPlaceOf}
-use Rattle.ll_bindings.proofs.CallerLemmas.{table-extends, place-extends, place-below}
+use Rattle.ll_unify.specs.Bindings.{Table, IsTable, IsOrdered, IsPlaceOf}
+use Rattle.ll_unify.proofs.CallerLemmas.{table-extends, place-extends, place-below}
 use Rattle.ll_engine.proofs.machine.ReadLemmas.{reading_same, read_same, length_variables, values_extend, table_values, fits_table, ordered_extends}
 use Rattle.ll_engine.proofs.machine.LaterLemmas.{items_later, entries_later, terms_later}
 use Rattle.ll_engine.proofs.machine.MachineLemmas.{goal_in_front}

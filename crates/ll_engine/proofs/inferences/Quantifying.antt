@@ -6,7 +6,7 @@ use Rattle.std.proofs.lemmas.List.Elements.{All-nil, All-cons, All-head, All-tai
 use Rattle.std.proofs.lemmas.Bool.{lt-ltb, cases_lt, and_from as and_intro}
 use Rattle.std.specs.Prelude.{Option, Some, None, ◌&&◌}
 use Rattle.std.specs.List.{Contains, list_all}
-use Rattle.ll_lists.proofs.CallerLemmas.{and_true_left as and_left, and_true_right as and_right}
+use Rattle.ll_list_laws.proofs.CallerLemmas.{and_true_left as and_left, and_true_right as and_right}
 use Rattle.ll_bank.specs.declared.At.{At}
 use Rattle.ll_bank.specs.declared.FormAt.{FormAt}
 use Rattle.ll_bank.specs.declared.Head.TheVariants.{Eigen}
@@ -23,7 +23,7 @@ use Rattle.ll_laws.specs.State.{State}
 use Rattle.ll_laws.specs.Attempt.{attempt, tries, vars_from}
 use Rattle.ll_laws.specs.Valid.{Allowed, Scope, Side, GoalSide, ClauseSide, IsFormula}
 use Rattle.ll_laws.specs.Consistent.{IsConsistent, is_made}
-use Rattle.ll_laws.proofs.CallerLemmas.{IsClosing, sub_same, sub_instantiate, Grows, Fit, AllFit, Fits as FormFits, formula_of_fits, fits-more, fits-close}
+use Rattle.ll_laws.proofs.CallerLemmas.{IsClosing, sub_same, sub_instantiate, Grows, Fit, AllFit, FormFits, formula_of_fits, fits-more, fits-close}
 use Rattle.ll_laws.proofs.CallerLemmas.{formula-more, steps_consistent}
 use Rattle.ll_freeze.specs.Resting.{RestsOn}
 use Rattle.ll_freeze.proofs.CallerLemmas.{keyed-later, step_rests, trees_read, vars_more, form_same, state_by, state_is, modules_later, modules_has}
@@ -37,8 +37,8 @@ use Rattle.ll_freeze.specs.Fits.{Fits, HasItem, IsGoalIn, allowed, setting}
 use Rattle.ll_engine.specs.Attempts.{Infers}
 use Rattle.ll_engine.specs.Rows.{GoesOn, PutsInFront, OpensForall, OpensExists}
 use Rattle.ll_engine.proofs.machine.ReadLemmas.{reading_same, reading_past, values_extend, fits_table, ordered_extends}
-use Rattle.ll_bindings.specs.Bindings.{IsTable, IsOrdered}
-use Rattle.ll_bindings.proofs.CallerLemmas.{table-extends, table-fresh, found-fresh}
+use Rattle.ll_unify.specs.Bindings.{IsTable, IsOrdered}
+use Rattle.ll_unify.proofs.CallerLemmas.{table-extends, table-fresh, found-fresh}
 use Rattle.ll_engine.specs.Turned.{is_empty}
 use Rattle.ll_engine.proofs.machine.MachineLemmas.{agenda_shown, tries_end}
 use Rattle.ll_engine.proofs.inferences.Connecting.{attempt_by, rest_items, rest_goals, goal_fits}
@@ -279,7 +279,7 @@ opened old new g rest c f fits e1 o reads grows count bound ordered terms variab
 
 -- ---- the quantifiers
 
--- what may be mentioned with one eigenconstant more, and with one variable more
+-- what may be mentioned with one eigenvariable more, and with one variable more
 abbrev pub with_eigen : Allowed → Allowed
 with_eigen may = record { modules = may.modules; variables = may.variables; eigens = suc may.eigens; opens = may.opens }
 

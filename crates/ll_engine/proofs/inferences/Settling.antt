@@ -5,7 +5,7 @@ use Rattle.std.proofs.lemmas.List.Elements.{All-cons, All-head, All-tail, All-we
 use Rattle.std.proofs.lemmas.List.{length-map}
 use Rattle.ll_laws.proofs.CallerLemmas.{front-map, settles_consistent, alike-remark, alike-ends}
 use Rattle.std.specs.Prelude.{Option, Some, None, option_map, not, ◌||◌, if◌then◌else◌}
-use Rattle.ll_lists.proofs.CallerLemmas.{false_from_not as not_true, and_true_left as and_left, and_true_right as and_right}
+use Rattle.ll_list_laws.proofs.CallerLemmas.{false_from_not as not_true, and_true_left as and_left, and_true_right as and_right}
 use Rattle.ll_bank.specs.declared.At.{At}
 use Rattle.ll_bank.specs.declared.FormAt.{FormAt}
 use Rattle.ll_bank.specs.Nodes.{Nodes, HasForm, form_tree}
@@ -21,7 +21,7 @@ use Rattle.ll_freeze.proofs.CallerLemmas.{clauses_of, keyed-alike, keyed-tail, k
 use Rattle.ll_freeze.proofs.CallerLemmas.{settle_rests, state_by, state_is, fits_kept, same_allowed, clauses_moved, goals_moved, one_more, more_kept}
 use Rattle.ll_resources.specs.History.{History, Settles}
 use Rattle.ll_resources.specs.Resources.{Resources, saved_at, saved_as, saved_now, End, settled, load_end, with_end, bang_end, after_with_mid, SettlesMiddle}
-use Rattle.ll_resources.specs.Resources.{KeepsSaved, Fits as SavedFits, with_front as front_put}
+use Rattle.ll_resources.specs.Resources.{KeepsSaved, SavedFits, with_front as front_put}
 use Rattle.ll_resources.specs.declared.context.Saved.{Saved as Handle}
 use Rattle.ll_resources.specs.Ends.{is_end, as_end, settled_after}
 use Rattle.ll_resources.proofs.CallerLemmas.{ends_settle, middles_settle}
@@ -467,14 +467,6 @@ pub record IsSecond (xs : List Item) : Type 0 where
   pub behind : List Item
   pub is : xs ≡ Goal goal ∷ WithEnd before old ∷ behind
 
-second_of : (bank : Nodes) (bound : List (Option At)) (kept : List Saved) (xs : List Item) → begins_second_side (map (shown_item bank bound kept) xs) ≡ true
-    → IsSecond xs
-second_of bank bound kept (Goal g ∷ WithEnd s h ∷ rest) e = record { goal = g; before = s; old = h; behind = rest; is = refl }
-second_of bank bound kept _ e = cc
-
-pub second_at : (m : Parts) (s : Handle) (rest : List Item) → Going m m → items_of m ≡ Mid s ∷ rest → IsSecond rest
-second_at m s rest g e = second_of m.bank m.bound m.resources.kept rest (middle_parts m s rest g e).0
-
 raw_same : (bank : Nodes) (n : ℕ) (r s : Resources FormAt) (i : Item) → KeepsSaved n r s → HasItem bank n i → raw_item s.kept i ≡ raw_item r.kept i
 raw_same bank n r s (Goal g) k h = refl
 raw_same bank n r s (LolliEnd b) k h = refl
@@ -556,10 +548,6 @@ settled_done o m n w f g e h = let x = subst (λ (w : Worked). Works m w n) e h 
 pub settled_fails : (o m n : Parts) (w : Worked) → Going o m → w ≡ Failed → Works m w n → settle (state_of o) ≡ None
 settled_fails o m n w g e h = let x = subst (λ (w : Worked). Works m w n) e h in fails o m g.reached x.0
 
-pub settled_same : (o m n : Parts) (w : Worked) → Going o m → w ≡ Settled → Works m w n → SameSearch o n
-settled_same o m n w g e h =
-    let x = subst (λ (w : Worked). Works m w n) e h in let y = reach_further o m n g.reached x.0 in record { problem = y.same.problem; left = y.left }
-
 pub failed_same : (o m n : Parts) (w : Worked) → Going o m → w ≡ Failed → Works m w n → SameSearch o n
 failed_same o m n w g e h =
     let x = subst (λ (w : Worked). Works m w n) e h in record { problem = x.1.problem ∙ g.reached.same.problem; left = x.1.left ∙ g.reached.left }
@@ -572,6 +560,3 @@ settled_empty o m f g e =
 
 pub worked : (end : End) (old new : History FormAt) (b : Bool) → b ≡ true → Settles end old new b → settled end old.present ≡ Some new.present
 worked end old new b e h = subst (λ (b : Bool). Settles end old new b) e h
-
-pub not_worked : (end : End) (old new : History FormAt) (b : Bool) → b ≡ false → Settles end old new b → settled end old.present ≡ None
-not_worked end old new b e h = let x = subst (λ (b : Bool). Settles end old new b) e h in x.0

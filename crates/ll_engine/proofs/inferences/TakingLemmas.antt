@@ -8,7 +8,7 @@ use Rattle.std.proofs.lemmas.List.{map-append, length-append, length-replicate, 
 use Rattle.std.proofs.lemmas.List.Elements.{All-append, All-contains, All-map, All-tail}
 use Rattle.std.proofs.lemmas.Option.{slice_get-get_or}
 use Rattle.std.proofs.lemmas.List.Folds.{list_all-append}
-use Rattle.ll_lists.proofs.CallerLemmas.{and_true_left as and_left}
+use Rattle.ll_list_laws.proofs.CallerLemmas.{and_true_left as and_left}
 use Rattle.ll_bank.specs.declared.At.{At}
 use Rattle.ll_bank.specs.declared.FormAt.{FormAt}
 use Rattle.ll_bank.specs.declared.FormNode.TheVariants.{Atom as AtomView}
@@ -27,7 +27,8 @@ use Rattle.ll_laws.specs.Attempt.{vars_from, entry_at, picked, instantiated, wit
 use Rattle.ll_laws.specs.Problem.{ProblemTree, setting_of}
 use Rattle.ll_laws.specs.Valid.{Allowed, IsFormula, IsValid, GoalSide, ClauseSide}
 use Rattle.ll_laws.specs.Consistent.{IsConsistent, allowed_in, is_made}
-use Rattle.ll_laws.proofs.CallerLemmas.{IsClosing, ways-sub, sub_leaf, sub_premise, sub_same, grows-refl, Fit, AllFit, Goes, Grows, fit_of_made, fit-more}
+use Rattle.ll_laws.proofs.CallerLemmas.{IsClosing, ways-sub, sub_leaf, sub_premise, sub_same, grows-refl}
+use Rattle.ll_laws.proofs.CallerLemmas.{Fit, AllFit, GoesToFitting, Grows, fit_of_made, fit-more}
 use Rattle.ll_laws.proofs.CallerLemmas.{fit-sub, fit-vars, fit-eigens, levels-replicate, level_up_to, new_level, occurs_below, fits_of_formula, fits-more}
 use Rattle.ll_laws.proofs.CallerLemmas.{formula-more, LeafFits, leaf-fits, steps_consistent}
 use Rattle.ll_freeze.specs.Resting.{RestsOn}
@@ -43,16 +44,16 @@ use Rattle.ll_freeze.specs.declared.machine.Item.TheVariants.{Goal, LolliEnd, Im
 use Rattle.ll_freeze.specs.Reading.{reading, read_term, read_form, HasValue}
 use Rattle.ll_freeze.specs.Shown.{shown_item, shown_entry, items_of, state_of}
 use Rattle.ll_freeze.specs.Fits.{setting, Fits, allowed, HasItem, IsGoalIn}
-use Rattle.ll_close.specs.Closing.{env_of}
+use Rattle.ll_bank.specs.Closing.{env_of}
 use Rattle.ll_engine.specs.Attempts.{Infers}
 use Rattle.ll_engine.specs.Opening.{Opens}
 use Rattle.ll_engine.specs.Front.{IsFront}
 use Rattle.ll_engine.specs.Taking.{IsUnified, Unifies}
-use Rattle.ll_bindings.specs.Bindings.{Table, IsTable, IsOrdered, IsPlaceOf, HasCells}
-use Rattle.ll_equate.specs.Scanned.{is_bad}
-use Rattle.ll_equate.specs.Fresh.{StandsNowhere}
-use Rattle.ll_bindings.proofs.CallerLemmas.{table-extends, cells-below, place-below}
-use Rattle.ll_equate.proofs.CallerLemmas.{clear-of, clear-var}
+use Rattle.ll_unify.specs.Bindings.{Table, IsTable, IsOrdered, IsPlaceOf, HasCells}
+use Rattle.ll_unify.specs.Scanned.{is_bad}
+use Rattle.ll_unify.specs.Fresh.{StandsNowhere}
+use Rattle.ll_unify.proofs.CallerLemmas.{table-extends, cells-below, place-below}
+use Rattle.ll_unify.proofs.CallerLemmas.{clear-of, clear-var}
 use Rattle.ll_engine.proofs.machine.ReadLemmas.{reading_same, reading_past, read_same, length_variables, fits_table, with_cells, same_table, table_more}
 use Rattle.ll_engine.proofs.machine.ReadLemmas.{table_values, reads_more}
 use Rattle.ll_engine.proofs.machine.CellLemmas.{all_drop}
@@ -168,7 +169,7 @@ module _ (m : Parts) (f : Fits m) where
       (ap (list_all (is_made (length m.levels) m.eigens)) (ap (map (sub (reading m.bank m.bound))) (sym f.variables)
       ∙ sub-term_trees (reading m.bank m.bound) m.bank m.terms) ∙ terms_made m f) (omega arith) (omega arith)
 
-  goes : Goes (allowed m) (reading m.bank m.bound)
+  goes : GoesToFitting (allowed m) (reading m.bank m.bound)
   goes x l = fit_of_made (allowed m) (reading m.bank m.bound x) (made x (ltb-true x (length m.levels) l))
 
   closing : IsClosing (reading m.bank m.bound)
@@ -185,7 +186,7 @@ module _ (m : Parts) (f : Fits m) where
   grows : (count : ℕ) → Grows (allowed m) (with_more count)
   grows count = record { modules = refl; variables = omega arith; eigens = omega arith; opens = λ h. h }
 
-  goes_more : (count : ℕ) → Goes (with_more count) (reading m.bank m.bound)
+  goes_more : (count : ℕ) → GoesToFitting (with_more count) (reading m.bank m.bound)
   goes_more count x l = elim (cases_lt x (length m.levels)) [
     | inl s ↦ fit-more (allowed m) (with_more count) [] [] (reading m.bank m.bound x) (grows count) tt (goes x (lt-ltb x (length m.levels) s))
     | inr s ↦ subst (Fit (with_more count) []) (sym (reading_past m.bank m.bound x (let c = f.count in omega arith))) l
@@ -203,7 +204,7 @@ module _ (m : Parts) (f : Fits m) where
       (fits_of_formula (allowed m) GoalSide [] (Atom (read_term m.bank m.bound atom))
       (subst (λ may. IsFormula may GoalSide [] (Atom (read_term m.bank m.bound atom))) (allowed_shown m) is)).1
 
-  -- a further variable stands in nothing that is of what there is, and further eigenconstants don't
+  -- a further variable stands in nothing that is of what there is, and further eigenvariables don't
   clear_fit : (t : Term) (x : ℕ) → length m.levels ≤ x → Fit (allowed m) [] t → is_bad x m.eigens t ≡ false
   clear_fit t x l h = clear-of x m.eigens t (absent (occurs x t) refl) (fit-eigens (allowed m) [] t h)
     where

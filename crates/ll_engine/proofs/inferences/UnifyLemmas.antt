@@ -4,8 +4,8 @@ use Rattle.std.specs.Prelude.{option_map}
 use Rattle.ll_bank.specs.Term.{Term, sub}
 use Rattle.ll_bank.specs.Nodes.{Nodes}
 use Rattle.ll_laws.specs.Unify.{Solved, mgu}
-use Rattle.ll_bindings.specs.Bindings.{Table, found}
-use Rattle.ll_equate.specs.Solving.{along, wanted, IsSolved}
+use Rattle.ll_unify.specs.Bindings.{Table, found}
+use Rattle.ll_unify.specs.Solving.{along, wanted, IsSolved}
 use Rattle.ll_engine.specs.Taking.{Unifies}
 
 solved_by : (first nodes : Nodes) (old new : Table) (o : Option Solved) (answer : Bool) → IsSolved nodes old new (option_map (along (found first old)) o) answer

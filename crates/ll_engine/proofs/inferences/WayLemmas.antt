@@ -6,8 +6,8 @@ use Rattle.std.specs.List.{list_all}
 use Rattle.std.proofs.lemmas.Bool.{cases_lt, lt-ltb, and_from as and_intro}
 use Rattle.std.proofs.lemmas.List.{append-nil, map-append, reverse-append, take_all, length-drop}
 use Rattle.std.proofs.lemmas.List.Elements.{All-cons, All-push, All-take, All-drop}
-use Rattle.ll_lists.proofs.CallerLemmas.{length-map_suc as length-suc, slice_get-append_left as get_left, slice_get-append_right as get_right}
-use Rattle.ll_lists.proofs.CallerLemmas.{slice_get-map_suc as get_suc, lt_false as not_below, and_true_left as and_left, and_true_right as and_right}
+use Rattle.ll_list_laws.proofs.CallerLemmas.{length-map_suc as length-suc, slice_get-append_left as get_left, slice_get-append_right as get_right}
+use Rattle.ll_list_laws.proofs.CallerLemmas.{slice_get-map_suc as get_suc, lt_false as not_below, and_true_left as and_left, and_true_right as and_right}
 use Rattle.ll_bank.specs.declared.At.{At}
 use Rattle.ll_bank.specs.declared.FormAt.{FormAt}
 use Rattle.ll_bank.specs.declared.FormNode.{FormNode}
@@ -22,7 +22,7 @@ use Rattle.ll_bank.proofs.CallerLemmas.{length-term_trees}
 use Rattle.ll_laws.specs.Leaf.{Leaf, Premise, Needs, NeedsFree, add_premise, premise_goal, ways, leaf, leaf_from}
 use Rattle.ll_laws.specs.Attempt.{vars_from}
 use Rattle.ll_laws.specs.Valid.{Allowed, Side, GoalSide, ClauseSide, Scope, has_heads, is_headed, may_head}
-use Rattle.ll_laws.proofs.CallerLemmas.{Grows, Closes, Widens, Fits as FormFits, fits_of_formula, formula_of_fits, fits-more, fits-close, length-vars}
+use Rattle.ll_laws.proofs.CallerLemmas.{Grows, Closes, Widens, FormFits, fits_of_formula, formula_of_fits, fits-more, fits-close, length-vars}
 use Rattle.ll_laws.proofs.CallerLemmas.{headed_applies, all_headed}
 use Rattle.ll_agenda.specs.declared.agenda.Top.{Top as AgendaTop}
 use Rattle.ll_agenda.specs.Frames.{Frames, ShowsItems, items_at}
@@ -30,7 +30,7 @@ use Rattle.ll_freeze.specs.declared.machine.Item.{Item}
 use Rattle.ll_freeze.specs.declared.machine.Item.TheVariants.{Goal}
 use Rattle.ll_engine.specs.declared.open.Side.{Side as LeafSide}
 use Rattle.ll_engine.specs.Opening.{IsClause, IsSide, AreGoalsOf, Opens}
-use Rattle.ll_close.specs.Closing.{env_of}
+use Rattle.ll_bank.specs.Closing.{env_of}
 use Rattle.ll_engine.proofs.inferences.TakenLemmas.{vars_split}
 
 -- the values of the first variables from one on, as an environment: the last made stands in front

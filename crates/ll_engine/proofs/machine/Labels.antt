@@ -4,8 +4,8 @@ use Rattle.std.proofs.lemmas.Bool.{eqb-true, or_from as or_both, and_left as no_
 use Rattle.std.proofs.lemmas.List.Folds.{list_any-append}
 use Rattle.std.specs.Prelude.{nat_eq, flat_map, cond, not}
 use Rattle.std.specs.List.{list_any}
-use Rattle.ll_lists.proofs.CallerLemmas.{false_from_not as not_true, or_false_left as or_left, or_false_right as or_right, and_true_left as and_left}
-use Rattle.ll_lists.proofs.CallerLemmas.{and_true_right as and_right}
+use Rattle.ll_list_laws.proofs.CallerLemmas.{false_from_not as not_true, or_false_left as or_left, or_false_right as or_right, and_true_left as and_left}
+use Rattle.ll_list_laws.proofs.CallerLemmas.{and_true_right as and_right}
 use Rattle.ll_laws.specs.declared.Candidate.{Candidate}
 use Rattle.ll_bank.specs.Term.{Term}
 use Rattle.ll_bank.specs.Form.{Form, Atom, Plus}

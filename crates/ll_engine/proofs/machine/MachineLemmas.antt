@@ -4,7 +4,7 @@ use Rattle.std.proofs.lemmas.List.Elements.{All-head}
 use Rattle.ll_bank.specs.declared.FormAt.{FormAt}
 use Rattle.ll_bank.specs.declared.FormNode.{FormNode}
 use Rattle.ll_bank.specs.Nodes.{HasForm, IsFormView, form_tree}
-use Rattle.ll_laws.specs.Attempt.{tries, agenda_tries, goal_tries}
+use Rattle.ll_laws.specs.Attempt.{tries, agenda_tries}
 use Rattle.ll_laws.specs.Valid.{IsFormula, GoalSide}
 use Rattle.ll_laws.specs.Consistent.{AreGoals, allowed_in}
 use Rattle.ll_agenda.specs.declared.agenda.Top.{Top}
@@ -28,13 +28,6 @@ tries_shown : (m : Parts) (items : List KeptItem) → items_of m ≡ items
     → tries (state_of m) ≡ agenda_tries (map (shown_item m.bank m.bound m.resources.kept) items) (map (shown_entry m.bank m.bound) m.resources.entries)
 unfolding tries state_of
 tries_shown m items e = ap (λ is. agenda_tries (map (shown_item m.bank m.bound m.resources.kept) is) (map (shown_entry m.bank m.bound) m.resources.entries)) e
-
-pub tries_goal : (m : Parts) (g : FormAt) (rest : List KeptItem) → items_of m ≡ KeptGoal g ∷ rest
-    → tries (state_of m) ≡ goal_tries (map (shown_entry m.bank m.bound) m.resources.entries) (read_form m.bank m.bound g)
-tries_goal m g rest e = tries_shown m (KeptGoal g ∷ rest) e
-
-pub tries_empty : (m : Parts) → items_of m ≡ [] → tries (state_of m) ≡ []
-tries_empty m e = tries_shown m [] e
 
 -- an end in front has no candidate
 pub tries_end : (m : Parts) (i : KeptItem) (rest : List KeptItem) → items_of m ≡ i ∷ rest → ((g : FormAt) → i ≡ KeptGoal g → ⊥) → tries (state_of m) ≡ []

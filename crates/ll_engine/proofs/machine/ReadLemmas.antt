@@ -10,8 +10,8 @@ use Rattle.ll_bank.specs.Nodes.{Nodes, HasTerm, term_tree, term_trees, Extends}
 use Rattle.ll_bank.proofs.CallerLemmas.{term_tree-extends, HasTerm-extends, length-term_trees}
 use Rattle.ll_laws.specs.Attempt.{vars_from}
 use Rattle.ll_laws.proofs.CallerLemmas.{length-vars, sub_same}
-use Rattle.ll_bindings.specs.Bindings.{Table, shown, followed, IsTable, IsOrdered}
-use Rattle.ll_bindings.proofs.CallerLemmas.{followed-free, with_cell, table-extends, table-fresh, found-fresh}
+use Rattle.ll_unify.specs.Bindings.{Table, shown, followed, IsTable, IsOrdered}
+use Rattle.ll_unify.proofs.CallerLemmas.{followed-free, table-extends, table-fresh, found-fresh}
 use Rattle.ll_store.specs.declared.cells.Cell.{Cell}
 use Rattle.ll_store.specs.Tables.{table_of}
 use Rattle.ll_freeze.specs.Parts.{Parts, table}
@@ -100,7 +100,7 @@ same_table t bound levels p q = λ i. record { bound = p i; levels = q i }
 none_more : (t : Table) (l : ℕ) → with_cells t 0 l ≡ t
 none_more t l = same_table t (t.bound ++ []) (t.levels ++ []) (append-nil t.bound) (append-nil t.levels)
 
-one_more : (t : Table) (n l : ℕ) → with_cells t (suc n) l ≡ with_cells (with_cell t l) n l
+one_more : (t : Table) (n l : ℕ) → with_cells t (suc n) l ≡ with_cells (with_cells t 1 l) n l
 one_more t n l = λ i. record {
   bound = sym (append_assoc t.bound (None ∷ []) (replicate n None)) i;
   levels =
@@ -109,13 +109,13 @@ one_more t n l = λ i. record {
 
 pub table_more : (nodes : Nodes) (t : Table) (n l : ℕ) → IsTable nodes t → IsTable nodes (with_cells t n l)
 table_more nodes t zero l h = subst (IsTable nodes) (sym (none_more t l)) h
-table_more nodes t (suc n) l h = subst (IsTable nodes) (sym (one_more t n l)) (table_more nodes (with_cell t l) n l (table-fresh nodes t l h))
+table_more nodes t (suc n) l h = subst (IsTable nodes) (sym (one_more t n l)) (table_more nodes (with_cells t 1 l) n l (table-fresh nodes t l h))
 
 pub reads_more : (nodes : Nodes) (t : Table) (n l : ℕ) → IsTable nodes t → (x : ℕ) → reading nodes (t.bound ++ replicate n None) x ≡ reading nodes t.bound x
 reads_more nodes t zero l h x = ap (λ bs. reading nodes bs x) (append-nil t.bound)
 reads_more nodes t (suc n) l h x =
     ap (λ bs. reading nodes bs x) (sym (append_assoc t.bound (None ∷ []) (replicate n None)))
-    ∙ (reads_more nodes (with_cell t l) n l (table-fresh nodes t l h) x ∙ found-fresh nodes t l h x)
+    ∙ (reads_more nodes (with_cells t 1 l) n l (table-fresh nodes t l h) x ∙ found-fresh nodes t l h x)
 
 -- the cells of a store with more
 pub bound_more : (cells : List Cell) (n l : ℕ) → (table_of (cells ++ replicate n (record { to = None; level = l }))).bound ≡ (table_of cells).bound

@@ -4,7 +4,7 @@ use Rattle.std.specs.Prelude.{Option, Some, None, All, length, is_some, IsNone, 
 use Rattle.std.specs.List.{list_all}
 use Rattle.std.proofs.lemmas.List.Elements.{All-nil, All-cons, All-head, All-tail}
 use Rattle.std.proofs.lemmas.Bool.{or_right as or_true}
-use Rattle.ll_lists.proofs.CallerLemmas.{and_true_left as and_left, and_true_right as and_right}
+use Rattle.ll_list_laws.proofs.CallerLemmas.{and_true_left as and_left, and_true_right as and_right}
 use Rattle.ll_bank.specs.declared.At.{At}
 use Rattle.ll_bank.specs.declared.FormAt.{FormAt}
 use Rattle.ll_bank.specs.Term.{Term, is_closed, eigens_below, sub}
@@ -12,8 +12,8 @@ use Rattle.ll_bank.specs.Nodes.{Nodes, HasTerm, AllInTerms, term_tree}
 use Rattle.ll_laws.specs.Answered.{Answered}
 use Rattle.ll_laws.specs.Consistent.{is_made}
 use Rattle.ll_laws.specs.Unify.{vars_below}
-use Rattle.ll_bindings.specs.Bindings.{IsPlaceOf}
-use Rattle.ll_bindings.proofs.CallerLemmas.{place-below}
+use Rattle.ll_unify.specs.Bindings.{IsPlaceOf}
+use Rattle.ll_unify.proofs.CallerLemmas.{place-below}
 use Rattle.ll_laws.specs.declared.Step.{Step}
 use Rattle.ll_laws.specs.State.{State}
 use Rattle.ll_laws.specs.Settle.{Entry, Saved, has_live}

@@ -4,7 +4,7 @@ use Rattle.std.specs.Prelude.{if◌then◌else◌}
 use Rattle.std.proofs.lemmas.List.{append-nil}
 use Rattle.std.proofs.lemmas.List.Sums.{sum_by-append}
 use Rattle.std.proofs.lemmas.List.Elements.{All-head, All-tail, All-push}
-use Rattle.ll_lists.proofs.CallerLemmas.{All-front, All-last as All-end}
+use Rattle.ll_list_laws.proofs.CallerLemmas.{All-front, All-last as All-end}
 use Rattle.ll_bank.specs.declared.At.{At}
 use Rattle.ll_bank.specs.declared.FormAt.{FormAt}
 use Rattle.ll_bank.specs.declared.Head.{Head}

@@ -5,8 +5,8 @@ use Rattle.std.specs.Prelude.{if◌then◌else◌, nat_lt, nat_eq, slice_get, op
 use Rattle.std.proofs.lemmas.Bool.{ltb-true, ltb-false}
 use Rattle.std.proofs.lemmas.List.{append-nil}
 use Rattle.std.proofs.Math.ListN.{get_or-append}
-use Rattle.ll_lists.proofs.CallerLemmas.{slice_get-append_left as get_left, slice_get-append_right as get_right}
-use Rattle.ll_lists.proofs.CallerLemmas.{length-map_suc as length-suc, and_true_left as and_left, lt_zero as none_below}
+use Rattle.ll_list_laws.proofs.CallerLemmas.{slice_get-append_left as get_left, slice_get-append_right as get_right}
+use Rattle.ll_list_laws.proofs.CallerLemmas.{length-map_suc as length-suc, and_true_left as and_left, lt_zero as none_below}
 use Rattle.ll_bank.specs.declared.Head.{Head}
 use Rattle.ll_bank.specs.declared.Head.TheVariants.{Name, Eigen, Bound}
 use Rattle.ll_bank.specs.Term.{Term, Var, Int, Con, Ap, Env, place, close, head_of, arity, head_eq, same_head, not_bound}

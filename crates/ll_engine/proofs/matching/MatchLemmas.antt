@@ -6,8 +6,8 @@ use Rattle.std.specs.List.{Contains, list_any}
 use Rattle.std.proofs.lemmas.Bool.{eqb-true, eq-eqb, ne_eqb}
 use Rattle.std.proofs.lemmas.List.Elements.{All-head, All-tail, All-cons, All-append}
 use Rattle.std.proofs.lemmas.Option.{slice_get_within, slice_get-get_or}
-use Rattle.ll_lists.proofs.CallerLemmas.{false_from_not as not_true, true_from_not as not_false, and_true_left as and_left, and_true_right as and_right}
-use Rattle.ll_lists.proofs.CallerLemmas.{lt_zero as none_below}
+use Rattle.ll_list_laws.proofs.CallerLemmas.{false_from_not as not_true, true_from_not as not_false, and_true_left as and_left, and_true_right as and_right}
+use Rattle.ll_list_laws.proofs.CallerLemmas.{lt_zero as none_below}
 use Rattle.ll_bank.specs.declared.Head.{Head}
 use Rattle.ll_bank.specs.declared.Head.TheVariants.{Name, Eigen, Bound}
 use Rattle.ll_bank.specs.Term.{Term, Var, Int, Con, Ap, Env, close, head_of, arity, same_head}
@@ -20,7 +20,7 @@ use Rattle.ll_laws.specs.State.{State}
 use Rattle.ll_laws.specs.Attempt.{entry_at, is_open, vars_from, leaf_head, fits_head, leaf_tries, entry_tries, goal_tries, agenda_tries, tries, attempt}
 use Rattle.ll_laws.specs.Consistent.{labels_differ}
 use Rattle.ll_laws.specs.Valid.{Scope, ClauseSide, AreClauses, given}
-use Rattle.ll_laws.proofs.CallerLemmas.{IsHead, Fit, Fits, fits_of_formula}
+use Rattle.ll_laws.proofs.CallerLemmas.{IsHead, Fit, FormFits, fits_of_formula}
 use Rattle.ll_index.specs.declared.laws.First.{First}
 use Rattle.ll_index.specs.Standing.{StandingPremise, StandingLeaf, leaves_under, standing_leaves, env_under}
 use Rattle.ll_index.specs.First.{first_of, signs_clash, leaf_first, entry_matches}
@@ -133,7 +133,7 @@ matches_thin beside s d = go s.agenda refl
     go (Goal g ∷ rest) e = goal_thins beside s g rest e d
     go _ e = thin_end
 
--- ---- no head of a program's clause is an eigenconstant or a bound place
+-- ---- no head of a program's clause is an eigenvariable or a bound place
 
 -- no place of the scope may be a head
 abbrev pub HasNoHeads : Scope → Type 0
@@ -155,7 +155,8 @@ head-named ms scope (Con (Eigen k)) n h f = none_below k f
 head-named ms scope (Con (Bound k)) n h f = let e = n k in let g : slice_index_or scope k false ≡ true = h.1 in cc
 head-named ms scope (Ap t u) n h f = head-named ms scope t n f.0 f.1
 
-leaves-named : (ms : List ModuleTree) (scope : Scope) (n : ℕ) (ps : List StandingPremise) (r : Form) → HasNoHeads scope → Fits (given ms 0) ClauseSide scope r
+leaves-named : (ms : List ModuleTree) (scope : Scope) (n : ℕ) (ps : List StandingPremise) (r : Form) → HasNoHeads scope
+    → FormFits (given ms 0) ClauseSide scope r
     → All (λ (l : StandingLeaf). IsNamed l.head) (leaves_under n ps r)
 leaves-named ms scope n ps Top q f = λ i d l. absurd (omega arith)
 leaves-named ms scope n ps One q f = λ i d l. absurd (omega arith)
@@ -197,7 +198,7 @@ module _ (names : ℕ) (ms : List ModuleTree) (a : Term) (un : IsUnnamed a) wher
   never-same (Some (Eigen k)) n h = refl
   never-same (Some (Bound k)) n h = refl
 
-  unfit : (r : Form) → Fits (given ms 0) ClauseSide [] r → (k n : ℕ) → fits_head a (leaf_head r k n) ≡ false
+  unfit : (r : Form) → FormFits (given ms 0) ClauseSide [] r → (k n : ℕ) → fits_head a (leaf_head r k n) ≡ false
   unfit r f k n = go (leaf r k (vars_from 0 n)) refl
     where
       go : (o : Option Leaf) → leaf r k (vars_from 0 n) ≡ o → fits_head a (option_map (λ l. l.head) o) ≡ false
@@ -216,13 +217,13 @@ module _ (names : ℕ) (ms : List ModuleTree) (a : Term) (un : IsUnnamed a) wher
           ap (λ h. same_head (head_of a) h && nat_eq (arity a) (arity l.head)) head
           ∙ ap (λ b. b && nat_eq (arity a) (arity l.head)) (never-same (head_of a) named.0 (un named.0))
 
-  no_leaf_tries : (e : Entry Form) → Fits (given ms 0) ClauseSide [] e.clause → (k : ℕ) (ns : List ℕ) → leaf_tries a e k ns ≡ []
+  no_leaf_tries : (e : Entry Form) → FormFits (given ms 0) ClauseSide [] e.clause → (k : ℕ) (ns : List ℕ) → leaf_tries a e k ns ≡ []
   no_leaf_tries e f k [] = refl
   no_leaf_tries e f k (n ∷ ns) =
       ap (λ b. if b then record { label = e.label; leaf = k } ∷ leaf_tries a e (suc k) ns else leaf_tries a e (suc k) ns) (unfit e.clause f k n)
       ∙ no_leaf_tries e f (suc k) ns
 
-  no_entry_tries : (e : Entry Form) → Fits (given ms 0) ClauseSide [] e.clause → entry_tries a e ≡ []
+  no_entry_tries : (e : Entry Form) → FormFits (given ms 0) ClauseSide [] e.clause → entry_tries a e ≡ []
   no_entry_tries e f = go (is_open e)
     where
       go : (b : Bool) → (if b then leaf_tries a e 0 (ways e.clause) else []) ≡ []
@@ -236,7 +237,7 @@ module _ (names : ℕ) (ms : List ModuleTree) (a : Term) (un : IsUnnamed a) wher
   no_program first n [] (e ∷ es) v h = absurd h
   no_program first n (c ∷ cs) [] v h = absurd h
   no_program first n (c ∷ cs) (e ∷ es) v h =
-      let f : Fits (given ms 0) ClauseSide [] e.clause = subst (Fits (given ms 0) ClauseSide []) (sym h.2)
+      let f : FormFits (given ms 0) ClauseSide [] e.clause = subst (FormFits (given ms 0) ClauseSide []) (sym h.2)
       (fits_of_formula (given ms 0) ClauseSide [] c.form v.0) in
       ap (λ xs. filter (λ d. not (signs_clash first (leaf_first e.clause d.leaf))) xs ++ flat_map (entry_matches first a) es) (no_entry_tries e f)
       ∙ no_program first (suc n) cs es v.2 h.3

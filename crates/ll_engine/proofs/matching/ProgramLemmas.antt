@@ -2,7 +2,7 @@
 use Rattle.std.proofs.Common.{◌≡◌, ℕ, zero, suc, ◌+◌, ◌<◌, Bool, true, false, List, [], ◌∷◌, ◌++◌, length, map, filter, refl, ap, sym, ◌∙◌, arith}
 use Rattle.std.proofs.Common.{append_assoc, drop}
 use Rattle.std.specs.Prelude.{if◌then◌else◌, slice_get, Some, option_map, flat_map}
-use Rattle.std.proofs.lemmas.List.{append-nil, length-map, length-drop}
+use Rattle.std.proofs.lemmas.List.{length-map, length-drop}
 use Rattle.std.proofs.lemmas.Option.{slice_get-map, slice_get_within}
 use Rattle.ll_bank.specs.declared.FormAt.{FormAt}
 use Rattle.ll_bank.specs.Term.{Term}
@@ -53,12 +53,6 @@ module _ (es : List (Entry Form)) (goal found : List Candidate) (l : Leaf) (ls r
   -- or left out
   pub program_passed : opens l.candidate ≡ false → found ++ filter opens (candidates_of rest) ≡ goal
   program_passed o = ap (λ b. found ++ (if b then l.candidate ∷ filter opens (candidates_of rest) else filter opens (candidates_of rest))) (sym o) ∙ front
-
--- no one is left
-pub program_ends : (es : List (Entry Form)) (goal found : List Candidate) (ls : List Leaf) → ls ≡ []
-    → found ++ filter (λ c. is_open_at es c.label) (map (λ (x : Leaf). x.candidate) ls) ≡ goal → found ≡ goal
-program_ends es goal found ls e so_far =
-    sym (append-nil found) ∙ (ap (λ xs. found ++ filter (λ (c : Candidate). is_open_at es c.label) (map (λ (x : Leaf). x.candidate) xs)) (sym e) ∙ so_far)
 
 -- ---- the entry of a leaf
 

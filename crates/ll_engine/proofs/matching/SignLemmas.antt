@@ -2,14 +2,14 @@
 use Rattle.std.proofs.Common.{◌≡◌, ℕ, suc, ◌<◌, true, List, [], ◌∷◌, length, map, slice_index_or, refl, ap, sym, ◌∙◌, arith, All}
 use Rattle.std.specs.Prelude.{Option, Some, None, option_map, unwrap_or, ℤ}
 use Rattle.std.proofs.lemmas.List.Elements.{All-head}
-use Rattle.ll_lists.proofs.CallerLemmas.{and_true_left as and_left, and_true_right as and_right}
+use Rattle.ll_list_laws.proofs.CallerLemmas.{and_true_left as and_left, and_true_right as and_right}
 use Rattle.ll_bank.specs.declared.At.{At}
 use Rattle.ll_bank.specs.declared.Head.{Head}
 use Rattle.ll_bank.specs.Term.{Term, Var, Int, Con, Ap, sub, app, apply, head_of, is_spine, same_head}
 use Rattle.ll_bank.specs.Nodes.{Nodes, HasTerm, term_tree, term_trees}
 use Rattle.ll_bank.proofs.CallerLemmas.{is_spine-apply, spine_of_head, sub-app}
-use Rattle.ll_bindings.specs.Bindings.{Table, IsTable, IsPlaceOf, IsFree, AreSame, found, count}
-use Rattle.ll_bindings.proofs.CallerLemmas.{found-free, found-bound, place-below}
+use Rattle.ll_unify.specs.Bindings.{Table, IsTable, IsPlaceOf, IsFree, AreSame, found, count}
+use Rattle.ll_unify.proofs.CallerLemmas.{found-free, found-bound, place-below}
 use Rattle.ll_laws.specs.Unify.{vars_below}
 use Rattle.ll_index.specs.declared.laws.First.TheVariants.{Open, Int as IntSign}
 use Rattle.ll_index.specs.First.{name_sign, sign_of, sign_if_some, first_argument, first_of}

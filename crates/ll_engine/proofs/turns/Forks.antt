@@ -6,7 +6,7 @@ use Rattle.std.specs.List.{list_any}
 use Rattle.std.proofs.Math.Seq.{drop-append_seam}
 use Rattle.std.proofs.lemmas.Bool.{or_from as or_both}
 use Rattle.std.proofs.lemmas.List.{append-nil as append_nil}
-use Rattle.ll_lists.proofs.CallerLemmas.{eq-refl as eq_refl, not_eq_sym, or_false_left as or_left, or_false_right as or_right}
+use Rattle.ll_list_laws.proofs.CallerLemmas.{eq-refl as eq_refl, not_eq_sym, or_false_left as or_left, or_false_right as or_right}
 use Rattle.ll_laws.specs.declared.Candidate.{Candidate}
 use Rattle.ll_laws.specs.declared.Step.{Step}
 use Rattle.ll_laws.specs.declared.Step.TheVariants.{Plain, Left, Right, Clause as ClauseStep}

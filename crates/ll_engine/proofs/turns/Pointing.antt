@@ -1,11 +1,11 @@
 -- What choice points keep, before and after a choice.
 use Rattle.std.proofs.Common.{◌≡◌, ◌≢◌, ℕ, suc, ◌-◌, ◌<◌, refl, ap, sym, ◌∙◌, subst, Bool, true, false, List, [], ◌∷◌, ◌++◌, arith, map, reverse, length}
-use Rattle.std.proofs.lemmas.List.{reverse-append, length-reverse, map-append}
+use Rattle.std.proofs.lemmas.List.{reverse-append, map-append}
 use Rattle.std.proofs.lemmas.List.Elements.{All-push, All-cons, All-tail, All-head, All-pop, All-weaker}
 use Rattle.std.proofs.Math.Dec.{eqb, eqb-suc-zero}
 use Rattle.std.specs.Prelude.{Option, Some, None, All}
 use Rattle.std.specs.List.{Contains}
-use Rattle.ll_lists.proofs.CallerLemmas.{reverse-push as newest, All-reverse as all_reverse}
+use Rattle.ll_list_laws.proofs.CallerLemmas.{reverse-push as newest, All-reverse as all_reverse}
 use Rattle.ll_laws.specs.declared.Candidate.{Candidate}
 use Rattle.ll_laws.specs.State.{State}
 use Rattle.ll_laws.specs.Attempt.{tries, attempt}
@@ -13,16 +13,16 @@ use Rattle.ll_laws.specs.Problem.{ProblemTree, setting_of}
 use Rattle.ll_freeze.specs.declared.machine.Machine.{Machine}
 use Rattle.ll_freeze.specs.declared.mark.ChoiceMark.{ChoiceMark}
 use Rattle.ll_freeze.specs.Parts.{Parts, IsGood, IsBefore, KeepsMarks, KeepsMarksTo}
-use Rattle.ll_engine.specs.declared.spine.Kept.{Kept}
+use Rattle.ll_engine.specs.declared.choices.ChoicePoint.{ChoicePoint}
 use Rattle.ll_freeze.specs.Shown.{state_of}
 use Rattle.ll_freeze.specs.Fits.{Fits, setting}
 use Rattle.ll_engine.specs.Attempts.{Attempts}
 use Rattle.ll_engine.specs.Calls.{SettlesOr, SameSearch}
-use Rattle.ll_engine.specs.Seen.{Point, Spine}
-use Rattle.ll_engine.specs.Owed.{Thins, one_if_some, open_points, put_point}
+use Rattle.ll_engine.specs.Seen.{Point, Choices}
+use Rattle.ll_engine.specs.Owed.{Thins, one_if_some, put_point}
 use Rattle.ll_engine.specs.Matches.{matches}
 use Rattle.ll_engine.specs.Turned.{has_none, Settles, Gave, Chose, Expands, Retries, RetriesAt}
-use Rattle.ll_engine.specs.Pointed.{Held, held_of, helds, Rises, AreMarks, point_of, points_of, spine_at, AreTries, IsOpen, IsKept, AreKept, IsSoundAt}
+use Rattle.ll_engine.specs.Pointed.{Held, held_of, helds, Rises, AreMarks, point_of, points_of, choices_at, AreTries, IsOpen, IsKept, AreKept, IsSoundAt}
 use Rattle.ll_engine.specs.Pointed.{KeepsKept, Puts}
 use Rattle.ll_engine.proofs.machine.Labels.{tries_distinct}
 use Rattle.ll_engine.proofs.matching.MatchLemmas.{matches_thin, thins_contains}
@@ -66,9 +66,6 @@ puts_some m ps k e h =
     let make : Parts → List Point = λ t. record { state = state_of t; left = t.left - 1; untried = reverse k.untried } ∷ points_of ps in
     ap (λ qs. map point_of qs) (newest ps k) ∙ (ap make e ∙ sym (put_some (state_of m) (m.left - 1) k.untried (points_of ps) h))
 
-pub keeps_none : (m : Parts) (cs : List Candidate) (ps : List Held) → KeepsKept m cs ps ps
-keeps_none m cs ps = λ p o t a. a
-
 pub keeps_some : (m : Parts) (ps : List Held) (k : Held) → k.parts ≡ m → k.untried ≢ [] → KeepsKept m k.untried ps (ps ++ k ∷ [])
 keeps_some m ps k e h = λ p o t a.
     All-push (IsKept p) ps k a
@@ -88,30 +85,20 @@ one_open (c ∷ cs) h = ap one_if_some (reverse-append (c ∷ []) cs) ∙ last (
     last [] = refl
     last (u ∷ us) = refl
 
-all_open : (p : ProblemTree) (ks : List Held) → All (IsKept p) ks → open_points (map point_of ks) ≡ length ks
-all_open p [] h = refl
-all_open p (k ∷ ks) h =
-    let a = one_open k.untried (All-head (IsKept p) k ks h).some in
-    let b = all_open p ks (All-tail (IsKept p) k ks h) in
-    omega (arith, a, b)
-
-pub open_count : (p : ProblemTree) (ps : List Held) → AreKept p ps → open_points (points_of ps) ≡ length ps
-open_count p ps h = all_open p (reverse ps) (all_reverse (IsKept p) ps h) ∙ length-reverse ps
-
 -- the first goal is taken apart
 
 same_points : (o : Option State) (p : ProblemTree) (old new : Parts) (ps qs : List Held) (points : List Point) → points_of qs ≡ points
-    → spine_at o p new qs ≡ record (spine_at o p old ps) { now = state_of new; left = new.left; points = points }
+    → choices_at o p new qs ≡ record (choices_at o p old ps) { now = state_of new; left = new.left; points = points }
 same_points o p old new ps qs points e =
-    let make : List Point → Spine = λ xs. record { problem = p; first = o; now = state_of new; left = new.left; points = xs } in ap make e
+    let make : List Point → Choices = λ xs. record { problem = p; first = o; now = state_of new; left = new.left; points = xs } in ap make e
 
 pub chose_none : (o : Option State) (p : ProblemTree) (m : Parts) (ps : List Held) (cs : List Candidate) → cs ≡ []
-    → Chose (spine_at o p m ps) (state_of m) (m.left - 1) (reverse cs) (points_of ps) false (spine_at o p m ps)
-chose_none o p m ps cs e = subst (λ (xs : List Candidate). Chose (spine_at o p m ps) (state_of m) (m.left - 1) (reverse xs) (points_of ps) false
-    (spine_at o p m ps)) (sym e) (refl, refl)
+    → Chose (choices_at o p m ps) (state_of m) (m.left - 1) (reverse cs) (points_of ps) false (choices_at o p m ps)
+chose_none o p m ps cs e = subst (λ (xs : List Candidate). Chose (choices_at o p m ps) (state_of m) (m.left - 1) (reverse xs) (points_of ps) false
+    (choices_at o p m ps)) (sym e) (refl, refl)
 
 gave : (o : Option State) (p : ProblemTree) (old new : Parts) (qs : List Held) (c : Candidate) (ok : Bool) → old.problem ≡ p → Attempts old c new ok
-    → Gave (attempt (setting_of p) (state_of old) c) (old.left - 1) ok (spine_at o p new qs)
+    → Gave (attempt (setting_of p) (state_of old) c) (old.left - 1) ok (choices_at o p new qs)
 gave o p old new qs c true e h =
     (subst (λ (q : ProblemTree). attempt (setting_of q) (state_of old) c ≡ Some (state_of new)) e h.gives, let l = h.left in omega arith)
 gave o p old new qs c false e h = subst (λ (q : ProblemTree). attempt (setting_of q) (state_of old) c ≡ None) e h
@@ -119,9 +106,9 @@ gave o p old new qs c false e h = subst (λ (q : ProblemTree). attempt (setting_
 pub chose_some : (o : Option State) (p : ProblemTree) (old new : Parts) (ps qs : List Held) (cs rest : List Candidate) (c : Candidate) (ok : Bool)
     → cs ≡ rest ++ c ∷ []
     → old.problem ≡ p → Puts old rest ps qs → Attempts old c new ok
-    → Chose (spine_at o p old ps) (state_of old) (old.left - 1) (reverse cs) (points_of ps) ok (spine_at o p new qs)
+    → Chose (choices_at o p old ps) (state_of old) (old.left - 1) (reverse cs) (points_of ps) ok (choices_at o p new qs)
 chose_some o p old new ps qs cs rest c ok e f u h =
-    subst (λ (xs : List Candidate). Chose (spine_at o p old ps) (state_of old) (old.left - 1) xs (points_of ps) ok (spine_at o p new qs))
+    subst (λ (xs : List Candidate). Chose (choices_at o p old ps) (state_of old) (old.left - 1) xs (points_of ps) ok (choices_at o p new qs))
     (sym (ap (λ xs. reverse xs) e ∙ newest rest c)) (same_points o p old new ps qs _ u, gave o p old new qs c ok f h)
 
 -- what stays of a search after an inference
@@ -130,10 +117,10 @@ pub sound_after : (p : ProblemTree) (old new : Parts) (ps qs : List Held) (cs : 
 sound_after p old new ps qs cs c true o t a k h = record { points = k p o t a; machine = (h.fits, h.problem ∙ o.problem) }
 sound_after p old new ps qs cs c false o t a k h = record { points = k p o t a; machine = tt }
 
-pub expands : (o : Option State) (p : ProblemTree) (old : Parts) (ps : List Held) (z : Spine) (ds : List Candidate) (ok : Bool) → Fits old → 0 < old.left
+pub expands : (o : Option State) (p : ProblemTree) (old : Parts) (ps : List Held) (z : Choices) (ds : List Candidate) (ok : Bool) → Fits old → 0 < old.left
     → reverse ds ≡ matches (state_of old)
-    → Chose (spine_at o p old ps) (state_of old) (old.left - 1) (reverse ds) (points_of ps) ok z
-    → Expands (spine_at o p old ps) ok z
+    → Chose (choices_at o p old ps) (state_of old) (old.left - 1) (reverse ds) (points_of ps) ok z
+    → Expands (choices_at o p old ps) ok z
 expands o p old ps z ds ok f l e h =
     record {
       candidates = reverse ds;
@@ -148,8 +135,8 @@ expands o p old ps z ds ok f l e h =
 -- there is no candidate
 pub expands_none : (o : Option State) (p : ProblemTree) (old : Parts) (ps : List Held) (cs : List Candidate) → Fits old → 0 < old.left
     → cs ≡ matches (state_of old) → cs ≡ []
-    → Expands (spine_at o p old ps) false (spine_at o p old ps)
-expands_none o p old ps cs f l e n = expands o p old ps (spine_at o p old ps) [] false f l (sym n ∙ e) (chose_none o p old ps [] refl)
+    → Expands (choices_at o p old ps) false (choices_at o p old ps)
+expands_none o p old ps cs f l e n = expands o p old ps (choices_at o p old ps) [] false f l (sym n ∙ e) (chose_none o p old ps [] refl)
 
 -- the first one behind the others, with the first one last
 pub first_last : (cs ds : List Candidate) (c : Candidate) → cs ≡ c ∷ reverse ds → reverse (ds ++ c ∷ []) ≡ cs
@@ -157,18 +144,18 @@ first_last cs ds c e = newest ds c ∙ sym e
 
 -- another present state, and other points, are as good before a choice
 chose_same : (o : Option State) (p : ProblemTree) (m n : Parts) (ps qs : List Held) (t : State) (k : ℕ) (cs : List Candidate) (points : List Point) (ok : Bool)
-    (z : Spine)
-    → Chose (spine_at o p m ps) t k cs points ok z → Chose (spine_at o p n qs) t k cs points ok z
+    (z : Choices)
+    → Chose (choices_at o p m ps) t k cs points ok z → Chose (choices_at o p n qs) t k cs points ok z
 chose_same o p m n ps qs t k [] points ok z h = h
 chose_same o p m n ps qs t k (c ∷ cs) points ok z h = h
 
 pub retries : (o : Option State) (p : ProblemTree) (old new : Parts) (ps rest qs : List Held) (k : Held) (ok : Bool) → ps ≡ rest ++ k ∷ []
-    → Chose (spine_at o p k.parts rest) (state_of k.parts) (k.parts.left - 1) (reverse k.untried) (points_of rest) ok (spine_at o p new qs)
-    → Retries (spine_at o p old ps) ok (spine_at o p new qs)
+    → Chose (choices_at o p k.parts rest) (state_of k.parts) (k.parts.left - 1) (reverse k.untried) (points_of rest) ok (choices_at o p new qs)
+    → Retries (choices_at o p old ps) ok (choices_at o p new qs)
 retries o p old new ps rest qs k ok e h =
-    subst (λ (xs : List Point). RetriesAt (spine_at o p old ps) xs ok (spine_at o p new qs))
+    subst (λ (xs : List Point). RetriesAt (choices_at o p old ps) xs ok (choices_at o p new qs))
     (sym (ap (λ xs. points_of xs) e ∙ ap (λ xs. map point_of xs) (newest rest k)))
-    (chose_same o p k.parts old rest ps _ _ _ _ ok (spine_at o p new qs) h)
+    (chose_same o p k.parts old rest ps _ _ _ _ ok (choices_at o p new qs) h)
 
 pub over : (ps : List Held) (b : Bool) → b ≡ eqb (length ps) 0 → b ≡ has_none (points_of ps)
 over [] b e = e
@@ -184,11 +171,11 @@ over (k ∷ ps) b e = e ∙ (none_of ps ∙ sym (ap (λ xs. has_none (map point_
 -- settling
 
 pub settles : (o : Option State) (p : ProblemTree) (old new : Parts) (ps : List Held) (ok : Bool) → SettlesOr old ok new → SameSearch old new
-    → Settles (spine_at o p old ps) ok (spine_at o p new ps)
+    → Settles (choices_at o p old ps) ok (choices_at o p new ps)
 settles o p old new ps true h s =
-    (ap (λ (n : ℕ). let z : Spine = record (spine_at o p old ps) { now = state_of new; left = n } in z) s.left, h.settles)
+    (ap (λ (n : ℕ). let z : Choices = record (choices_at o p old ps) { now = state_of new; left = n } in z) s.left, h.settles)
 settles o p old new ps false h s =
-    (ap (λ (n : ℕ). let z : Spine = record (spine_at o p old ps) { now = state_of new; left = n } in z) s.left, h)
+    (ap (λ (n : ℕ). let z : Choices = record (choices_at o p old ps) { now = state_of new; left = n } in z) s.left, h)
 
 pub settled_sound : (p : ProblemTree) (old new : Parts) (ps : List Held) (ok : Bool) → SettlesOr old ok new → SameSearch old new → IsSoundAt true p old ps
     → IsSoundAt ok p new ps
@@ -196,69 +183,73 @@ settled_sound p old new ps true h s a = record { points = a.points; machine = (h
 settled_sound p old new ps false h s a = record { points = a.points; machine = tt }
 
 -- the newest point was gone back to
-pub retries_by : (o : Option State) (p : ProblemTree) (old mid : Parts) (ps rest more : List Held) (k : Held) (ok : Bool) (z : Spine) → ps ≡ rest ++ k ∷ []
+pub retries_by : (o : Option State) (p : ProblemTree) (old mid : Parts) (ps rest more : List Held) (k : Held) (ok : Bool) (z : Choices) → ps ≡ rest ++ k ∷ []
     → mid ≡ k.parts → more ≡ rest
-    → Chose (spine_at o p mid more) (state_of mid) (mid.left - 1) (reverse k.untried) (points_of more) ok z → Retries (spine_at o p old ps) ok z
+    → Chose (choices_at o p mid more) (state_of mid) (mid.left - 1) (reverse k.untried) (points_of more) ok z → Retries (choices_at o p old ps) ok z
 retries_by o p old mid ps rest more k ok z e same others h =
-    let moved : Chose (spine_at o p k.parts rest) (state_of k.parts) (k.parts.left - 1) (reverse k.untried) (points_of rest) ok z =
-    subst (λ (hs : List Held). Chose (spine_at o p k.parts hs) (state_of k.parts) (k.parts.left - 1) (reverse k.untried) (points_of hs) ok z) others
-    (subst (λ (n : Parts). Chose (spine_at o p n more) (state_of n) (n.left - 1) (reverse k.untried) (points_of more) ok z) same h) in
-    subst (λ (xs : List Point). RetriesAt (spine_at o p old ps) xs ok z) (sym (ap (λ xs. points_of xs) e ∙ ap (λ xs. map point_of xs) (newest rest k)))
+    let moved : Chose (choices_at o p k.parts rest) (state_of k.parts) (k.parts.left - 1) (reverse k.untried) (points_of rest) ok z =
+    subst (λ (hs : List Held). Chose (choices_at o p k.parts hs) (state_of k.parts) (k.parts.left - 1) (reverse k.untried) (points_of hs) ok z) others
+    (subst (λ (n : Parts). Chose (choices_at o p n more) (state_of n) (n.left - 1) (reverse k.untried) (points_of more) ok z) same h) in
+    subst (λ (xs : List Point). RetriesAt (choices_at o p old ps) xs ok z) (sym (ap (λ xs. points_of xs) e ∙ ap (λ xs. map point_of xs) (newest rest k)))
     (chose_same o p k.parts old rest ps _ _ _ _ ok z moved)
 
 -- ---- marks
 
-pub rises_push : (ks : List Kept) (k : Kept) → Rises ks → All (λ j. IsBefore j.mark k.mark) ks → Rises (ks ++ k ∷ [])
+pub rises_push : (ks : List ChoicePoint) (k : ChoicePoint) → Rises ks → All (λ j. IsBefore j.mark k.mark) ks → Rises (ks ++ k ∷ [])
 rises_push [] k r b = ((λ i d l. absurd (omega arith)), tt)
 rises_push (j ∷ ks) k r b = (
-  All-push (λ (i : Kept). IsBefore j.mark i.mark) ks k r.0 (All-head (λ (i : Kept). IsBefore i.mark k.mark) j ks b),
-  rises_push ks k r.1 (All-tail (λ (i : Kept). IsBefore i.mark k.mark) j ks b),
+  All-push (λ (i : ChoicePoint). IsBefore j.mark i.mark) ks k r.0 (All-head (λ (i : ChoicePoint). IsBefore i.mark k.mark) j ks b),
+  rises_push ks k r.1 (All-tail (λ (i : ChoicePoint). IsBefore i.mark k.mark) j ks b),
 )
 
-pub rises_popped : (ks : List Kept) (k : Kept) → Rises (ks ++ k ∷ []) → Rises ks × All (λ j. IsBefore j.mark k.mark) ks
+pub rises_popped : (ks : List ChoicePoint) (k : ChoicePoint) → Rises (ks ++ k ∷ []) → Rises ks × All (λ j. IsBefore j.mark k.mark) ks
 rises_popped [] k r = (tt, λ i d l. absurd (omega arith))
 rises_popped (j ∷ ks) k r =
     let rest = rises_popped ks k r.1 in
-    let both = All-pop (λ (i : Kept). IsBefore j.mark i.mark) (ks ++ k ∷ []) ks (Some k) refl r.0 in
-    ((both.0, rest.0), All-cons (λ (i : Kept). IsBefore i.mark k.mark) j ks both.1 rest.1)
+    let both = All-pop (λ (i : ChoicePoint). IsBefore j.mark i.mark) (ks ++ k ∷ []) ks (Some k) refl r.0 in
+    ((both.0, rest.0), All-cons (λ (i : ChoicePoint). IsBefore i.mark k.mark) j ks both.1 rest.1)
 
 -- a machine that keeps marks keeps what its choice points keep
-pub helds_kept : (old new : Machine) (ps : List Kept) → KeepsMarks old new → All (λ k. IsGood k.mark old) ps → helds new ps ≡ helds old ps
+pub helds_kept : (old new : Machine) (ps : List ChoicePoint) → KeepsMarks old new → All (λ k. IsGood k.mark old) ps → helds new ps ≡ helds old ps
 helds_kept old new [] h g = refl
 helds_kept old new (k ∷ ps) h g =
-    let q = h k.mark (All-head (λ (j : Kept). IsGood j.mark old) k ps g) in
+    let q = h k.mark (All-head (λ (j : ChoicePoint). IsGood j.mark old) k ps g) in
     let make : Parts → Held = λ p. record { parts = p; untried = k.untried.items } in
-    λ i. make (q.parts i) ∷ helds_kept old new ps h (All-tail (λ (j : Kept). IsGood j.mark old) k ps g) i
+    λ i. make (q.parts i) ∷ helds_kept old new ps h (All-tail (λ (j : ChoicePoint). IsGood j.mark old) k ps g) i
 
-pub marks_kept : (old new : Machine) (ps : List Kept) → KeepsMarks old new → AreMarks old ps → AreMarks new ps
+pub marks_kept : (old new : Machine) (ps : List ChoicePoint) → KeepsMarks old new → AreMarks old ps → AreMarks new ps
 marks_kept old new ps h a =
-    record { good = All-weaker (λ (k : Kept). IsGood k.mark old) (λ (k : Kept). IsGood k.mark new) (λ k g. (h k.mark g).good) ps a.good; rise = a.rise }
+    record {
+      good = All-weaker (λ (k : ChoicePoint). IsGood k.mark old) (λ (k : ChoicePoint). IsGood k.mark new)
+          (λ k g. (h k.mark g).good) ps a.good;
+      rise = a.rise;
+    }
 
 -- the way back to the newest one
-pub helds_undone : (old new : Machine) (last : ChoiceMark) (ps : List Kept) → KeepsMarksTo last old new → All (λ k. IsGood k.mark old) ps
+pub helds_undone : (old new : Machine) (last : ChoiceMark) (ps : List ChoicePoint) → KeepsMarksTo last old new → All (λ k. IsGood k.mark old) ps
     → All (λ k. IsBefore k.mark last) ps
     → helds new ps ≡ helds old ps
 helds_undone old new last [] h g b = refl
 helds_undone old new last (k ∷ ps) h g b =
-    let q = h k.mark (All-head (λ (j : Kept). IsBefore j.mark last) k ps b) (All-head (λ (j : Kept). IsGood j.mark old) k ps g) in
+    let q = h k.mark (All-head (λ (j : ChoicePoint). IsBefore j.mark last) k ps b) (All-head (λ (j : ChoicePoint). IsGood j.mark old) k ps g) in
     let make : Parts → Held = λ p. record { parts = p; untried = k.untried.items } in
-    λ i. make (q.parts i) ∷ helds_undone old new last ps h (All-tail (λ (j : Kept). IsGood j.mark old) k ps g)
-    (All-tail (λ (j : Kept). IsBefore j.mark last) k ps b) i
+    λ i. make (q.parts i) ∷ helds_undone old new last ps h (All-tail (λ (j : ChoicePoint). IsGood j.mark old) k ps g)
+    (All-tail (λ (j : ChoicePoint). IsBefore j.mark last) k ps b) i
 
-pub marks_undone : (old new : Machine) (last : ChoiceMark) (ps : List Kept) → KeepsMarksTo last old new → All (λ k. IsGood k.mark old) ps
+pub marks_undone : (old new : Machine) (last : ChoiceMark) (ps : List ChoicePoint) → KeepsMarksTo last old new → All (λ k. IsGood k.mark old) ps
     → All (λ k. IsBefore k.mark last) ps
     → All (λ k. IsGood k.mark new) ps
 marks_undone old new last [] h g b = λ i d l. absurd (omega arith)
 marks_undone old new last (k ∷ ps) h g b =
-    let q = h k.mark (All-head (λ (j : Kept). IsBefore j.mark last) k ps b) (All-head (λ (j : Kept). IsGood j.mark old) k ps g) in
-    All-cons (λ (j : Kept). IsGood j.mark new) k ps q.good
-    (marks_undone old new last ps h (All-tail (λ (j : Kept). IsGood j.mark old) k ps g) (All-tail (λ (j : Kept). IsBefore j.mark last) k ps b))
+    let q = h k.mark (All-head (λ (j : ChoicePoint). IsBefore j.mark last) k ps b) (All-head (λ (j : ChoicePoint). IsGood j.mark old) k ps g) in
+    All-cons (λ (j : ChoicePoint). IsGood j.mark new) k ps q.good
+    (marks_undone old new last ps h (All-tail (λ (j : ChoicePoint). IsGood j.mark old) k ps g) (All-tail (λ (j : ChoicePoint). IsBefore j.mark last) k ps b))
 
-pub helds_push : (m : Machine) (ps : List Kept) (k : Kept) → helds m (ps ++ k ∷ []) ≡ helds m ps ++ held_of m k ∷ []
+pub helds_push : (m : Machine) (ps : List ChoicePoint) (k : ChoicePoint) → helds m (ps ++ k ∷ []) ≡ helds m ps ++ held_of m k ∷ []
 helds_push m ps k = map-append (held_of m) ps (k ∷ [])
 
 -- what is known of the newest choice point and those before it
-pub record Popped (p : ProblemTree) (m : Machine) (ps qs : List Kept) (k : Kept) : Type 0 where
+pub record Popped (p : ProblemTree) (m : Machine) (ps qs : List ChoicePoint) (k : ChoicePoint) : Type 0 where
   pub good : IsGood k.mark m
   pub list : helds m ps ≡ helds m qs ++ held_of m k ∷ []
   pub goods : All (λ j. IsGood j.mark m) qs
@@ -267,11 +258,11 @@ pub record Popped (p : ProblemTree) (m : Machine) (ps qs : List Kept) (k : Kept)
   pub kept : IsKept p (held_of m k)
   pub others : AreKept p (helds m qs)
 
-pub popped : (p : ProblemTree) (m : Machine) (ps qs : List Kept) (k : Kept) → ps ≡ qs ++ k ∷ [] → AreMarks m ps → AreKept p (helds m ps)
+pub popped : (p : ProblemTree) (m : Machine) (ps qs : List ChoicePoint) (k : ChoicePoint) → ps ≡ qs ++ k ∷ [] → AreMarks m ps → AreKept p (helds m ps)
     → Popped p m ps qs k
 popped p m ps qs k e a h =
-    let both = All-pop (λ (j : Kept). IsGood j.mark m) ps qs (Some k) e a.good in
-    let rest = rises_popped qs k (subst (λ (ks : List Kept). Rises ks) e a.rise) in
+    let both = All-pop (λ (j : ChoicePoint). IsGood j.mark m) ps qs (Some k) e a.good in
+    let rest = rises_popped qs k (subst (λ (ks : List ChoicePoint). Rises ks) e a.rise) in
     let list : helds m ps ≡ helds m qs ++ held_of m k ∷ [] = ap (λ ks. helds m ks) e ∙ helds_push m qs k in
     let points = All-pop (IsKept p) (helds m ps) (helds m qs) (Some (held_of m k)) list h in
     record {

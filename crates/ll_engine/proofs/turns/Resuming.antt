@@ -17,8 +17,8 @@ use Rattle.ll_laws.specs.Tried.{events_from, number_from, candidate_owes}
 use Rattle.ll_laws.specs.Problem.{ProblemTree, setting_of}
 use Rattle.ll_freeze.specs.Parts.{Parts}
 use Rattle.ll_freeze.specs.Shown.{state_of}
-use Rattle.ll_freeze.specs.Frozen.{FrozenSight, alternatives_by, alternatives_in, problem_owes, first_by, first_in, StandsBy, Stands, Thaws}
-use Rattle.ll_engine.specs.Seen.{Point, Spine, Owing}
+use Rattle.ll_freeze.specs.Frozen.{FrozenSight, alternatives_by, alternatives_in, problem_owes, first_by, first_in, StandsBy, FrozenStands, Thaws}
+use Rattle.ll_engine.specs.Seen.{Point, Choices, Owing}
 use Rattle.ll_engine.specs.Owed.{owed, cost_left, open_points, work, work_left, owing}
 use Rattle.ll_engine.specs.Healthy.{Healthy, HealthyFrom, here}
 use Rattle.ll_engine.specs.Turned.{is_empty, Gave}
@@ -51,7 +51,7 @@ pub record Tried (f : FrozenSight) (m : Parts) (c : Candidate) : Type 0 where
   pub left : 0 < m.left
   pub candidate : Contains (tries (state_of m)) c
 
-pub tried : (f : FrozenSight) (m : Parts) (k : ℕ) (c : Candidate) → Thaws f m → Stands f → f.starts ≡ false → slice_get f.untried k ≡ Some c → Tried f m c
+pub tried : (f : FrozenSight) (m : Parts) (k : ℕ) (c : Candidate) → Thaws f m → FrozenStands f → f.starts ≡ false → slice_get f.untried k ≡ Some c → Tried f m c
 tried f m k c t s e g =
     let stands : StandsBy false f = subst (λ (b : Bool). StandsBy b f) e s in
     let has = all_at (λ d. Contains (tries f.state) d) f.untried k c g stands.1 in
@@ -63,7 +63,7 @@ tried f m k c t s e g =
 
 -- ---- the engine
 
-pub healthy_begins : (f : FrozenSight) (k : ℕ) (b : Bool) (z : Spine) → Begins f k b z → Healthy 0 b z
+pub healthy_begins : (f : FrozenSight) (k : ℕ) (b : Bool) (z : Choices) → Begins f k b z → Healthy 0 b z
 healthy_begins f k true z h =
     let e : z.first ≡ Some z.now = h.first ∙ h.gives.0 in
     subst (λ (o : Option State). HealthyFrom o 0 true z) (sym e) (rw h.points tt, record { forks = 0; path = here; fits = omega arith })
@@ -71,7 +71,7 @@ healthy_begins f k false z h =
     let e : z.first ≡ None = h.first ∙ h.gives in
     subst (λ (o : Option State). HealthyFrom o 0 false z) (sym e) (refl, h.points)
 
-owing_begins : (z : Spine) (p : ProblemTree) (o : Option State) (n : ℕ) (b : Bool) → z.problem ≡ p → z.first ≡ o → Gave o n b z → z.points ≡ []
+owing_begins : (z : Choices) (p : ProblemTree) (o : Option State) (n : ℕ) (b : Bool) → z.problem ≡ p → z.first ≡ o → Gave o n b z → z.points ≡ []
     → owing z b 0 0 false ≡ beginning p n o
 owing_begins z p o n true e1 e2 g e3 =
     let beside = setting_of z.problem in
@@ -101,7 +101,7 @@ resumed_is : (f : FrozenSight) (k : ℕ) (s : Bool) → beginning f.problem (lef
 resumed_is f k true = refl
 resumed_is f k false = refl
 
-pub resumes_with : (f : FrozenSight) (k : ℕ) (b : Bool) (z : Spine) → Begins f k b z → owing z b 0 0 false ≡ resumed f k
+pub resumes_with : (f : FrozenSight) (k : ℕ) (b : Bool) (z : Choices) → Begins f k b z → owing z b 0 0 false ≡ resumed f k
 resumes_with f k b z h = owing_begins z f.problem (first_in f k) (left_by f.starts f) b h.problem h.first h.gives h.points ∙ resumed_is f k f.starts
 
 -- what the alternative owes

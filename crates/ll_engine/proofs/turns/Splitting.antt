@@ -6,7 +6,7 @@ use Rattle.std.proofs.lemmas.List.Sums.{sum_by-cons}
 use Rattle.std.proofs.lemmas.List.Elements.{All-head, All-tail}
 use Rattle.std.specs.List.{Contains}
 use Rattle.std.specs.Prelude.{Option, Some, None, All, flat_map, sum_by}
-use Rattle.ll_lists.proofs.CallerLemmas.{All-reverse as all_reverse}
+use Rattle.ll_list_laws.proofs.CallerLemmas.{All-reverse as all_reverse}
 use Rattle.ll_laws.specs.declared.Candidate.{Candidate}
 use Rattle.ll_laws.specs.declared.Event.{Event}
 use Rattle.ll_laws.specs.Module.{Setting}
@@ -18,13 +18,13 @@ use Rattle.ll_laws.specs.Tried.{events_from, number_from, tried_events, tried_co
 use Rattle.ll_laws.specs.Problem.{ProblemTree, setting_of}
 use Rattle.ll_freeze.specs.Shown.{state_of}
 use Rattle.ll_freeze.specs.Frozen.{FrozenSight, alternatives_in, sight_of}
-use Rattle.ll_engine.specs.Seen.{Point, Spine}
+use Rattle.ll_engine.specs.Seen.{Point, Choices}
 use Rattle.ll_engine.specs.Owed.{owed, cost_left, one_if_some, open_points, work_left, if_running, owing}
 use Rattle.ll_engine.specs.Healthy.{IsPoint, ArePoints, RunsFrom, HealthyFrom, Healthy}
 use Rattle.ll_freeze.specs.declared.machine.Machine.{Machine}
 use Rattle.ll_freeze.specs.Parts.{Parts, Base, base_of, IsGood}
-use Rattle.ll_engine.specs.declared.spine.Kept.{Kept}
-use Rattle.ll_engine.specs.Pointed.{Held, held_of, helds, Rises, AreMarks, AreTries, point_of, points_of, spine_at, IsKept, AreKept}
+use Rattle.ll_engine.specs.declared.choices.ChoicePoint.{ChoicePoint}
+use Rattle.ll_engine.specs.Pointed.{Held, held_of, helds, Rises, AreMarks, AreTries, point_of, points_of, choices_at, IsKept, AreKept}
 use Rattle.ll_engine.specs.Splits.{TakesOldest, SplitsTo, frozen_point}
 
 -- older choice points stand behind
@@ -109,11 +109,11 @@ not_none : (ps : List Point) (o : Point) → ps ++ o ∷ [] ≡ [] → ⊥
 not_none [] o e = cc
 not_none (p ∷ ps) o e = cc
 
-pub healthy_split : (z0 z : Spine) (b : FrozenSight) (k n : ℕ) (r : Bool) → TakesOldest z0 b z → n ≡ suc k → Healthy k r z0 → Healthy n r z
+pub healthy_split : (z0 z : Choices) (b : FrozenSight) (k n : ℕ) (r : Bool) → TakesOldest z0 b z → n ≡ suc k → Healthy k r z0 → Healthy n r z
 healthy_split z0 z b k n r t e h =
-    let make : List Point → Spine = λ ps. record z0 { points = ps } in
+    let make : List Point → Choices = λ ps. record z0 { points = ps } in
     let rest : Healthy (suc k) r (make z.points) = go z0.first (subst (λ (o : Option State). HealthyFrom o k r z0) refl h) in
-    subst (λ (m : ℕ). Healthy m r z) (sym e) (subst (λ (y : Spine). Healthy (suc k) r y) (sym t.same) rest)
+    subst (λ (m : ℕ). Healthy m r z) (sym e) (subst (λ (y : Choices). Healthy (suc k) r y) (sym t.same) rest)
   where
     go : (o : Option State) → HealthyFrom o k r z0 → HealthyFrom o (suc k) r (record z0 { points = z.points })
     go None q = absurd (not_none z.points t.oldest (sym t.points ∙ q.1))
@@ -124,11 +124,11 @@ healthy_split z0 z b k n r t e h =
     )
 
 -- what is owed is what is left, followed by what the batch owes
-pub splits_to : (z0 z : Spine) (b : FrozenSight) (r : Bool) (m k n : ℕ) → TakesOldest z0 b z → n ≡ suc k
+pub splits_to : (z0 z : Choices) (b : FrozenSight) (r : Bool) (m k n : ℕ) → TakesOldest z0 b z → n ≡ suc k
     → SplitsTo (owing z0 r m k false) b (owing z r m n false)
 splits_to z0 z b r m k n t e =
     let ps = z.points in
-    let P : Spine → Type 0 = λ y. SplitsTo (owing z0 r m k false) b (owing y r m n false) in
+    let P : Choices → Type 0 = λ y. SplitsTo (owing z0 r m k false) b (owing y r m n false) in
     let B : FrozenSight → Type 0 = λ c. SplitsTo (owing z0 r m k false) c (owing (record z0 { points = ps }) r m n false) in
     subst P (sym t.same) (subst B (sym t.batch) (of_parts ps t.oldest t.base t.depth t.points t.some))
   where
@@ -171,7 +171,7 @@ oldest_last : (h : Held) (hs : List Held) → points_of (h ∷ hs) ≡ points_of
 oldest_last h hs = ap (λ xs. map point_of xs) (reverse-append (h ∷ []) hs) ∙ map-append point_of (reverse hs) (h ∷ [])
 
 pub takes_oldest : (first : Option State) (p : ProblemTree) (m : Parts) (h : Held) (ps hs : List Held) (b : FrozenSight) (depth : ℕ) → ps ≡ h ∷ hs → IsKept p h
-    → b ≡ sight_of h.parts (reverse h.untried) false depth → TakesOldest (spine_at first p m ps) b (spine_at first p m hs)
+    → b ≡ sight_of h.parts (reverse h.untried) false depth → TakesOldest (choices_at first p m ps) b (choices_at first p m hs)
 takes_oldest first p m h ps hs b depth e k v =
     let l = k.opened.left in
     let n : h.parts.left ≡ suc (h.parts.left - 1) = omega (arith, l) in
@@ -195,23 +195,25 @@ takes_oldest first p m h ps hs b depth e k v =
     }
 
 -- what is known of the oldest choice point and those after it
-pub record Shifted (p : ProblemTree) (m : Machine) (ps qs : List Kept) (k : Kept) : Type 0 where
+pub record Shifted (p : ProblemTree) (m : Machine) (ps qs : List ChoicePoint) (k : ChoicePoint) : Type 0 where
   pub good : IsGood k.mark m
   pub list : helds m ps ≡ held_of m k ∷ helds m qs
   pub marks : AreMarks m qs
   pub kept : IsKept p (held_of m k)
   pub others : AreKept p (helds m qs)
 
-pub shifted : (p : ProblemTree) (m : Machine) (ps qs : List Kept) (k : Kept) → ps ≡ k ∷ qs → AreMarks m ps → AreKept p (helds m ps) → Shifted p m ps qs k
+pub shifted : (p : ProblemTree) (m : Machine) (ps qs : List ChoicePoint) (k : ChoicePoint) → ps ≡ k ∷ qs → AreMarks m ps
+    → AreKept p (helds m ps) → Shifted p m ps qs k
 shifted p m ps qs k e a h =
-    let goods : All (λ (j : Kept). IsGood j.mark m) (k ∷ qs) = subst (λ (ks : List Kept). All (λ (j : Kept). IsGood j.mark m) ks) e a.good in
-    let rises : Rises (k ∷ qs) = subst (λ (ks : List Kept). Rises ks) e a.rise in
+    let goods : All (λ (j : ChoicePoint). IsGood j.mark m) (k ∷ qs) = subst
+    (λ (ks : List ChoicePoint). All (λ (j : ChoicePoint). IsGood j.mark m) ks) e a.good in
+    let rises : Rises (k ∷ qs) = subst (λ (ks : List ChoicePoint). Rises ks) e a.rise in
     let list : helds m ps ≡ held_of m k ∷ helds m qs = ap (λ ks. helds m ks) e in
     let points = subst (λ (hs : List Held). AreKept p hs) list h in
     record {
-      good = All-head (λ (j : Kept). IsGood j.mark m) k qs goods;
+      good = All-head (λ (j : ChoicePoint). IsGood j.mark m) k qs goods;
       list = list;
-      marks = record { good = All-tail (λ (j : Kept). IsGood j.mark m) k qs goods; rise = rises.1 };
+      marks = record { good = All-tail (λ (j : ChoicePoint). IsGood j.mark m) k qs goods; rise = rises.1 };
       kept = All-head (IsKept p) (held_of m k) (helds m qs) points;
       others = All-tail (IsKept p) (held_of m k) (helds m qs) points;
     }

@@ -13,7 +13,7 @@ use Rattle.ll_laws.specs.Attempt.{tries, attempt, successors}
 use Rattle.ll_laws.specs.Search.{answer_of, events, cost, forks, same_candidate, gives_some, count_fork}
 use Rattle.ll_laws.specs.Problem.{ProblemTree, setting_of}
 use Rattle.ll_laws.proofs.CallerLemmas.{events_none, events_answer, events_reached, events_step, cost_none, cost_answer, cost_zero, cost_step}
-use Rattle.ll_engine.specs.Seen.{Point, Spine}
+use Rattle.ll_engine.specs.Seen.{Point, Choices}
 use Rattle.ll_laws.specs.Tried.{events_from, number_from, tried_events, tried_cost}
 use Rattle.ll_engine.specs.Owed.{owed, cost_left, one_if_some, open_points, work_by, work, work_left, Thins, put_point, if_running}
 use Rattle.ll_engine.specs.Healthy.{Distinct, Path, next, IsPoint, ArePoints, IsNow, RunsFrom, HealthyFrom, Healthy}
@@ -80,29 +80,29 @@ answer_false t e = rw e
 
 -- a candidate was attempted
 
-events_gave : (beside : Setting) (o : Option State) (n : ℕ) (r : Bool) (z : Spine) → Gave o n r z
+events_gave : (beside : Setting) (o : Option State) (n : ℕ) (r : Bool) (z : Choices) → Gave o n r z
     → events_from (events beside n) o ≡ if_running r (events beside z.left z.now) []
 events_gave beside o n true z h = rw (h.0, h.1)
 events_gave beside o n false z h = rw h
 
-cost_gave : (beside : Setting) (o : Option State) (n : ℕ) (r : Bool) (z : Spine) → Gave o n r z
+cost_gave : (beside : Setting) (o : Option State) (n : ℕ) (r : Bool) (z : Choices) → Gave o n r z
     → number_from (cost beside n) o ≡ if_running r (cost beside z.left z.now) 0
 cost_gave beside o n true z h = rw (h.0, h.1)
 cost_gave beside o n false z h = rw h
 
-work_gave : (beside : Setting) (o : Option State) (n : ℕ) (r : Bool) (z : Spine) → Gave o n r z
+work_gave : (beside : Setting) (o : Option State) (n : ℕ) (r : Bool) (z : Choices) → Gave o n r z
     → number_from (work beside n) o ≡ if_running r (work beside z.left z.now) 0
 work_gave beside o n true z h = rw (h.0, h.1)
 work_gave beside o n false z h = rw h
 
-pub record Chosen (beside : Setting) (t : State) (n : ℕ) (cs : List Candidate) (ps : List Point) (r : Bool) (z : Spine) : Type 0 where
+pub record Chosen (beside : Setting) (t : State) (n : ℕ) (cs : List Candidate) (ps : List Point) (r : Bool) (z : Choices) : Type 0 where
   pub events : tried_events beside n t cs ++ owed beside ps ≡ if_running r (events beside z.left z.now) [] ++ owed beside z.points
   pub cost : tried_cost beside n t cs + cost_left beside ps ≡ if_running r (cost beside z.left z.now) 0 + cost_left beside z.points
   pub work : suc (if_running r (work beside z.left z.now) 0 + work_left beside z.points) ≤ work_by (work beside n) beside t cs + work_left beside ps
   pub healthy : (f : State) (k : ℕ) → IsPoint beside f (k + open_points ps) (record { state = t; left = n; untried = cs }) → ArePoints beside f k ps
       → ArePoints beside f k z.points × RunsFrom beside f k r z.now z.points
 
-chosen_none : (beside : Setting) (t : State) (n : ℕ) (ps : List Point) (z : Spine) → z.points ≡ ps → Chosen beside t n [] ps false z
+chosen_none : (beside : Setting) (t : State) (n : ℕ) (ps : List Point) (z : Choices) → z.points ≡ ps → Chosen beside t n [] ps false z
 chosen_none beside t n ps z e =
     record {
       events = rw e;
@@ -120,7 +120,7 @@ fork_fits false (c ∷ cs) forks m k e h = omega arith
 gives_none : (beside : Setting) (t : State) (cs post : List Candidate) → Thins beside t cs post → cs ≡ [] → gives_some beside t post ≡ false
 gives_none beside t cs post h e = gives_thins beside t cs post h ∙ ap (λ x. gives_some beside t x) e
 
-now_gave : (beside : Setting) (f s t : State) (n k : ℕ) (c : Candidate) (cs : List Candidate) (ps : List Point) (r : Bool) (z : Spine) (forks : ℕ)
+now_gave : (beside : Setting) (f s t : State) (n k : ℕ) (c : Candidate) (cs : List Candidate) (ps : List Point) (r : Bool) (z : Choices) (forks : ℕ)
     (pre post : List Candidate) → Path beside f s forks → settle s ≡ Some t → forks ≤ k + open_points ps → tries t ≡ pre ++ c ∷ post
     → list_any (same_candidate c) pre ≡ false → Thins beside t cs post → z.points ≡ put_point t n cs ps → Gave (attempt beside t c) n r z
     → RunsFrom beside f k r z.now z.points
@@ -140,7 +140,7 @@ points_put : (beside : Setting) (f t : State) (n k : ℕ) (cs : List Candidate) 
 points_put beside f t n k [] ps h a = a
 points_put beside f t n k (c ∷ cs) ps h a = (h, a)
 
-chosen_some : (beside : Setting) (t : State) (n : ℕ) (c : Candidate) (cs : List Candidate) (ps : List Point) (r : Bool) (z : Spine)
+chosen_some : (beside : Setting) (t : State) (n : ℕ) (c : Candidate) (cs : List Candidate) (ps : List Point) (r : Bool) (z : Choices)
     → z.points ≡ put_point t n cs ps → Gave (attempt beside t c) n r z → Chosen beside t n (c ∷ cs) ps r z
 chosen_some beside t n c cs ps r z e g =
     record {
@@ -177,27 +177,27 @@ chosen_some beside t n c cs ps r z e g =
     regroup : (pre mid : List Candidate) (c : Candidate) (post : List Candidate) → (pre ++ mid) ++ c ∷ post ≡ (pre ++ (mid ++ c ∷ [])) ++ post
     regroup pre mid c post = simp append_assoc
 
-chosen : (z0 : Spine) (t : State) (n : ℕ) (cs : List Candidate) (ps : List Point) (r : Bool) (z : Spine) → Chose z0 t n cs ps r z
+chosen : (z0 : Choices) (t : State) (n : ℕ) (cs : List Candidate) (ps : List Point) (r : Bool) (z : Choices) → Chose z0 t n cs ps r z
     → Chosen (setting_of z0.problem) t n cs ps r z
 chosen z0 t n [] ps true z h = let e1 = h.1 in cc
 chosen z0 t n [] ps false z h = chosen_none (setting_of z0.problem) t n ps z (ap (λ x. x.points) h.0)
 chosen z0 t n (c ∷ cs) ps r z h = chosen_some (setting_of z0.problem) t n c cs ps r z (ap (λ x. x.points) h.0) h.1
 
-pub record Same (z0 z : Spine) : Type 0 where
+pub record Same (z0 z : Choices) : Type 0 where
   pub problem : z.problem ≡ z0.problem
   pub first : z.first ≡ z0.first
 
-same : (z0 : Spine) (t : State) (n : ℕ) (cs : List Candidate) (ps : List Point) (r : Bool) (z : Spine) → Chose z0 t n cs ps r z → Same z0 z
+same : (z0 : Choices) (t : State) (n : ℕ) (cs : List Candidate) (ps : List Point) (r : Bool) (z : Choices) → Chose z0 t n cs ps r z → Same z0 z
 same z0 t n [] ps r z h = record { problem = ap (λ x. x.problem) h.0; first = ap (λ x. x.first) h.0 }
 same z0 t n (c ∷ cs) ps r z h = record { problem = ap (λ x. x.problem) h.0; first = ap (λ x. x.first) h.0 }
 
 -- the turns
 
-turned_quiet : (z0 z : Spine) (t : State) → z ≡ record z0 { now = t }
+turned_quiet : (z0 z : Choices) (t : State) → z ≡ record z0 { now = t }
     → (z.problem ≡ z0.problem) × (z.first ≡ z0.first) × (z.left ≡ z0.left) × (z.points ≡ z0.points)
 turned_quiet z0 z t e = (ap (λ x. x.problem) e, ap (λ x. x.first) e, ap (λ x. x.left) e, ap (λ x. x.points) e)
 
-stops : (z0 z : Spine) (r : Bool) (k : ℕ) → z.problem ≡ z0.problem → z.first ≡ z0.first → z.points ≡ z0.points → Healthy k r z0 → Healthy k false z
+stops : (z0 z : Choices) (r : Bool) (k : ℕ) → z.problem ≡ z0.problem → z.first ≡ z0.first → z.points ≡ z0.points → Healthy k r z0 → Healthy k false z
 stops z0 z r k e1 e2 e3 h = go z0.first e2 h
   where
     go : (o : Option State) → z.first ≡ o → HealthyFrom o k r z0 → HealthyFrom z.first k false z
@@ -205,7 +205,7 @@ stops z0 z r k e1 e2 e3 h = go z0.first e2 h
     go (Some f) e h = rw e (rw (e1, e3) h.0, tt)
 
 -- a state without successors gave these events
-ends : (z0 z : Spine) (t : State) (found : List Event) → z ≡ record z0 { now = t } → events (setting_of z0.problem) z0.left z0.now ≡ found
+ends : (z0 z : Choices) (t : State) (found : List Event) → z ≡ record z0 { now = t } → events (setting_of z0.problem) z0.left z0.now ≡ found
     → cost (setting_of z0.problem) z0.left z0.now ≡ 0 → ((k : ℕ) → Healthy k true z0 → ForksKept z0 k found z) → Turned z0 true found 0 z false
 ends z0 z t found e he hc hf =
     let q = turned_quiet z0 z t e in
@@ -219,18 +219,18 @@ ends z0 z t found e he hc hf =
       forks = hf;
     }
 
-pub turned_fails : (z0 z : Spine) (b : Bool) → b ≡ false → Settles z0 b z → Turned z0 true [] 0 z false
+pub turned_fails : (z0 z : Choices) (b : Bool) → b ≡ false → Settles z0 b z → Turned z0 true [] 0 z false
 turned_fails z0 z true e h = cc
 turned_fails z0 z false e h =
     ends z0 z z.now [] h.0 (events_none (setting_of z0.problem) z0.left z0.now h.1) (cost_none (setting_of z0.problem) z0.left z0.now h.1) (λ k p. tt)
 
-pub turned_over : (z0 z : Spine) (b : Bool) → b ≡ true → Settles z0 b z → is_empty z.now.agenda ≡ true → answers z.now ≡ false → Turned z0 true [] 0 z false
+pub turned_over : (z0 z : Choices) (b : Bool) → b ≡ true → Settles z0 b z → is_empty z.now.agenda ≡ true → answers z.now ≡ false → Turned z0 true [] 0 z false
 turned_over z0 z false q h e a = cc
 turned_over z0 z true q h e a =
     ends z0 z z.now [] h.0 (events_over (setting_of z0.problem) z0.left z0.now z.now h.1 e ∙ answer_false z.now a)
     (cost_over (setting_of z0.problem) z0.left z0.now z.now h.1 e) (λ k p. tt)
 
-pub turned_reached : (z0 z : Spine) (b : Bool) → b ≡ true → Settles z0 b z → is_empty z.now.agenda ≡ false → z.left ≡ 0
+pub turned_reached : (z0 z : Choices) (b : Bool) → b ≡ true → Settles z0 b z → is_empty z.now.agenda ≡ false → z.left ≡ 0
     → Turned z0 true (Reached ∷ []) 0 z false
 turned_reached z0 z false q h e l = cc
 turned_reached z0 z true q h e l =
@@ -238,7 +238,7 @@ turned_reached z0 z true q h e l =
     ends z0 z z.now (Reached ∷ []) h.0 (rw l0 (events_at_bound (setting_of z0.problem) z0.now z.now h.1 e)) (rw l0 (cost_zero (setting_of z0.problem) z0.now))
     (λ k p. tt)
 
-answer_forks : (z0 z : Spine) (k : ℕ) → z.points ≡ z0.points → settle z0.now ≡ Some z.now → Healthy k true z0
+answer_forks : (z0 z : Choices) (k : ℕ) → z.points ≡ z0.points → settle z0.now ≡ Some z.now → Healthy k true z0
     → ForksKept z0 k (Answer (record { terms = z.now.terms; steps = z.now.steps }) ∷ []) z
 answer_forks z0 z k e1 e2 h = λ f e. go f z0.first e h
   where
@@ -255,15 +255,15 @@ answer_forks z0 z k e1 e2 h = λ f e. go f z0.first e h
     go f (Some g) e h =
         let e3 : g ≡ f = cc in with_path f (subst (λ (x : State). RunsFrom (setting_of z0.problem) x k true z0.now z0.points) e3 h.1)
 
-pub turned_answer : (z0 z : Spine) (b : Bool) → b ≡ true → Settles z0 b z → is_empty z.now.agenda ≡ true → answers z.now ≡ true
+pub turned_answer : (z0 z : Choices) (b : Bool) → b ≡ true → Settles z0 b z → is_empty z.now.agenda ≡ true → answers z.now ≡ true
     → Turned z0 true (Answer (record { terms = z.now.terms; steps = z.now.steps }) ∷ []) 0 z false
 turned_answer z0 z false q h e a = cc
 turned_answer z0 z true q h e a =
     ends z0 z z.now _ h.0 (events_over (setting_of z0.problem) z0.left z0.now z.now h.1 e ∙ answer_true z.now a)
     (cost_over (setting_of z0.problem) z0.left z0.now z.now h.1 e) (λ k p. answer_forks z0 z k (ap (λ x. x.points) h.0) h.1 p)
 
--- a healthy spine whose state has the candidates cs
-healthy_expand : (z0 z1 z : Spine) (n : ℕ) (cs : List Candidate) (r : Bool) (k : ℕ) → z1 ≡ record z0 { now = z1.now } → settle z0.now ≡ Some z1.now
+-- a healthy choices whose state has the candidates cs
+healthy_expand : (z0 z1 z : Choices) (n : ℕ) (cs : List Candidate) (r : Bool) (k : ℕ) → z1 ≡ record z0 { now = z1.now } → settle z0.now ≡ Some z1.now
     → Distinct (tries z1.now) → Thins (setting_of z1.problem) z1.now cs (tries z1.now) → Same z1 z → Chosen (setting_of z1.problem) z1.now n cs z1.points r z
     → Healthy k true z0 → Healthy k r z
 healthy_expand z0 z1 z n cs r k e es d th s ch h = go z0.first (s.first ∙ q.1) h
@@ -293,7 +293,7 @@ healthy_expand z0 z1 z n cs r k e es d th s ch h = go z0.first (s.first ∙ q.1)
     go None e h = let e1 = h.0 in cc
     go (Some f) e h = rw e (rw s.problem (goes f (rw (q.0, q.3) h)))
 
-pub turned_expand : (z0 z1 z : Spine) (r b : Bool) → b ≡ true → Settles z0 b z1 → is_empty z1.now.agenda ≡ false → Expands z1 r z → Turned z0 true [] 1 z r
+pub turned_expand : (z0 z1 z : Choices) (r b : Bool) → b ≡ true → Settles z0 b z1 → is_empty z1.now.agenda ≡ false → Expands z1 r z → Turned z0 true [] 1 z r
 turned_expand z0 z1 z r false b h e x = cc
 turned_expand z0 z1 z r true b h e x =
     let q = turned_quiet z0 z1 z1.now h.0 in
@@ -324,7 +324,7 @@ turned_expand z0 z1 z r true b h e x =
       forks = λ k p. tt;
     }
 
-pub turned_retry : (z0 z : Spine) (r : Bool) → Retries z0 r z → Turned z0 false [] 0 z r
+pub turned_retry : (z0 z : Choices) (r : Bool) → Retries z0 r z → Turned z0 false [] 0 z r
 turned_retry z0 z r h = go z0.points refl h
   where
     healthy : (p : Point) (ps : List Point) (k : ℕ) → z0.points ≡ p ∷ ps → Same z0 z → Chosen (setting_of z0.problem) p.state p.left p.untried ps r z

@@ -4,7 +4,7 @@ use Rattle.std.proofs.Common.{append_assoc, length-append}
 use Rattle.std.specs.Prelude.{◌&&◌, slice_index, slice_index_or}
 use Rattle.std.specs.List.{list_all}
 use Rattle.std.proofs.lemmas.Bool.{ltb-true}
-use Rattle.ll_lists.proofs.CallerLemmas.{and_true_left as and_left, and_true_right as and_right}
+use Rattle.ll_list_laws.proofs.CallerLemmas.{and_true_left as and_left, and_true_right as and_right}
 use Rattle.ll_bank.specs.Term.{Term, Var, Int, Con, Ap, sub, is_closed, eigens_below}
 use Rattle.ll_bank.specs.Form.{Form, Top, One, Atom, With, Tensor, Plus, Bang, Lolli, Imp, Forall, Exists, Use, sub_form, Num}
 use Rattle.ll_laws.specs.Settle.{Entry, Item, Goal, LolliEnd, ImpEnd, WithMiddle, WithEnd, BangEnd}
@@ -17,7 +17,7 @@ use Rattle.ll_laws.specs.Run.{MayChoose}
 use Rattle.ll_laws.specs.Dealt.{value}
 use Rattle.ll_laws.proofs.unification.SubLaws.{IsClosing}
 use Rattle.ll_laws.proofs.consistency.ConsistentTerms.{Fit, AllFit}
-use Rattle.ll_laws.proofs.consistency.ConsistentForms.{Fits, fits_of_formula, other, opens_on}
+use Rattle.ll_laws.proofs.consistency.ConsistentForms.{FormFits, fits_of_formula, other, opens_on}
 
 -- ---- two substitutions that agree on the variables that there are
 
@@ -35,7 +35,7 @@ module _ (may : Allowed) (f g : ℕ → Term) (h : AgreeBelow may.variables f g)
   all-agree scope [] w = refl
   all-agree scope (t ∷ ts) w = let a = fit-agree scope t w.0 in let b = all-agree scope ts w.1 in cc
 
-  pub form-agree : (side : Side) (scope : Scope) (r : Form) → Fits may side scope r → sub_form f r ≡ sub_form g r
+  pub form-agree : (side : Side) (scope : Scope) (r : Form) → FormFits may side scope r → sub_form f r ≡ sub_form g r
   form-agree side scope Top w = refl
   form-agree side scope One w = refl
   form-agree side scope (Atom a) w = ap Atom (fit-agree scope a w.1)
@@ -83,7 +83,7 @@ made-agree n e f g h (t ∷ ts) w =
 
 -- ---- chosen terms as a list
 
--- closed terms whose eigenconstants are below the levels
+-- closed terms whose eigenvariables are below the levels
 abbrev pub FitsAll : List ℕ → List Term → Type 0
 FitsAll [] [] = Unit {0}
 FitsAll (l ∷ ls) (t ∷ ts) = (is_closed t ≡ true) × (eigens_below l t ≡ true) × FitsAll ls ts

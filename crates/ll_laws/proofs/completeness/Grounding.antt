@@ -3,7 +3,7 @@ use Rattle.std.proofs.Common.{◌≡◌, ℕ, zero, suc, refl, ap, sym, ◌∙�
 use Rattle.std.specs.Prelude.{◌&&◌, ◌||◌, nat_lt, Option, Some, None, option_map}
 use Rattle.std.specs.List.{list_any}
 use Rattle.std.proofs.lemmas.Bool.{ltb-true, ne_eqb, and_from as and_intro}
-use Rattle.ll_lists.proofs.CallerLemmas.{and_true_left as and_left, and_true_right as and_right, map_map, lt_zero as none_below}
+use Rattle.ll_list_laws.proofs.CallerLemmas.{and_true_left as and_left, and_true_right as and_right, map_map, lt_zero as none_below}
 use mathlib.Core.List.{reverse_aux}
 use Rattle.ll_bank.specs.declared.Head.TheVariants.{Name, Eigen, Bound}
 use Rattle.ll_bank.specs.Term.{Term, Var, Int, Con, Ap, sub, has_eigen, is_closed, is_spine, Env}
@@ -17,7 +17,7 @@ use Rattle.ll_laws.specs.Valid.{Allowed, given, Side, Scope}
 use Rattle.ll_laws.proofs.unification.SubLaws.{IsClosing, sub_env, sub_close_form}
 use Rattle.ll_laws.proofs.search.SettleLaws.{settle-sub}
 use Rattle.ll_laws.proofs.consistency.ConsistentTerms.{Fit, AllFit}
-use Rattle.ll_laws.proofs.consistency.ConsistentForms.{Fits}
+use Rattle.ll_laws.proofs.consistency.ConsistentForms.{FormFits}
 use Rattle.ll_laws.proofs.consistency.ConsistentLeaves.{ClausesFit}
 
 -- the state with terms for its variables, and without their levels
@@ -39,13 +39,13 @@ settle_with ls s t h = front_with ls s _ t h
 pub settle_grounded : (f : ℕ → Term) (s t : State) → settle s ≡ Some t → settle (grounded f s) ≡ Some (grounded f t)
 settle_grounded f s t h = settle_with [] (sub_state f s) (sub_state f t) (settle-sub f s ∙ ap (option_map (sub_state f)) h)
 
--- ---- eigenconstants
+-- ---- eigenvariables
 
 pub or_none : (a b : Bool) → a ≡ false → b ≡ false → a || b ≡ false
 or_none false b h k = k
 or_none true b h k = h
 
--- each variable that there is has a term without this eigenconstant
+-- each variable that there is has a term without this eigenvariable
 abbrev pub Avoids : ℕ → ℕ → (ℕ → Term) → Type 0
 Avoids c n f = (x : ℕ) → nat_lt x n ≡ true → has_eigen c (f x) ≡ false
 
@@ -63,7 +63,7 @@ terms_avoid : (may : Allowed) (f : ℕ → Term) → Avoids may.eigens may.varia
 terms_avoid may f v scope [] h = refl
 terms_avoid may f v scope (t ∷ ts) h = or_none _ _ (term_avoids may f v scope t h.0) (terms_avoid may f v scope ts h.1)
 
-pub form_avoids : (may : Allowed) (f : ℕ → Term) → Avoids may.eigens may.variables f → (side : Side) (scope : Scope) (g : Form) → Fits may side scope g
+pub form_avoids : (may : Allowed) (f : ℕ → Term) → Avoids may.eigens may.variables f → (side : Side) (scope : Scope) (g : Form) → FormFits may side scope g
     → form_has_eigen may.eigens (sub_form f g) ≡ false
 form_avoids may f v side scope Top h = refl
 form_avoids may f v side scope One h = refl
@@ -91,7 +91,7 @@ sub_none_all : (ms : List ModuleTree) (f : ℕ → Term) (scope : Scope) (ts : L
 sub_none_all ms f scope [] h = refl
 sub_none_all ms f scope (t ∷ ts) h = let a = sub_none ms f scope t h.0 in let b = sub_none_all ms f scope ts h.1 in cc
 
-pub sub_none_form : (ms : List ModuleTree) (f : ℕ → Term) (side : Side) (scope : Scope) (g : Form) → Fits (given ms 0) side scope g → sub_form f g ≡ g
+pub sub_none_form : (ms : List ModuleTree) (f : ℕ → Term) (side : Side) (scope : Scope) (g : Form) → FormFits (given ms 0) side scope g → sub_form f g ≡ g
 sub_none_form ms f side scope Top h = refl
 sub_none_form ms f side scope One h = refl
 sub_none_form ms f side scope (Atom a) h = ap Atom (sub_none ms f scope a h.1)

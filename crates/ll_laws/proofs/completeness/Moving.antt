@@ -1,4 +1,4 @@
--- Terms and formulas of a derivation with the eigenconstants of a run in place of their own, and variables in place of what no eigenconstant
+-- Terms and formulas of a derivation with the eigenvariables of a run in place of their own, and variables in place of what no eigenvariable
 -- of the run stands for.
 use Rattle.std.proofs.Common.{◌≡◌, ◌≤◌, ℕ, zero, suc, ◌+◌, refl, ap, sym, subst, ◌∙◌, Bool, true, false, List, [], ◌∷◌, ◌++◌, map, length, replicate, reverse}
 use Rattle.std.proofs.Common.{arith}
@@ -6,7 +6,7 @@ use Rattle.std.specs.Prelude.{◌&&◌, ◌||◌, if◌then◌else◌, ◌-◌, 
 use Rattle.std.proofs.lemmas.Bool.{ltb-true, lt-ltb, and_from as and_intro}
 use Rattle.std.proofs.Math.Bool.{or-true}
 use Rattle.std.proofs.lemmas.List.{append-nil, map-append, length-map, length-reverse}
-use Rattle.ll_lists.proofs.CallerLemmas.{and_true_left as and_left, and_true_right as and_right, map_map, lt_more, lt_zero as none_below}
+use Rattle.ll_list_laws.proofs.CallerLemmas.{and_true_left as and_left, and_true_right as and_right, map_map, lt_more, lt_zero as none_below}
 use mathlib.Core.List.{reverse_aux}
 use Rattle.ll_bank.specs.declared.Head.{Head}
 use Rattle.ll_bank.specs.declared.Head.TheVariants.{Name, Eigen, Bound}
@@ -22,20 +22,20 @@ use Rattle.ll_laws.specs.Instance.{hide, is_eigen_head}
 use Rattle.ll_laws.proofs.unification.SubLaws.{close_closed, IsClosing}
 use Rattle.ll_laws.proofs.consistency.ConsistentTerms.{IsHead, Fit, AllFit, Widens, widens-refl, is_head-sub, is_head-more, head_of_closed, widens-length}
 use Rattle.ll_laws.proofs.consistency.ConsistentTerms.{widens-may, Deep, deep-none}
-use Rattle.ll_laws.proofs.consistency.ConsistentForms.{Fits, other, opens_on, fits_module-length}
+use Rattle.ll_laws.proofs.consistency.ConsistentForms.{FormFits, other, opens_on, fits_module-length}
 use Rattle.ll_laws.proofs.consistency.ConsistentLeaves.{ClausesFit, replicate-front}
 use Rattle.ll_laws.proofs.completeness.Grounding.{map_onto}
 use Rattle.ll_laws.proofs.search.LeafTries.{sub-head}
 
--- for each eigenconstant of a derivation the one of the run that stands for it, if there is one
+-- for each eigenvariable of a derivation the one of the run that stands for it, if there is one
 abbrev pub Numbers : Type 0
 Numbers = ℕ → Option ℕ
 
--- no eigenconstant of the run stands for any
+-- no eigenvariable of the run stands for any
 abbrev pub no_numbers : Numbers
 no_numbers c = None
 
--- the head is no eigenconstant, or one that has a number
+-- the head is no eigenvariable, or one that has a number
 abbrev pub known : Numbers → Option Head → Bool
 known to (Some (Eigen c)) = is_some (to c)
 known to _ = true
@@ -48,7 +48,7 @@ abbrev pub move_con : Numbers → (Term → ℕ) → Head → Term
 move_con to name (Eigen c) = numbered (to c) (name (Con (Eigen c)))
 move_con to name h = Con h
 
--- the term with the run's eigenconstants; an outermost part whose head has no number gives way to the variable that it is named
+-- the term with the run's eigenvariables; an outermost part whose head has no number gives way to the variable that it is named
 abbrev pub move : Numbers → (Term → ℕ) → Term → Term
 move to name (Var x) = Var x
 move to name (Int z) = Int z
@@ -142,11 +142,7 @@ tame-closed to (Con (Eigen k)) h = refl
 tame-closed to (Con (Bound k)) h = none_below k h
 tame-closed to (Ap f a) h = and_intro _ _ (and_intro _ _ (h.0).0 (tame-closed to f h.2)) (tame-closed to a h.3)
 
-pub all_tame-closed : (to : Numbers) (ts : List Term) → AllTame to [] ts → AreClosed ts
-all_tame-closed to [] h = tt
-all_tame-closed to (t ∷ ts) h = (tame-closed to t h.0, all_tame-closed to ts h.1)
-
--- ---- more eigenconstants that have a number
+-- ---- more eigenvariables that have a number
 
 abbrev pub More : Numbers → Numbers → Type 0
 More to more = (c : ℕ) → is_some (to c) ≡ true → is_some (more c) ≡ true
@@ -457,9 +453,9 @@ pub leaf_tame : (ms : List ModuleTree) (to : Numbers) (r : Form) (k : ℕ) (ts :
     → leaf r k ts ≡ Some l → TamePremises ms to l.premises
 leaf_tame ms to r k ts l h t q = leaf_from_tame ms to [] [] r k ts l tt h t q
 
--- ---- formulas without eigenconstants
+-- ---- formulas without eigenvariables
 
--- what formulas without eigenconstants may mention
+-- what formulas without eigenvariables may mention
 abbrev pub clear : List ModuleTree → ℕ → Allowed
 clear ms n = record { modules = ms; variables = n; eigens = 0; opens = true }
 
@@ -484,7 +480,7 @@ module _ (ms : List ModuleTree) (n : ℕ) (to : Numbers) where
   all_fit-tame scope [] h = tt
   all_fit-tame scope (t ∷ ts) h = (fit-tame scope t h.0, all_fit-tame scope ts h.1)
 
-  pub fits-tame : (side : Side) (scope : Scope) (f : Form) → Fits (clear ms n) side scope f → TameForm ms to side scope f
+  pub fits-tame : (side : Side) (scope : Scope) (f : Form) → FormFits (clear ms n) side scope f → TameForm ms to side scope f
   fits-tame side scope Top h = tt
   fits-tame side scope One h = tt
   fits-tame side scope (Atom a) h = fit-tame scope a h.1
@@ -514,7 +510,7 @@ module _ (ms : List ModuleTree) (n : ℕ) (to : Numbers) where
     all_stay scope [] h = refl
     all_stay scope (t ∷ ts) h = let p = stays scope t h.0 in let q = all_stay scope ts h.1 in cc
 
-    pub form-stays : (side : Side) (scope : Scope) (f : Form) → Fits (clear ms n) side scope f → move_form to name f ≡ f
+    pub form-stays : (side : Side) (scope : Scope) (f : Form) → FormFits (clear ms n) side scope f → move_form to name f ≡ f
     form-stays side scope Top h = refl
     form-stays side scope One h = refl
     form-stays side scope (Atom a) h = ap Atom (stays scope a h.1)
@@ -529,7 +525,7 @@ module _ (ms : List ModuleTree) (n : ℕ) (to : Numbers) where
     form-stays side scope (Use k ts f) h = let p = all_stay scope ts h.2 in let q = form-stays side scope f h.3 in cc
     form-stays side scope (Num r t u) h = let p = stays scope t h.1 in let q = stays scope u h.2 in cc
 
-    -- terms put for the variables of a formula without eigenconstants
+    -- terms put for the variables of a formula without eigenvariables
     module _ (f : ℕ → Term) where
       move_sub : (scope : Scope) (t : Term) → Fit (clear ms n) scope t → move to name (sub f t) ≡ sub (λ x. move to name (f x)) t
       move_sub scope (Var x) h = refl
@@ -548,7 +544,7 @@ module _ (ms : List ModuleTree) (n : ℕ) (to : Numbers) where
       all_move_sub scope [] h = refl
       all_move_sub scope (t ∷ ts) h = let p = move_sub scope t h.0 in let q = all_move_sub scope ts h.1 in cc
 
-      pub move_sub_form : (side : Side) (scope : Scope) (g : Form) → Fits (clear ms n) side scope g
+      pub move_sub_form : (side : Side) (scope : Scope) (g : Form) → FormFits (clear ms n) side scope g
           → move_form to name (sub_form f g) ≡ sub_form (λ x. move to name (f x)) g
       move_sub_form side scope Top h = refl
       move_sub_form side scope One h = refl
@@ -583,7 +579,7 @@ module _ (ms : List ModuleTree) (n : ℕ) (to : Numbers) where
     all_sub-tame scope [] h = tt
     all_sub-tame scope (t ∷ ts) h = (sub-tame scope t h.0, all_sub-tame scope ts h.1)
 
-    pub sub_form-tame : (side : Side) (scope : Scope) (g : Form) → Fits (clear ms n) side scope g → TameForm ms to side scope (sub_form f g)
+    pub sub_form-tame : (side : Side) (scope : Scope) (g : Form) → FormFits (clear ms n) side scope g → TameForm ms to side scope (sub_form f g)
     sub_form-tame side scope Top h = tt
     sub_form-tame side scope One h = tt
     sub_form-tame side scope (Atom a) h = sub-tame scope a h.1

@@ -1,10 +1,11 @@
--- The eigenconstants of a run that stand for those of a derivation: a new one changes nothing that does not mention it, and what was moved
+-- The eigenvariables of a run that stand for those of a derivation: a new one changes nothing that does not mention it, and what was moved
 -- mentions no others.
 use Rattle.std.proofs.Common.{◌≡◌, ◌<◌, ℕ, suc, refl, ap, sym, ◌∙◌, Bool, true, false, List, [], ◌∷◌, map, nat_eq, arith}
 use Rattle.std.specs.Prelude.{◌&&◌, if◌then◌else◌, Option, Some, None, is_some}
 use Rattle.std.specs.List.{list_any}
 use Rattle.std.proofs.lemmas.Bool.{lt-ltb, ne_eqb, eq-eqb, eqb-false, and_from as and_intro}
-use Rattle.ll_lists.proofs.CallerLemmas.{and_true_left as and_left, and_true_right as and_right, or_false_left as or_off_left, or_false_right as or_off_right}
+use Rattle.ll_list_laws.proofs.CallerLemmas.{and_true_left as and_left, and_true_right as and_right}
+use Rattle.ll_list_laws.proofs.CallerLemmas.{or_false_left as or_off_left, or_false_right as or_off_right}
 use Rattle.ll_bank.specs.declared.Head.TheVariants.{Name, Eigen, Bound}
 use Rattle.ll_bank.specs.Term.{Term, Var, Int, Con, Ap, head_of, is_closed, is_spine, has_eigen, eigens_below}
 use Rattle.ll_bank.specs.Form.{Form, Top, One, Atom, With, Tensor, Plus, Bang, Lolli, Imp, Forall, Exists, Use, form_has_eigen, Num}
@@ -14,7 +15,7 @@ use Rattle.ll_laws.proofs.search.AnswerSteps.{eigens_none}
 use Rattle.ll_laws.proofs.completeness.Moving.{Numbers, known, numbered, move, move_form, More}
 use Rattle.ll_laws.proofs.completeness.Grounding.{or_none}
 
--- eigenconstant c has the number j, and the others have theirs
+-- eigenvariable c has the number j, and the others have theirs
 abbrev pub add_number : Numbers → ℕ → ℕ → Numbers
 add_number to c j x = if nat_eq x c then Some j else to x
 

@@ -5,7 +5,7 @@ use Rattle.std.specs.Prelude.{◌||◌, Some, slice_get, slice_index, slice_inde
 use Rattle.std.specs.List.{list_any, list_all}
 use Rattle.std.proofs.lemmas.List.{length-map}
 use Rattle.std.proofs.Math.Bool.{or-true}
-use Rattle.ll_lists.proofs.CallerLemmas.{and_true_left as and_left, and_true_right as and_right, map_map, map_same}
+use Rattle.ll_list_laws.proofs.CallerLemmas.{and_true_left as and_left, and_true_right as and_right, map_map, map_same}
 use Rattle.ll_bank.specs.Term.{Term, Var, sub, is_closed, eigens_below}
 use Rattle.ll_laws.specs.declared.Event.{Event}
 use Rattle.ll_laws.specs.declared.Event.TheVariants.{Reached, Answer}

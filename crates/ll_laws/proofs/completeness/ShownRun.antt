@@ -25,7 +25,7 @@ use Rattle.ll_laws.specs.Dealing.{uses, erases}
 use Rattle.ll_laws.specs.Instance.{hide}
 use Rattle.ll_laws.specs.Completeness.{ShownRuns}
 use Rattle.ll_laws.proofs.unification.SubLaws.{IsClosing}
-use Rattle.ll_laws.proofs.consistency.ConsistentForms.{Fits, fits-more, fits_of_formula}
+use Rattle.ll_laws.proofs.consistency.ConsistentForms.{FormFits, fits-more, fits_of_formula}
 use Rattle.ll_laws.proofs.consistency.ConsistentStates.{grows_given}
 use Rattle.ll_laws.proofs.search.AnswerRuns.{Among}
 use Rattle.ll_laws.proofs.derivations.Lines.{trees-count}
@@ -129,7 +129,7 @@ fresh_above m n (c ∷ cs) h = ap (λ b. b || list_any (λ e. nat_eq m e.label) 
     ∙ fresh_above m (suc n) cs (omega arith)
 
 module _ (names : ℕ) (ms : List ModuleTree) where
-  clause-fits : (c : ClauseTree) (cs : List ClauseTree) → AreClauses names ms [] (c ∷ cs) → Fits (clear ms 0) ClauseSide [] c.form
+  clause-fits : (c : ClauseTree) (cs : List ClauseTree) → AreClauses names ms [] (c ∷ cs) → FormFits (clear ms 0) ClauseSide [] c.form
   clause-fits c cs h = fits-more (given ms 0) (clear ms 0) ClauseSide [] [] c.form (grows_given ms 0 0 0 (omega arith)) tt
       (fits_of_formula (given ms 0) ClauseSide [] c.form h.0)
 
@@ -145,14 +145,14 @@ module _ (names : ℕ) (ms : List ModuleTree) where
       ap (λ b. b || list_any (form_has_eigen k) (map (λ e. e.clause) (program_entries (suc n) cs))) a ∙ none_new name k (suc n) cs h.2
 
   labelled-fits : (k : Kind) (n : ℕ) (cs : List ClauseTree) → AreClauses names ms [] cs → (l : Labelled) → Among l (labelled k n cs)
-      → Fits (clear ms 0) ClauseSide [] l.clause
+      → FormFits (clear ms 0) ClauseSide [] l.clause
   labelled-fits k n [] h l m = absurd m
   labelled-fits k n (c ∷ cs) h l m = step (same_kind k c.kind) (labelled-fits k (suc n) cs h.2 l) m
     where
-      step : (b : Bool) → (Among l (labelled k (suc n) cs) → Fits (clear ms 0) ClauseSide [] l.clause)
+      step : (b : Bool) → (Among l (labelled k (suc n) cs) → FormFits (clear ms 0) ClauseSide [] l.clause)
           → Among l (if b then record { label = n; clause = c.form } ∷ labelled k (suc n) cs else labelled k (suc n) cs)
-          → Fits (clear ms 0) ClauseSide [] l.clause
-      step true go (inl q) = subst (λ z. Fits (clear ms 0) ClauseSide [] z.clause) q (clause-fits c cs h)
+          → FormFits (clear ms 0) ClauseSide [] l.clause
+      step true go (inl q) = subst (λ z. FormFits (clear ms 0) ClauseSide [] z.clause) q (clause-fits c cs h)
       step true go (inr m) = go m
       step false go m = go m
 
@@ -176,7 +176,7 @@ shown_runs p d name valid h =
     let ts = map (hide name) d.asked in
     let f : ℕ → Term = λ x. slice_index_or d.asked x (Var x) in
     let s = run_start p ts in
-    let goal : Fits (clear ms (length p.asked)) GoalSide [] p.goal =
+    let goal : FormFits (clear ms (length p.asked)) GoalSide [] p.goal =
     fits-more (given ms (length p.asked)) (clear ms (length p.asked)) GoalSide [] [] p.goal (grows_given ms (length p.asked) (length p.asked) 0 (omega arith))
     tt (fits_of_formula (given ms (length p.asked)) GoalSide [] p.goal valid.goal) in
     let closing : IsClosing f = λ x. closed_at d.asked x x h.closed in

@@ -3,7 +3,7 @@ use Rattle.std.proofs.Common.{◌≡◌, ◌⊎◌, inl, inr, ℕ, suc, refl, ap
 use Rattle.std.specs.Prelude.{◌||◌, not, Some, option_map, is_some, slice_get}
 use Rattle.std.specs.List.{list_any}
 use Rattle.std.proofs.lemmas.Bool.{eqb-true, or_right}
-use Rattle.ll_lists.proofs.CallerLemmas.{and_true_right as and_right, or_false_left as or_off_left, or_false_right as or_off_right}
+use Rattle.ll_list_laws.proofs.CallerLemmas.{and_true_right as and_right, or_false_left as or_off_left, or_false_right as or_off_right}
 use Rattle.ll_bank.specs.declared.Head.TheVariants.{Eigen}
 use Rattle.ll_bank.specs.Term.{Term, Con, is_closed}
 use Rattle.ll_bank.specs.Form.{Form, Top, One, Atom, With, Tensor, Plus, Bang, Lolli, Imp, Forall, Exists, Use, instantiate, form_has_eigen, Num}

@@ -4,7 +4,8 @@ use Rattle.std.specs.Prelude.{◌&&◌, ◌||◌, not, cond, filter, if◌then�
 use Rattle.std.specs.List.{list_any, list_all}
 use Rattle.std.proofs.lemmas.Bool.{eqb-true, eq-eqb, ne_eqb, eqb-false}
 use Rattle.std.proofs.lemmas.List.Folds.{list_any-append}
-use Rattle.ll_lists.proofs.CallerLemmas.{and_true_left as and_left, and_true_right as and_right, or_false_left as or_off_left, or_false_right as or_off_right}
+use Rattle.ll_list_laws.proofs.CallerLemmas.{and_true_left as and_left, and_true_right as and_right}
+use Rattle.ll_list_laws.proofs.CallerLemmas.{or_false_left as or_off_left, or_false_right as or_off_right}
 use Rattle.ll_bank.specs.Term.{Term}
 use Rattle.ll_bank.specs.Form.{Form, form_has_eigen}
 use Rattle.ll_laws.specs.declared.Kind.TheVariants.{Linear, Unbounded}
@@ -135,7 +136,7 @@ abbrev pub AllTameIn : List ModuleTree → Numbers → List Labelled → Type 0
 AllTameIn ms to d = (l : Labelled) → Among l d → TameForm ms to ClauseSide [] l.clause
 
 -- The unbounded clauses c and the bounded clauses d of a node are entries of a run's context, under labels that `at` gives; and the context
--- mentions no later label and no later eigenconstant.
+-- mentions no later label and no later eigenvariable.
 pub record Sits (ms : List ModuleTree) (to : Numbers) (name : Term → ℕ) (at : ℕ → ℕ) (s : State) (es : List (Entry Form)) (c d : List Labelled) : Type 0 where
   pub sound : Sound es
   pub fresh : (n : ℕ) → s.label ≤ n → list_any (λ e. nat_eq n e.label) es ≡ false
@@ -268,7 +269,7 @@ module _ {ms : List ModuleTree} {to : Numbers} {name : Term → ℕ} {at : ℕ �
           let g = other_label e n l (taken_distinct n d r e t i.distinct).gone m in
           eqb-false n l.label g (sym f.same ∙ w))
 
-  -- a new eigenconstant of the run for one that the clauses do not mention
+  -- a new eigenvariable of the run for one that the clauses do not mention
   pub forall_sits : (k : ℕ) (g : Form) (u : State) → u.label ≡ s.label → u.eigens ≡ suc s.eigens → IsNew k (g ∷ (clauses c ++ clauses d))
       → Sits ms to name at s es c d → Sits ms (add_number to k s.eigens) name at u es c d
   forall_sits k g u a b w i = record {

@@ -6,7 +6,7 @@ use Rattle.std.specs.List.{list_any}
 use Rattle.std.proofs.lemmas.Bool.{eqb-true, eq-eqb, ne_eqb, eqb-false, or_left as or_one, or_right as or_two, or_parts}
 use Rattle.std.proofs.Math.Bool.{and-false}
 use Rattle.std.proofs.Math.Bool.{or-false, or-true}
-use Rattle.ll_lists.proofs.CallerLemmas.{and_true_right as and_right, or_assoc, or_elim as or_split}
+use Rattle.ll_list_laws.proofs.CallerLemmas.{and_true_right as and_right, or_assoc, or_elim as or_split}
 use Rattle.ll_bank.specs.declared.Head.TheVariants.{Eigen}
 use Rattle.ll_bank.specs.Term.{Term, Con}
 use Rattle.ll_bank.specs.Form.{Form, Top, One, Atom, With, Tensor, Plus, Bang, Lolli, Imp, Forall, Exists, Use, instantiate}

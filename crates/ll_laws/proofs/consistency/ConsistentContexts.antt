@@ -3,7 +3,7 @@ use Rattle.std.proofs.Common.{◌≡◌, ℕ, refl, ap, subst, ◌∙◌, Bool, 
 use Rattle.std.specs.Prelude.{◌&&◌, ◌||◌, not, if◌then◌else◌, nat_lt}
 use Rattle.std.specs.List.{list_all, list_any}
 use Rattle.std.proofs.lemmas.Bool.{and_from as and_intro}
-use Rattle.ll_lists.proofs.CallerLemmas.{and_true_left as and_left, and_true_right as and_right}
+use Rattle.ll_list_laws.proofs.CallerLemmas.{and_true_left as and_left, and_true_right as and_right}
 use Rattle.ll_bank.specs.Term.{Term}
 use Rattle.ll_bank.specs.Form.{Form, sub_form}
 use Rattle.ll_laws.specs.declared.Kind.{Kind}
@@ -13,7 +13,7 @@ use Rattle.ll_laws.specs.State.{sub_item, sub_entry}
 use Rattle.ll_laws.specs.Attempt.{picked}
 use Rattle.ll_laws.specs.Valid.{Side, GoalSide, ClauseSide, Allowed, IsFormula}
 use Rattle.ll_laws.specs.Consistent.{may_live, marks_fit, is_of_kind, newest_is, begins_second_side, ends_fit, AreGoals, AreResources, labels_differ}
-use Rattle.ll_laws.proofs.consistency.ConsistentTerms.{Grows, Goes}
+use Rattle.ll_laws.proofs.consistency.ConsistentTerms.{Grows, GoesToFitting}
 use Rattle.ll_laws.proofs.consistency.ConsistentForms.{fits-more, fits-sub, fits_of_formula, formula_of_fits}
 
 -- ---- labels and kinds
@@ -186,14 +186,15 @@ resources-picked may label (e ∷ es) h = step (nat_eq e.label label) (resources
 pub formula-more : (may more : Allowed) (side : Side) (f : Form) → Grows may more → IsFormula may side [] f → IsFormula more side [] f
 formula-more may more side f g h = formula_of_fits more side [] f (fits-more may more side [] [] f g tt (fits_of_formula may side [] f h))
 
-pub formula-sub : (may : Allowed) (s : ℕ → Term) (side : Side) (f : Form) → Goes may s → IsFormula may side [] f → IsFormula may side [] (sub_form s f)
+pub formula-sub : (may : Allowed) (s : ℕ → Term) (side : Side) (f : Form) → GoesToFitting may s → IsFormula may side [] f → IsFormula may side [] (sub_form s f)
 formula-sub may s side f g h = formula_of_fits may side [] (sub_form s f) (fits-sub may s side [] f g (fits_of_formula may side [] f h))
 
 pub resources-more : (may more : Allowed) (es : List (Entry Form)) → Grows may more → AreResources may es → AreResources more es
 resources-more may more [] g h = tt
 resources-more may more (e ∷ es) g h = (formula-more may more ClauseSide e.clause g h.0, resources-more may more es g h.1)
 
-pub resources-sub : (may : Allowed) (s : ℕ → Term) (es : List (Entry Form)) → Goes may s → AreResources may es → AreResources may (map (sub_entry s) es)
+pub resources-sub : (may : Allowed) (s : ℕ → Term) (es : List (Entry Form)) → GoesToFitting may s → AreResources may es
+    → AreResources may (map (sub_entry s) es)
 resources-sub may s [] g h = tt
 resources-sub may s (e ∷ es) g h = (formula-sub may s ClauseSide e.clause g h.0, resources-sub may s es g h.1)
 
@@ -208,7 +209,7 @@ goals-more may more (WithMiddle saved ∷ rest) g h = goals-more may more rest g
 goals-more may more (WithEnd saved half ∷ rest) g h = goals-more may more rest g h
 goals-more may more (BangEnd saved ∷ rest) g h = goals-more may more rest g h
 
-pub goals-sub : (may : Allowed) (s : ℕ → Term) (a : List (Item Form)) → Goes may s → AreGoals may a → AreGoals may (map (sub_item s) a)
+pub goals-sub : (may : Allowed) (s : ℕ → Term) (a : List (Item Form)) → GoesToFitting may s → AreGoals may a → AreGoals may (map (sub_item s) a)
 goals-sub may s [] g h = tt
 goals-sub may s (Goal f ∷ rest) g h = (formula-sub may s GoalSide f g h.0, goals-sub may s rest g h.1)
 goals-sub may s (LolliEnd saved ∷ rest) g h = goals-sub may s rest g h

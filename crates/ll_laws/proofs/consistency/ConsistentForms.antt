@@ -4,7 +4,7 @@ use Rattle.std.proofs.lemmas.List.{length-map}
 use Rattle.std.specs.Prelude.{◌&&◌, Option, Some, None, nat_eq, slice_get}
 use Rattle.std.specs.List.{list_all}
 use Rattle.std.proofs.lemmas.Bool.{and_from as and_intro}
-use Rattle.ll_lists.proofs.CallerLemmas.{and_true_left as and_left, and_true_right as and_right}
+use Rattle.ll_list_laws.proofs.CallerLemmas.{and_true_left as and_left, and_true_right as and_right}
 use Rattle.ll_bank.specs.Term.{Term, Env, sub, close, head_of, is_spine, eigens_below}
 use Rattle.ll_bank.specs.Form.{Form, Top, One, Atom, With, Tensor, Plus, Bang, Lolli, Imp, Forall, Exists, Use, sub_form, close_form, Num}
 use Rattle.ll_laws.specs.Module.{ModuleTree}
@@ -12,7 +12,8 @@ use Rattle.ll_laws.specs.Unify.{vars_below}
 use Rattle.ll_laws.specs.Valid.{Side, GoalSide, ClauseSide, Allowed, Scope, IsFormula, is_on, each_term, places_below, may_head, is_headed, is_atom, has_heads}
 use Rattle.ll_laws.specs.Valid.{fits_module, loads_fit}
 use Rattle.ll_laws.proofs.consistency.ConsistentTerms.{IsHead, Fit, AllFit, fit, fit-places, fit-headed, fit-vars, fit-eigens, Widens, Grows, is_head-more}
-use Rattle.ll_laws.proofs.consistency.ConsistentTerms.{fit-more, all_fit-more, Goes, is_head-sub, fit-sub, all_fit-sub, Closes, is_head-close, fit-close}
+use Rattle.ll_laws.proofs.consistency.ConsistentTerms.{fit-more, all_fit-more, GoesToFitting, is_head-sub}
+use Rattle.ll_laws.proofs.consistency.ConsistentTerms.{fit-sub, all_fit-sub, Closes, is_head-close, fit-close}
 use Rattle.ll_laws.proofs.consistency.ConsistentTerms.{all_fit-close}
 
 -- the other side
@@ -31,20 +32,20 @@ OnGoals GoalSide = Unit {0}
 OnGoals ClauseSide = ⊥
 
 -- the formula may stand on this side, and its terms fit
-abbrev pub Fits : Allowed → Side → Scope → Form → Type 0
-Fits may side scope Top = Unit {0}
-Fits may side scope One = OnGoals side
-Fits may side scope (Atom a) = IsHead scope a × Fit may scope a
-Fits may side scope (With f g) = Fits may side scope f × Fits may side scope g
-Fits may side scope (Tensor f g) = OnGoals side × Fits may side scope f × Fits may side scope g
-Fits may side scope (Plus f g) = OnGoals side × Fits may side scope f × Fits may side scope g
-Fits may side scope (Bang f) = OnGoals side × Fits may side scope f
-Fits may side scope (Lolli f g) = Fits may (other side) scope f × Fits may side scope g
-Fits may side scope (Imp f g) = Fits may (other side) scope f × Fits may side scope g
-Fits may side scope (Forall f) = Fits may side (opens_on may.opens side ∷ scope) f
-Fits may side scope (Exists f) = OnGoals side × Fits may side (false ∷ scope) f
-Fits may side scope (Use m ts f) = OnGoals side × (fits_module (slice_get may.modules m) ts ≡ true) × AllFit may scope ts × Fits may side scope f
-Fits may side scope (Num r t u) = OnGoals side × Fit may scope t × Fit may scope u
+abbrev pub FormFits : Allowed → Side → Scope → Form → Type 0
+FormFits may side scope Top = Unit {0}
+FormFits may side scope One = OnGoals side
+FormFits may side scope (Atom a) = IsHead scope a × Fit may scope a
+FormFits may side scope (With f g) = FormFits may side scope f × FormFits may side scope g
+FormFits may side scope (Tensor f g) = OnGoals side × FormFits may side scope f × FormFits may side scope g
+FormFits may side scope (Plus f g) = OnGoals side × FormFits may side scope f × FormFits may side scope g
+FormFits may side scope (Bang f) = OnGoals side × FormFits may side scope f
+FormFits may side scope (Lolli f g) = FormFits may (other side) scope f × FormFits may side scope g
+FormFits may side scope (Imp f g) = FormFits may (other side) scope f × FormFits may side scope g
+FormFits may side scope (Forall f) = FormFits may side (opens_on may.opens side ∷ scope) f
+FormFits may side scope (Exists f) = OnGoals side × FormFits may side (false ∷ scope) f
+FormFits may side scope (Use m ts f) = OnGoals side × (fits_module (slice_get may.modules m) ts ≡ true) × AllFit may scope ts × FormFits may side scope f
+FormFits may side scope (Num r t u) = OnGoals side × Fit may scope t × Fit may scope u
 
 -- ---- the type and the tests
 
@@ -147,7 +148,7 @@ atom_fits may scope a p h v e =
       fit may scope a p (and_right (is_spine a && may_head scope (head_of a)) (is_headed scope a) h) v e,
     )
 
-fits_of : (may : Allowed) (side : Side) (scope : Scope) (m : ℕ) (f : Form) → Passes (tests may side scope m f) → Fits may side scope f
+fits_of : (may : Allowed) (side : Side) (scope : Scope) (m : ℕ) (f : Form) → Passes (tests may side scope m f) → FormFits may side scope f
 fits_of may side scope m Top t = tt
 fits_of may GoalSide scope m One t = tt
 fits_of may ClauseSide scope m One t = absurd (cc (t.sorted))
@@ -206,7 +207,7 @@ each_fit : (may : Allowed) (scope : Scope) (test : Term → Bool) → ((t : Term
 each_fit may scope test p [] h = refl
 each_fit may scope test p (t ∷ ts) h = and_intro _ _ (p t h.0) (each_fit may scope test p ts h.1)
 
-tests_of : (may : Allowed) (side : Side) (scope : Scope) (m : ℕ) (f : Form) → Fits may side scope f → Passes (tests may side scope m f)
+tests_of : (may : Allowed) (side : Side) (scope : Scope) (m : ℕ) (f : Form) → FormFits may side scope f → Passes (tests may side scope m f)
 tests_of may GoalSide scope m Top h = record { sorted = refl; closed = refl; heads = refl; variables = refl; eigens = refl; loads = refl }
 tests_of may ClauseSide scope m Top h = record { sorted = refl; closed = refl; heads = refl; variables = refl; eigens = refl; loads = refl }
 tests_of may GoalSide scope m One h = record { sorted = refl; closed = refl; heads = refl; variables = refl; eigens = refl; loads = refl }
@@ -269,19 +270,19 @@ tests_of may GoalSide scope m (Num r a b) h = record {
 }
 tests_of may ClauseSide scope m (Num r a b) h = absurd (h.0)
 
-pub fits_of_formula : (may : Allowed) (side : Side) (scope : Scope) (f : Form) → IsFormula may side scope f → Fits may side scope f
+pub fits_of_formula : (may : Allowed) (side : Side) (scope : Scope) (f : Form) → IsFormula may side scope f → FormFits may side scope f
 fits_of_formula may side scope f h =
     fits_of may side scope 0 f (record { sorted = h.sorted; closed = h.closed; heads = h.heads; variables = h.variables; eigens = h.eigens; loads = h.loads })
 
-pub formula_of_fits : (may : Allowed) (side : Side) (scope : Scope) (f : Form) → Fits may side scope f → IsFormula may side scope f
+pub formula_of_fits : (may : Allowed) (side : Side) (scope : Scope) (f : Form) → FormFits may side scope f → IsFormula may side scope f
 formula_of_fits may side scope f h =
     let t = tests_of may side scope 0 f h in
     record { sorted = t.sorted; closed = t.closed; heads = t.heads; variables = t.variables; eigens = t.eigens; loads = t.loads }
 
 -- ---- weakening, substitution and closing
 
-pub fits-more : (may more : Allowed) (side : Side) (scope wide : Scope) (f : Form) → Grows may more → Widens scope wide → Fits may side scope f
-    → Fits more side wide f
+pub fits-more : (may more : Allowed) (side : Side) (scope wide : Scope) (f : Form) → Grows may more → Widens scope wide → FormFits may side scope f
+    → FormFits more side wide f
 fits-more may more side scope wide Top g w h = tt
 fits-more may more side scope wide One g w h = h
 fits-more may more side scope wide (Atom a) g w h = (is_head-more scope wide a w h.0, fit-more may more scope wide a g w h.1)
@@ -311,7 +312,8 @@ pub fits_module-length : (o : Option ModuleTree) (ts us : List Term) → length 
 fits_module-length None ts us e h = cc
 fits_module-length (Some m) ts us e h = subst (λ n. nat_eq n m.params ≡ true) (sym e) h
 
-pub fits-sub : (may : Allowed) (s : ℕ → Term) (side : Side) (scope : Scope) (f : Form) → Goes may s → Fits may side scope f → Fits may side scope (sub_form s f)
+pub fits-sub : (may : Allowed) (s : ℕ → Term) (side : Side) (scope : Scope) (f : Form) → GoesToFitting may s
+    → FormFits may side scope f → FormFits may side scope (sub_form s f)
 fits-sub may s side scope Top g h = tt
 fits-sub may s side scope One g h = h
 fits-sub may s side scope (Atom a) g h = (is_head-sub s scope a h.0, fit-sub may s scope a g h.1)
@@ -331,8 +333,8 @@ fits-sub may s side scope (Use m ts p) g h = (
 )
 fits-sub may s side scope (Num r a b) g h = (h.0, fit-sub may s scope a g h.1, fit-sub may s scope b g h.2)
 
-pub fits-close : (may : Allowed) (e : Env) (side : Side) (inner outer : Scope) (f : Form) → Closes may e inner outer → Fits may side inner f
-    → Fits may side outer (close_form e f)
+pub fits-close : (may : Allowed) (e : Env) (side : Side) (inner outer : Scope) (f : Form) → Closes may e inner outer → FormFits may side inner f
+    → FormFits may side outer (close_form e f)
 fits-close may e side inner outer Top c h = tt
 fits-close may e side inner outer One c h = h
 fits-close may e side inner outer (Atom a) c h = (is_head-close may e inner outer a c h.0, fit-close may e inner outer a c h.1)

@@ -11,26 +11,26 @@ use Rattle.ll_laws.specs.Leaf.{Premise, Needs, NeedsFree, premise_goal, Leaf, ad
 use Rattle.ll_laws.specs.Module.{ClauseTree, ModuleTree, load, load_all, forall_all, unfold_load}
 use Rattle.ll_laws.specs.Valid.{GoalSide, ClauseSide, Allowed, Scope, module_scope}
 use Rattle.ll_laws.proofs.consistency.ConsistentTerms.{IsHead, Fit, AllFit, widens-refl, grows-refl, Closes, is_head-close, fit-close}
-use Rattle.ll_laws.proofs.consistency.ConsistentForms.{Fits, fits-more, fits-close}
+use Rattle.ll_laws.proofs.consistency.ConsistentForms.{FormFits, fits-more, fits-close}
 
 -- ---- leaves
 
 -- the goal of each premise fits
 abbrev pub PremisesFit : Allowed → List Premise → Type 0
 PremisesFit may [] = Unit {0}
-PremisesFit may (p ∷ ps) = Fits may GoalSide [] (premise_goal p) × PremisesFit may ps
+PremisesFit may (p ∷ ps) = FormFits may GoalSide [] (premise_goal p) × PremisesFit may ps
 
 pub record LeafFits (may : Allowed) (l : Leaf) : Type 0 where
   pub premises : PremisesFit may l.premises
   pub head : IsHead [] l.head × Fit may [] l.head
 
-premises-append : (may : Allowed) (ps : List Premise) (p : Premise) → PremisesFit may ps → Fits may GoalSide [] (premise_goal p)
+premises-append : (may : Allowed) (ps : List Premise) (p : Premise) → PremisesFit may ps → FormFits may GoalSide [] (premise_goal p)
     → PremisesFit may (ps ++ p ∷ [])
 premises-append may [] p h f = (f, tt)
 premises-append may (q ∷ ps) p h f = (h.0, premises-append may ps p h.1 f)
 
 -- a leaf with a premise more comes from one without it
-under : (may : Allowed) (p : Premise) (o : Option Leaf) (l : Leaf) → option_map (add_premise p) o ≡ Some l → Fits may GoalSide [] (premise_goal p)
+under : (may : Allowed) (p : Premise) (o : Option Leaf) (l : Leaf) → option_map (add_premise p) o ≡ Some l → FormFits may GoalSide [] (premise_goal p)
     → ((i : Leaf) → o ≡ Some i → LeafFits may i) → LeafFits may l
 under may p None l h f g = cc
 under may p (Some i) l h f g =
@@ -38,7 +38,7 @@ under may p (Some i) l h f g =
     subst (λ z. LeafFits may z) e (record { premises = premises-append may i.premises p k.premises f; head = k.head })
 
 pub leaf_from-fits : (may : Allowed) (e : Env) (inner : Scope) (r : Form) (k : ℕ) (ts : List Term) (l : Leaf) → Closes may e inner []
-    → Fits may ClauseSide inner r → AllFit may [] ts
+    → FormFits may ClauseSide inner r → AllFit may [] ts
     → leaf_from e r k ts ≡ Some l → LeafFits may l
 leaf_from-fits may e inner (Atom a) zero [] l c f t h =
     let x : Leaf = record { premises = []; head = close e a } in
@@ -64,7 +64,7 @@ leaf_from-fits may e inner (Forall r) k [] l c f t h = cc
 leaf_from-fits may e inner (Forall r) k (u ∷ us) l c f t h = leaf_from-fits may (Some u ∷ e) (false ∷ inner) r k us l (t.0, λ i. absurd (cc (i)), c) f t.1 h
 leaf_from-fits may e inner _ k ts l c f t h = cc
 
-pub leaf-fits : (may : Allowed) (r : Form) (k : ℕ) (ts : List Term) (l : Leaf) → Fits may ClauseSide [] r → AllFit may [] ts → leaf r k ts ≡ Some l
+pub leaf-fits : (may : Allowed) (r : Form) (k : ℕ) (ts : List Term) (l : Leaf) → FormFits may ClauseSide [] r → AllFit may [] ts → leaf r k ts ≡ Some l
     → LeafFits may l
 leaf-fits may r k ts l f t h = leaf_from-fits may [] [] r k ts l tt f t h
 
@@ -73,16 +73,16 @@ leaf-fits may r k ts l f t h = leaf_from-fits may [] [] r k ts l tt f t h
 -- each clause fits
 abbrev pub ClausesFit : Allowed → Scope → List ClauseTree → Type 0
 ClausesFit may scope [] = Unit {0}
-ClausesFit may scope (c ∷ cs) = Fits may ClauseSide scope c.form × ClausesFit may scope cs
+ClausesFit may scope (c ∷ cs) = FormFits may ClauseSide scope c.form × ClausesFit may scope cs
 
-load-fits : (may : Allowed) (kind : Kind) (scope : Scope) (r g : Form) → Fits may ClauseSide scope r → Fits may GoalSide scope g
-    → Fits may GoalSide scope (load kind r g)
+load-fits : (may : Allowed) (kind : Kind) (scope : Scope) (r g : Form) → FormFits may ClauseSide scope r → FormFits may GoalSide scope g
+    → FormFits may GoalSide scope (load kind r g)
 load-fits may Linear scope r g f h = (f, h)
 load-fits may Unbounded scope r g f h = (f, h)
 
 load_all-fits : (may : Allowed) (e : Env) (inner outer : Scope) (cs : List ClauseTree) (g : Form) → Closes may e inner outer → ClausesFit may inner cs
-    → Fits may GoalSide outer g
-    → Fits may GoalSide outer (load_all e cs g)
+    → FormFits may GoalSide outer g
+    → FormFits may GoalSide outer (load_all e cs g)
 load_all-fits may e inner outer [] g c f h = h
 load_all-fits may e inner outer (d ∷ cs) g c f h =
     load-fits may d.kind outer (close_form e d.form) (load_all e cs g) (fits-close may e ClauseSide inner outer d.form c f.0)
@@ -92,12 +92,12 @@ pub replicate-front : (n : ℕ) (b : Bool) (scope : Scope) → replicate n b ++ 
 replicate-front zero b scope = refl
 replicate-front (suc n) b scope = ap (λ xs. b ∷ xs) (replicate-front n b scope)
 
-forall_all-fits : (may : Allowed) (n : ℕ) (scope : Scope) (g : Form) → may.opens ≡ true → Fits may GoalSide (replicate n true ++ scope) g
-    → Fits may GoalSide scope (forall_all n g)
+forall_all-fits : (may : Allowed) (n : ℕ) (scope : Scope) (g : Form) → may.opens ≡ true → FormFits may GoalSide (replicate n true ++ scope) g
+    → FormFits may GoalSide scope (forall_all n g)
 forall_all-fits may zero scope g o h = h
 forall_all-fits may (suc n) scope g o h =
-    let i = subst (λ xs. Fits may GoalSide xs g) (sym (replicate-front n true scope)) h in
-    forall_all-fits may n (may.opens ∷ scope) g o (subst (λ b. Fits may GoalSide (replicate n true ++ b ∷ scope) g) (sym o) i)
+    let i = subst (λ xs. FormFits may GoalSide xs g) (sym (replicate-front n true scope)) h in
+    forall_all-fits may n (may.opens ∷ scope) g o (subst (λ b. FormFits may GoalSide (replicate n true ++ b ∷ scope) g) (sym o) i)
 
 -- closed arguments go to the parameters
 arguments-close : (may : Allowed) (us : List Term) (outer : Scope) → AllFit may [] us
@@ -111,7 +111,7 @@ reverse_aux-fits may (t ∷ ts) us h i = reverse_aux-fits may ts (t ∷ us) h.1 
 
 pub unfold_load-fits : (may : Allowed) (m : ModuleTree) (ts : List Term) (g : Form) → may.opens ≡ true → ClausesFit may (module_scope m) m.clauses
     → length ts ≡ m.params → AllFit may [] ts
-    → Fits may GoalSide [] g → Fits may GoalSide [] (unfold_load m ts g)
+    → FormFits may GoalSide [] g → FormFits may GoalSide [] (unfold_load m ts g)
 unfold_load-fits may m ts g o f n t h =
     let us = reverse ts in
     let c = arguments-close may us (replicate m.locals true) (reverse_aux-fits may ts [] t tt) in
@@ -120,4 +120,4 @@ unfold_load-fits may m ts g o f n t h =
     let w = fits-more may may GoalSide [] (replicate m.locals true) g (grows-refl may) tt h in
     let all = load_all-fits may (map (λ t. Some t) us) (module_scope m) (replicate m.locals true) m.clauses g d f w in
     forall_all-fits may m.locals [] (load_all (map (λ t. Some t) us) m.clauses g) o
-    (subst (λ xs. Fits may GoalSide xs (load_all (map (λ t. Some t) us) m.clauses g)) (sym (append-nil (replicate m.locals true))) all)
+    (subst (λ xs. FormFits may GoalSide xs (load_all (map (λ t. Some t) us) m.clauses g)) (sym (append-nil (replicate m.locals true))) all)

@@ -6,7 +6,7 @@ use Rattle.std.proofs.lemmas.List.Folds.{list_all-append}
 use Rattle.std.proofs.lemmas.Bool.{ltb-true, lt-ltb, leb-true, le-leb, eqb-true, ne_eqb, and_from as and_intro}
 use Rattle.std.specs.Prelude.{◌||◌, not, if◌then◌else◌, nat_lt, nat_le, Option, Some, None, slice_get, slice_index, option_map, option_and_then}
 use Rattle.std.specs.List.{list_all, list_any}
-use Rattle.ll_lists.proofs.CallerLemmas.{and_true_left as and_left, and_true_right as and_right, lt_more}
+use Rattle.ll_list_laws.proofs.CallerLemmas.{and_true_left as and_left, and_true_right as and_right, lt_more}
 use Rattle.ll_bank.specs.declared.Head.TheVariants.{Eigen}
 use Rattle.ll_bank.specs.Term.{Term, Var, Con, sub, Int}
 use Rattle.ll_bank.specs.Form.{Form, Top, One, Atom, With, Tensor, Plus, Bang, Lolli, Imp, Forall, Exists, Use, instantiate, Num, Is, Less, Most}
@@ -25,8 +25,8 @@ use Rattle.ll_laws.specs.Valid.{GoalSide, ClauseSide, Allowed, Scope, IsFormula,
 use Rattle.ll_laws.specs.Consistent.{ends_fit, allowed_in, AreGoals, AreResources, is_made, IsConsistent}
 use Rattle.ll_laws.specs.Laws.{StepsConsistent}
 use Rattle.ll_laws.proofs.unification.UnifyOver.{Falls, solve-falls}
-use Rattle.ll_laws.proofs.consistency.ConsistentTerms.{Fit, AllFit, widens-refl, Grows, fit-more, fit_of_made, fit-made, Goes, fit-sub}
-use Rattle.ll_laws.proofs.consistency.ConsistentForms.{Fits, fits_of_formula, formula_of_fits, fits-more, fits-close}
+use Rattle.ll_laws.proofs.consistency.ConsistentTerms.{Fit, AllFit, widens-refl, Grows, fit-more, fit_of_made, fit-made, GoesToFitting, fit-sub}
+use Rattle.ll_laws.proofs.consistency.ConsistentForms.{FormFits, fits_of_formula, formula_of_fits, fits-more, fits-close}
 use Rattle.ll_laws.proofs.consistency.ConsistentUnifier.{mgu-goes}
 use Rattle.ll_laws.proofs.consistency.ConsistentLeaves.{PremisesFit, LeafFits, leaf-fits, ClausesFit, unfold_load-fits}
 use Rattle.ll_laws.proofs.consistency.ConsistentContexts.{alike-unlive, alike-picked, alike-sub, alike-ends, alike-below, alike-differ, marks-fit, may-unlive}
@@ -77,7 +77,7 @@ front-picked may label l a es f = record {
   ends = alike-ends a es (picked l es) (alike-picked l es) f.ends;
 }
 
-front-sub : (may : Allowed) (s : ℕ → Term) (label : ℕ) (a : List (Item Form)) (es : List (Entry Form)) → Goes may s → IsFront may label a es
+front-sub : (may : Allowed) (s : ℕ → Term) (label : ℕ) (a : List (Item Form)) (es : List (Entry Form)) → GoesToFitting may s → IsFront may label a es
     → IsFront may label (map (sub_item s) a) (map (sub_entry s) es)
 front-sub may s label a es g f = record {
   goals = goals-sub may s a g f.goals;
@@ -121,7 +121,7 @@ front-loaded may label a b es kind r f c g e = record {
 done : (m : Setting) (x t : State) → Some x ≡ Some t → IsConsistent m x → IsConsistent m t
 done m x t h c = let e : x ≡ t = cc in subst (IsConsistent m) e c
 
--- a state with another front, and the same variables and eigenconstants
+-- a state with another front, and the same variables and eigenvariables
 kept : (m : Setting) (s : State) (a : List (Item Form)) (es : List (Entry Form)) (flag : Bool) (label : ℕ) (steps : List Step) → IsConsistent m s
     → IsFront (allowed_in m s) label a es
     → IsConsistent m (record s { agenda = a; context = es; flag = flag; label = label; steps = steps })
@@ -145,7 +145,7 @@ made-more may more (t ∷ ts) g h =
     (fit_of_made may t (and_left (is_made may.variables may.eigens t) (list_all (is_made may.variables may.eigens) ts) h))))
     (made-more may more ts g (and_right (is_made may.variables may.eigens t) (list_all (is_made may.variables may.eigens) ts) h))
 
-made-sub : (may : Allowed) (s : ℕ → Term) (ts : List Term) → Goes may s → list_all (is_made may.variables may.eigens) ts ≡ true
+made-sub : (may : Allowed) (s : ℕ → Term) (ts : List Term) → GoesToFitting may s → list_all (is_made may.variables may.eigens) ts ≡ true
     → list_all (is_made may.variables may.eigens) (map (sub s) ts) ≡ true
 made-sub may s [] g h = refl
 made-sub may s (t ∷ ts) g h =
@@ -159,7 +159,7 @@ levels-more d e (l ∷ ls) le h =
     let k = leb-true l d (and_left (nat_le l d) (list_all (λ l. nat_le l d) ls) h) in
     and_intro _ _ (le-leb l e (omega arith)) (levels-more d e ls le (and_right (nat_le l d) (list_all (λ l. nat_le l d) ls) h))
 
--- levels that fell stay up to the number of eigenconstants
+-- levels that fell stay up to the number of eigenvariables
 levels-fall : (e : ℕ) (old new : List ℕ) → length new ≡ length old → ((x : ℕ) → slice_index new x ≤ slice_index old x) → list_all (λ l. nat_le l e) old ≡ true
     → list_all (λ l. nat_le l e) new ≡ true
 levels-fall e old [] n f h = refl
@@ -247,7 +247,7 @@ same_count : (m : Setting) (w : State) (levels : List ℕ) → length levels ≡
 same_count m w levels e = record { modules = refl; variables = omega arith; eigens = omega arith; opens = λ h. h }
 
 -- a consistent state under a substitution to terms that fit, with levels that fell
-instantiated-consistent : (m : Setting) (w : State) (u : Solved) → IsConsistent m w → Goes (allowed_in m w) u.subst → Falls w.levels u.levels
+instantiated-consistent : (m : Setting) (w : State) (u : Solved) → IsConsistent m w → GoesToFitting (allowed_in m w) u.subst → Falls w.levels u.levels
     → IsConsistent m (instantiated w u)
 instantiated-consistent m w u c g l =
     let may = allowed_in m w in
@@ -369,7 +369,7 @@ value-consistent m s t a rest (Some z) i r e fa h = step (mgu (a ∷ []) (Int z 
 
 goal-consistent : (names : ℕ) (m : Setting) (s t : State) (g : Form) (rest : List (Item Form)) (c : Candidate) → AreModules names m.modules m.modules
     → IsConsistent m s
-    → Fits (allowed_in m s) GoalSide [] g → AreGoals (allowed_in m s) rest → ends_fit rest s.context ≡ true → attempt_goal m s g rest c ≡ Some t
+    → FormFits (allowed_in m s) GoalSide [] g → AreGoals (allowed_in m s) rest → ends_fit rest s.context ≡ true → attempt_goal m s g rest c ≡ Some t
     → IsConsistent m t
 goal-consistent names m s t One rest c v i f r e h =
     done m _ t h (kept m s rest s.context s.flag s.label _ i (front-agenda (allowed_in m s) s.label s.agenda rest s.context (front_of_state m s i) r e))

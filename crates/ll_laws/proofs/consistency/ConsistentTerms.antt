@@ -3,7 +3,7 @@ use Rattle.std.proofs.Common.{◌≡◌, ℕ, zero, suc, ◌+◌, ◌≤◌, ref
 use Rattle.std.proofs.lemmas.Bool.{ltb-true, lt-ltb, and_from as and_intro}
 use Rattle.std.specs.Prelude.{◌&&◌, Option, Some, None, nat_lt, slice_index_or}
 use Rattle.std.specs.List.{list_all}
-use Rattle.ll_lists.proofs.CallerLemmas.{lt_more, lt_zero as none_below, and_true_left as and_left, and_true_right as and_right}
+use Rattle.ll_list_laws.proofs.CallerLemmas.{lt_more, lt_zero as none_below, and_true_left as and_left, and_true_right as and_right}
 use Rattle.ll_bank.specs.declared.Head.{Head}
 use Rattle.ll_bank.specs.declared.Head.TheVariants.{Name, Eigen, Bound}
 use Rattle.ll_bank.specs.Term.{Term, Var, Int, Con, Ap, sub, Env, place, close, head_of, is_closed, is_spine, applies_heads, eigens_below}
@@ -200,8 +200,8 @@ fit-anywhere may scope t h = fit-more may may [] scope t (grows-refl may) tt h
 -- ---- substitution
 
 -- each variable that there is goes to a closed term
-abbrev pub Goes : Allowed → (ℕ → Term) → Type 0
-Goes may s = (x : ℕ) → nat_lt x may.variables ≡ true → Fit may [] (s x)
+abbrev pub GoesToFitting : Allowed → (ℕ → Term) → Type 0
+GoesToFitting may s = (x : ℕ) → nat_lt x may.variables ≡ true → Fit may [] (s x)
 
 pub is_head-sub : (s : ℕ → Term) (scope : Scope) (t : Term) → IsHead scope t → IsHead scope (sub s t)
 is_head-sub s scope (Var x) h = absurd (cc (h.0))
@@ -209,13 +209,14 @@ is_head-sub s scope (Int z) h = absurd (cc (h.0))
 is_head-sub s scope (Con k) h = h
 is_head-sub s scope (Ap f a) h = is_head-sub s scope f h
 
-pub fit-sub : (may : Allowed) (s : ℕ → Term) (scope : Scope) (t : Term) → Goes may s → Fit may scope t → Fit may scope (sub s t)
+pub fit-sub : (may : Allowed) (s : ℕ → Term) (scope : Scope) (t : Term) → GoesToFitting may s → Fit may scope t → Fit may scope (sub s t)
 fit-sub may s scope (Var x) g h = fit-anywhere may scope (s x) (g x h)
 fit-sub may s scope (Int z) g h = tt
 fit-sub may s scope (Con k) g h = h
 fit-sub may s scope (Ap f a) g h = (is_head-sub s scope f h.0, fit-sub may s scope f g h.1, fit-sub may s scope a g h.2)
 
-pub all_fit-sub : (may : Allowed) (s : ℕ → Term) (scope : Scope) (ts : List Term) → Goes may s → AllFit may scope ts → AllFit may scope (map (sub s) ts)
+pub all_fit-sub : (may : Allowed) (s : ℕ → Term) (scope : Scope) (ts : List Term) → GoesToFitting may s
+    → AllFit may scope ts → AllFit may scope (map (sub s) ts)
 all_fit-sub may s scope [] g h = tt
 all_fit-sub may s scope (t ∷ ts) g h = (fit-sub may s scope t g h.0, all_fit-sub may s scope ts g h.1)
 

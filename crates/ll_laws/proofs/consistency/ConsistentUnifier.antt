@@ -7,7 +7,7 @@ use Rattle.ll_laws.specs.Unify.{Diff, Same, Clash, Meet, and_then, when, diff_va
 use Rattle.ll_laws.specs.Unify.{bind_term, resolve, solve, mgu}
 use Rattle.ll_laws.specs.Valid.{Allowed}
 use Rattle.ll_laws.proofs.unification.UnifyLaws.{begins, bound_list}
-use Rattle.ll_laws.proofs.consistency.ConsistentTerms.{Fit, AllFit, Goes, fit-sub, all_fit-sub}
+use Rattle.ll_laws.proofs.consistency.ConsistentTerms.{Fit, AllFit, GoesToFitting, fit-sub, all_fit-sub}
 
 -- the place where two terms first differ fits
 abbrev MeetFits : Allowed → Diff → Type 0
@@ -72,22 +72,22 @@ value-fits may levels x (Int z) b h l f = term-value may levels x (Int z) b h f
 value-fits may levels x (Con k) b h l f = term-value may levels x (Con k) b h f
 value-fits may levels x (Ap t u) b h l f = term-value may levels x (Ap t u) b h f
 
-bound_to-goes : (may : Allowed) (v : ℕ) (w : Term) → Fit may [] w → Goes may (bound_to v w)
+bound_to-goes : (may : Allowed) (v : ℕ) (w : Term) → Fit may [] w → GoesToFitting may (bound_to v w)
 bound_to-goes may v w f y l = step (nat_eq y v)
   where
     step : (b : Bool) → Fit may [] (if b then w else Var y)
     step true = f
     step false = l
 
-same-goes : (may : Allowed) (levels : List ℕ) (v : Solved) → Some (record { subst = Var; levels = levels }) ≡ Some v → Goes may v.subst
+same-goes : (may : Allowed) (levels : List ℕ) (v : Solved) → Some (record { subst = Var; levels = levels }) ≡ Some v → GoesToFitting may v.subst
 same-goes may levels v h =
-    let c : Solved = record { subst = Var; levels = levels } in let e : c ≡ v = cc in subst (λ z. Goes may z.subst) e (λ x l. l)
+    let c : Solved = record { subst = Var; levels = levels } in let e : c ≡ v = cc in subst (λ z. GoesToFitting may z.subst) e (λ x l. l)
 
 solve-goes : (may : Allowed) (n : ℕ) (ls rs : List Term) (levels : List ℕ) (v : Solved) → AllFit may [] ls → AllFit may [] rs → solve n ls rs levels ≡ Some v
-    → Goes may v.subst
+    → GoesToFitting may v.subst
 solve-goes may zero ls rs levels v a b h = go (diff_lists ls rs) h
   where
-    go : (d : Diff) → resolve d levels (λ b. None) ≡ Some v → Goes may v.subst
+    go : (d : Diff) → resolve d levels (λ b. None) ≡ Some v → GoesToFitting may v.subst
     go Same h = same-goes may levels v h
     go Clash h = cc
     go (Meet x t) h = let b = begins levels x t (λ b. None) v h in cc (b.goes)
@@ -96,8 +96,8 @@ solve-goes may (suc n) ls rs levels v a c h = go (solve-goes may n) (diff_lists 
     next : Binding → Option Solved
     next b = solve n (bound_list b ls) (bound_list b rs) b.levels
 
-    go : ((ls rs : List Term) (levels : List ℕ) (v : Solved) → AllFit may [] ls → AllFit may [] rs → solve n ls rs levels ≡ Some v → Goes may v.subst)
-        → (d : Diff) → MeetFits may d → resolve d levels next ≡ Some v → Goes may v.subst
+    go : ((ls rs : List Term) (levels : List ℕ) (v : Solved) → AllFit may [] ls → AllFit may [] rs → solve n ls rs levels ≡ Some v → GoesToFitting may v.subst)
+        → (d : Diff) → MeetFits may d → resolve d levels next ≡ Some v → GoesToFitting may v.subst
     go ih Same m h = same-goes may levels v h
     go ih Clash m h = cc
     go ih (Meet x t) m h =
@@ -106,10 +106,10 @@ solve-goes may (suc n) ls rs levels v a c h = go (solve-goes may n) (diff_lists 
         let g = bound_to-goes may k.var k.value (value-fits may levels x t k b.bound m.0 m.1) in
         let i = ih (bound_list k ls) (bound_list k rs) k.levels b.inner (all_fit-sub may (bound_to k.var k.value) [] ls g a)
         (all_fit-sub may (bound_to k.var k.value) [] rs g c) b.goes in
-        subst (λ z. Goes may z.subst) b.is (λ y l. fit-sub may b.inner.subst [] (bound_to k.var k.value y) i (g y l))
+        subst (λ z. GoesToFitting may z.subst) b.is (λ y l. fit-sub may b.inner.subst [] (bound_to k.var k.value y) i (g y l))
 
 -- each variable that there is goes to a term that fits
 pub mgu-goes : (may : Allowed) (ls rs : List Term) (levels : List ℕ) (v : Solved) → AllFit may [] ls → AllFit may [] rs → mgu ls rs levels ≡ Some v
-    → Goes may v.subst
+    → GoesToFitting may v.subst
 unfolding mgu
 mgu-goes may ls rs levels v a b h = solve-goes may (length levels) ls rs levels v a b h

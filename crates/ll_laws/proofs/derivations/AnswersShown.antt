@@ -5,7 +5,7 @@ use Rattle.std.specs.Prelude.{◌&&◌, nat_lt, Option, Some, None, slice_get, s
 use Rattle.std.proofs.lemmas.Bool.{lt-ltb, cases_lt}
 use Rattle.std.proofs.lemmas.List.{map-append, length-map}
 use Rattle.std.proofs.Math.Seq.{drop-append_seam, take-append_seam, get_or-append_seam}
-use Rattle.ll_lists.proofs.CallerLemmas.{and_true_left as and_left, map_same, map_map, slice_index-append as old_level}
+use Rattle.ll_list_laws.proofs.CallerLemmas.{and_true_left as and_left, map_same, map_map, slice_index-append as old_level}
 use Rattle.ll_bank.specs.Term.{Term, Var, sub, is_closed, eigens_below, Int}
 use Rattle.ll_bank.specs.Form.{Form, Top, One, Atom, With, Tensor, Plus, Bang, Lolli, Imp, Forall, Exists, Use, sub_form, instantiate, Num, Is, Less, Most}
 use Rattle.ll_laws.specs.declared.Candidate.{Candidate}
@@ -29,7 +29,7 @@ use Rattle.ll_laws.specs.Run as Run
 use Rattle.ll_laws.proofs.unification.SubLaws.{sub_comp, sub_instantiate, IsClosing}
 use Rattle.ll_laws.proofs.search.SettleLaws.{settle_twice}
 use Rattle.ll_laws.proofs.unification.UnifyBest.{found-unifier}
-use Rattle.ll_laws.proofs.consistency.ConsistentTerms.{Fit, fit-more, fit-vars, fit-made, Goes as GoesTo}
+use Rattle.ll_laws.proofs.consistency.ConsistentTerms.{Fit, fit-more, fit-vars, fit-made, GoesToFitting as GoesTo}
 use Rattle.ll_laws.proofs.consistency.ConsistentForms.{fits-more, fits_of_formula}
 use Rattle.ll_laws.proofs.consistency.ConsistentLeaves.{LeafFits, leaf-fits}
 use Rattle.ll_laws.proofs.consistency.ConsistentUnifier.{mgu-goes}

@@ -6,8 +6,8 @@ use Rattle.std.proofs.lemmas.Bool.{eqb-true, eq-eqb, ne_eqb, both_ways, or_right
 use Rattle.std.proofs.lemmas.List.{map-append}
 use Rattle.std.proofs.lemmas.List.Folds.{list_any-append}
 use Rattle.std.proofs.Math.Bool.{or-false}
-use Rattle.ll_lists.proofs.CallerLemmas.{false_from_not as not_of_true, or_false_left as or_off_left, or_false_right as or_off_right, and_true_left}
-use Rattle.ll_lists.proofs.CallerLemmas.{and_true_left as and_one, and_true_right as and_two, or_elim as or_split, or_exchange}
+use Rattle.ll_list_laws.proofs.CallerLemmas.{false_from_not as not_of_true, or_false_left as or_off_left, or_false_right as or_off_right, and_true_left}
+use Rattle.ll_list_laws.proofs.CallerLemmas.{and_true_left as and_one, and_true_right as and_two, or_elim as or_split, or_exchange}
 use Rattle.ll_bank.specs.Term.{Term, Con}
 use Rattle.ll_bank.specs.Form.{Form, Top, One, Atom, With, Tensor, Plus, Bang, Lolli, Imp, Forall, Exists, Use, instantiate, form_has_eigen, Num}
 use Rattle.ll_laws.specs.Leaf.{Premise, Needs, NeedsFree}
@@ -311,16 +311,6 @@ taken_has n (l ∷ ls) r e k m = step (nat_eq n l.label) refl (take_label n ls) 
     step false f (Took s t) q ih k =
         let j : l ∷ t ≡ e = cc in
         ap (λ b. nat_eq m l.label || b) (ih s t q m) ∙ (or_exchange (nat_eq m l.label) (nat_eq m n) (has_label t m) ∙ ap (λ x. nat_eq m n || has_label x m) j)
-
-missing_has : (n : ℕ) (i : List Labelled) → take_label n i ≡ Missing → has_label i n ≡ false
-missing_has n [] k = refl
-missing_has n (l ∷ ls) k = step (nat_eq n l.label) (take_label n ls) refl (missing_has n ls) k
-  where
-    step : (b : Bool) (o : Found) → take_label n ls ≡ o → (take_label n ls ≡ Missing → has_label ls n ≡ false)
-        → (if b then Took l.clause ls else behind l o) ≡ Missing → (b || has_label ls n) ≡ false
-    step true o q ih k = cc
-    step false Missing q ih k = ih q
-    step false (Took s t) q ih k = cc
 
 without_none : (n : ℕ) (d : List Labelled) → has_label d n ≡ false → without n (labels d) ≡ labels d
 without_none n [] h = refl

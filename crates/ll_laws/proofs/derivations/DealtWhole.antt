@@ -4,7 +4,7 @@ use Rattle.std.specs.Prelude.{◌&&◌, not, filter, nat_lt, nat_eq, Option, Som
 use Rattle.std.specs.List.{list_all}
 use Rattle.std.proofs.lemmas.Bool.{ltb-true, lt-ltb, and_from as and_intro}
 use Rattle.std.proofs.lemmas.List.Folds.{list_all-append}
-use Rattle.ll_lists.proofs.CallerLemmas.{and_true_left as and_left, and_true_right as and_right}
+use Rattle.ll_list_laws.proofs.CallerLemmas.{and_true_left as and_left, and_true_right as and_right}
 use Rattle.ll_bank.specs.Term.{Term, is_closed}
 use Rattle.ll_bank.specs.Form.{Form}
 use Rattle.ll_laws.specs.Leaf.{Premise, Needs, NeedsFree}

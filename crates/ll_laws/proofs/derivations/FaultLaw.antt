@@ -4,7 +4,7 @@ use Rattle.std.specs.Prelude.{◌&&◌, ◌||◌, not, if◌then◌else◌, nat_
 use Rattle.std.specs.List.{list_any}
 use Rattle.std.proofs.lemmas.Bool.{eqb-true, eq-eqb, lt-ltb, not_from_false}
 use Rattle.std.proofs.lemmas.Bool.Decides.{Decides-int_eq}
-use Rattle.ll_lists.proofs.CallerLemmas.{false_from_not as not-true, and_true_left as and_one, and_true_right as and_two, slice_get-inside as slice_at}
+use Rattle.ll_list_laws.proofs.CallerLemmas.{false_from_not as not-true, and_true_left as and_one, and_true_right as and_two, slice_get-inside as slice_at}
 use Rattle.ll_bank.specs.declared.Head.TheVariants.{Eigen}
 use Rattle.ll_bank.specs.Term.{Term, Var, Int, Con, Ap}
 use Rattle.ll_bank.specs.Form.{Form, Top, One, Atom, With, Tensor, Plus, Bang, Lolli, Imp, Forall, Exists, Use, instantiate, form_has_eigen, Num}

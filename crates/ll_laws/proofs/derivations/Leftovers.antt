@@ -6,8 +6,8 @@ use Rattle.std.proofs.lemmas.Bool.{eqb-true, eq-eqb, eqb-false, ne_eqb, or_right
 use Rattle.std.proofs.lemmas.List.{append-nil, map-append}
 use Rattle.std.proofs.lemmas.List.Folds.{list_any-append}
 use Rattle.std.proofs.Math.Bool.{and-true, or-false, or-true}
-use Rattle.ll_lists.proofs.CallerLemmas.{or_false_left as or_off_left, or_false_right as or_off_right, and_true_left as and_one, and_true_right as and_two}
-use Rattle.ll_lists.proofs.CallerLemmas.{or_elim as or_split, or_assoc, not_eq_sym}
+use Rattle.ll_list_laws.proofs.CallerLemmas.{or_false_left as or_off_left, or_false_right as or_off_right, and_true_left as and_one, and_true_right as and_two}
+use Rattle.ll_list_laws.proofs.CallerLemmas.{or_elim as or_split, or_assoc, not_eq_sym}
 use Rattle.ll_bank.specs.Term.{Term}
 use Rattle.ll_bank.specs.Form.{Form, Bang, form_has_eigen}
 use Rattle.ll_laws.specs.Leaf.{Premise}
@@ -102,10 +102,6 @@ Sound (e ∷ es) = (list_any (λ d. nat_eq e.label d.label) es ≡ false) × (is
 
 pub relive : (e : Entry Form) (b c : Bool) → b ≡ c → record e { live = b } ≡ record e { live = c }
 relive e b c h = ap (λ z. record e { live = z }) h
-
-pub map_same_all : (f g : Entry Form → Entry Form) → ((e : Entry Form) → f e ≡ g e) → (es : List (Entry Form)) → map f es ≡ map g es
-map_same_all f g h [] = refl
-map_same_all f g h (e ∷ es) = let a = h e in let b = map_same_all f g h es in cc
 
 pub used_none : (x : Tree) → ((n : ℕ) → uses n x ≡ false) → (es : List (Entry Form)) → used_up x es ≡ es
 used_none x h [] = refl

@@ -3,7 +3,7 @@ use Rattle.std.proofs.Common.{◌≡◌, refl, ap, sym, subst, ◌∙◌, Bool, 
 use Rattle.std.specs.Prelude.{◌||◌, Option, Some, None, option_and_then}
 use Rattle.std.specs.List.{list_any}
 use Rattle.std.proofs.Math.Bool.{or-false}
-use Rattle.ll_lists.proofs.CallerLemmas.{or_assoc}
+use Rattle.ll_list_laws.proofs.CallerLemmas.{or_assoc}
 use Rattle.ll_laws.specs.Shows.{Tree, OneNode, EraseNode, NumNode, TensorNode, WithNode, LeftNode, RightNode, BangNode, LolliNode, ImpNode, ForallNode}
 use Rattle.ll_laws.specs.Shows.{ExistsNode, UseNode, ClauseNode, Parts, NoParts, BoundedPart, UnboundedPart}
 use Rattle.ll_laws.specs.Line.{PartLine, Labels, Free, Line, OneLine, EraseLine, NumLine, WithLine, LeftLine, RightLine, BangLine, UseLine, TensorLine}

@@ -4,7 +4,7 @@ use Rattle.std.specs.Prelude.{filter, ◌||◌, not, if◌then◌else◌}
 use Rattle.std.specs.List.{list_any}
 use Rattle.std.proofs.lemmas.Bool.{eqb-true, eq-eqb, both_ways}
 use Rattle.std.proofs.lemmas.List.Folds.{list_any-append}
-use Rattle.ll_lists.proofs.CallerLemmas.{or_false_right as or_off_right, or_exchange}
+use Rattle.ll_list_laws.proofs.CallerLemmas.{or_false_right as or_off_right, or_exchange}
 use Rattle.ll_bank.specs.Form.{Form, Top, One, Atom, With, Tensor, Plus, Bang, Lolli, Imp, Forall, Exists, Use, instantiate, form_has_eigen, Num}
 use Rattle.ll_laws.specs.Leaf.{Premise, Needs, NeedsFree}
 use Rattle.ll_laws.specs.Module.{Setting, unfold_load}
@@ -101,17 +101,18 @@ distinct_same (exchanged {k = k} {l = l} {i = i}) d = first (nat_eq k.label l.la
 distinct_same (both_orders r s) d = distinct_same s (distinct_same r d)
 
 -- a clause that was taken out of both, with what is left of the second
-record Takes (n : ℕ) (r : Form) (e j : List Labelled) : Type 0 where
+record TakesLabelled (n : ℕ) (r : Form) (e j : List Labelled) : Type 0 where
   left : List Labelled
   takes : take_label n j ≡ Took r left
   same : Reordered e left
 
-take_same : (n : ℕ) {i j : List Labelled} → Reordered i j → Distinct i → (r : Form) (e : List Labelled) → take_label n i ≡ Took r e → Takes n r e j
+take_same : (n : ℕ) {i j : List Labelled} → Reordered i j → Distinct i → (r : Form) (e : List Labelled) → take_label n i ≡ Took r e → TakesLabelled n r e j
 take_same n no_clause d r e h = cc
 take_same n (same_first {l = l} {i = i} {j = j} p) d r e h = step (nat_eq n l.label) refl (take_label n i) refl (λ s t w. take_same n p d.1 s t w) h
   where
-    step : (b : Bool) → nat_eq n l.label ≡ b → (o : Found) → take_label n i ≡ o → ((s : Form) (t : List Labelled) → take_label n i ≡ Took s t → Takes n s t j)
-        → (if b then Took l.clause i else behind l o) ≡ Took r e → Takes n r e (l ∷ j)
+    step : (b : Bool) → nat_eq n l.label ≡ b → (o : Found) → take_label n i ≡ o
+        → ((s : Form) (t : List Labelled) → take_label n i ≡ Took s t → TakesLabelled n s t j)
+        → (if b then Took l.clause i else behind l o) ≡ Took r e → TakesLabelled n r e (l ∷ j)
     step true q o w go h =
         let a : l.clause ≡ r = cc in let b : i ≡ e = cc in
         record { left = j; takes = rw q (ap (λ c. Took c j) a); same = subst (λ z. Reordered z j) b p }
@@ -127,7 +128,7 @@ take_same n (same_first {l = l} {i = i} {j = j} p) d r e h = step (nat_eq n l.la
 take_same n (exchanged {k = k} {l = l} {i = i}) d r e h = step (nat_eq n k.label) refl (nat_eq n l.label) refl (take_label n i) refl h
   where
     step : (a : Bool) → nat_eq n k.label ≡ a → (b : Bool) → nat_eq n l.label ≡ b → (o : Found) → take_label n i ≡ o
-        → (if a then Took k.clause (l ∷ i) else behind k (if b then Took l.clause i else behind l o)) ≡ Took r e → Takes n r e (l ∷ k ∷ i)
+        → (if a then Took k.clause (l ∷ i) else behind k (if b then Took l.clause i else behind l o)) ≡ Took r e → TakesLabelled n r e (l ∷ k ∷ i)
     step true p true q o w h =
         let m : k.label ≡ l.label = sym (eqb-true n k.label p) ∙ eqb-true n l.label q in
         absurd (both_ways (nat_eq k.label l.label || has_label i k.label) d.0 (ap (λ b. b || has_label i k.label) (eq-eqb k.label l.label m)))

@@ -56,13 +56,13 @@ other_number i = let e = i.is in cc
 other_length : IsInstance (Var 0 ∷ []) (number 2 ∷ number 2 ∷ []) → ⊥
 other_length i = let e = i.is in cc
 
--- ---- hidden terms: `f (c 1) d 2`, where c and d are eigenconstants, hides `c 1` and `d`
+-- ---- hidden terms: `f (c 1) d 2`, where c and d are eigenvariables, hides `c 1` and `d`
 hidden_parts : (name : Term → ℕ)
     → hide name (app (Name 0) (app (Eigen 3) (number 1 ∷ []) ∷ Con (Eigen 5) ∷ number 2 ∷ []))
     ≡ app (Name 0) (Var (name (app (Eigen 3) (number 1 ∷ []))) ∷ Var (name (Con (Eigen 5))) ∷ number 2 ∷ [])
 hidden_parts name = refl
 
--- what an eigenconstant has as arguments is hidden with it
+-- what an eigenvariable has as arguments is hidden with it
 hidden_whole : (name : Term → ℕ) → hide name (app (Eigen 3) (Con (Eigen 5) ∷ [])) ≡ Var (name (app (Eigen 3) (Con (Eigen 5) ∷ [])))
 hidden_whole name = refl
 
@@ -74,7 +74,7 @@ reflexive = unbounded (Forall (atom 0 (place 0 ∷ place 0 ∷ [])))
 abbrev all_then_some : ProblemTree
 all_then_some = problem (reflexive ∷ []) (Forall (Exists (atom 0 (place 1 ∷ place 0 ∷ [])))) [] 10
 
--- the term that is chosen for y has the eigenconstant of x
+-- the term that is chosen for y has the eigenvariable of x
 run_of_quantifiers : Run (setting_of all_then_some) 3 (run_start all_then_some [])
 unfolding settle
 run_of_quantifiers =
@@ -163,7 +163,7 @@ some_then_all-not_shown : (d : DerivationLines) → ShowsClosed some_then_all d 
 unfolding events settle tries attempt successors mgu
 some_then_all-not_shown d h = nothing_shown some_then_all d some_then_all-valid refl h
 
--- ---- what is shown is found: `p X X.` and `p A B`, with a term that an eigenconstant heads for both
+-- ---- what is shown is found: `p X X.` and `p A B`, with a term that an eigenvariable heads for both
 
 abbrev hidden_twice : DerivationLines
 hidden_twice = record {

@@ -7,7 +7,7 @@ use Rattle.std.proofs.lemmas.Bool.{eqb-true, eq-eqb}
 use Rattle.std.proofs.lemmas.List.{append-nil}
 use Rattle.std.proofs.Math.Bool.{or-true}
 use Rattle.std.proofs.lemmas.List.Concat.{flat_map-cons}
-use Rattle.ll_lists.proofs.CallerLemmas.{and_true_left as and_left, and_true_right as and_right}
+use Rattle.ll_list_laws.proofs.CallerLemmas.{and_true_left as and_left, and_true_right as and_right}
 use Rattle.ll_bank.specs.Term.{Term, Var, sub, eigens_below}
 use Rattle.ll_bank.specs.Form.{Form, sub_form}
 use Rattle.ll_laws.specs.declared.Candidate.{Candidate}
@@ -192,11 +192,6 @@ open_entry a e c h = step (is_open e) refl h
     step : (b : Bool) → is_open e ≡ b → Among c (if b then leaf_tries a e 0 (ways e.clause) else []) → OpenEntry a e c
     step true q h = record { opened = q; label = leaf_label a e 0 (ways e.clause) c h }
     step false q h = absurd h
-
-or_left_off : (x y : Bool) → not (x || y) ≡ true → (y ≡ true → ⊥)
-or_left_off true y h k = cc
-or_left_off false true h k = cc
-or_left_off false false h k = cc
 
 -- with distinct labels, an entry is found by its label
 pub found_entry : (es : List (Entry Form)) (e : Entry Form) → labels_differ es ≡ true → Among e es → entry_at es e.label ≡ Some e

@@ -4,7 +4,7 @@ use Rattle.std.specs.Prelude.{◌||◌, nat_lt, nat_le, Option, Some, None, slic
 use Rattle.std.specs.List.{list_any, list_all}
 use Rattle.std.proofs.lemmas.Bool.{eqb-true, eq-eqb, ltb-true, ne_eqb, leb-true, and_from as and_intro}
 use Rattle.std.proofs.Math.ListN.{get_or-append}
-use Rattle.ll_lists.proofs.CallerLemmas.{slice_index-append as old_level, and_true_left as and_left, and_true_right as and_right, or_elim as or_split}
+use Rattle.ll_list_laws.proofs.CallerLemmas.{slice_index-append as old_level, and_true_left as and_left, and_true_right as and_right, or_elim as or_split}
 use Rattle.ll_bank.specs.declared.Head.TheVariants.{Name, Eigen, Bound}
 use Rattle.ll_bank.specs.Term.{Term, Var, Int, Con, Ap, sub, is_closed, eigens_below, has_eigen, occurs}
 use Rattle.ll_bank.specs.Form.{Form, Top, One, Atom, With, Tensor, Plus, Bang, Lolli, Imp, Forall, Exists, Use, form_has_eigen, Num, Is, Less, Most}
@@ -20,7 +20,7 @@ use Rattle.ll_laws.specs.Run.{IsFresh, MayChoose}
 use Rattle.ll_laws.proofs.unification.SubLaws.{IsClosing}
 use Rattle.ll_laws.proofs.unification.UnifyLaws.{eigens-mono, fits-left, fits-right}
 use Rattle.ll_laws.proofs.consistency.ConsistentTerms.{grows-refl}
-use Rattle.ll_laws.proofs.consistency.ConsistentForms.{Fits, fits_of_formula}
+use Rattle.ll_laws.proofs.consistency.ConsistentForms.{FormFits, fits_of_formula}
 use Rattle.ll_laws.proofs.consistency.ConsistentSteps.{module-fits}
 use Rattle.ll_laws.proofs.completeness.Grounding.{or_none, Avoids, form_avoids, unfold_sub}
 use Rattle.ll_laws.proofs.search.Projected.{Ready, IsPlain}
@@ -41,7 +41,7 @@ level_up_to e [] x h = omega arith
 level_up_to e (l ∷ levels) zero h = leb-true l e (and_left (nat_le l e) (list_all (λ l. nat_le l e) levels) h)
 level_up_to e (l ∷ levels) (suc x) h = level_up_to e levels x (and_right (nat_le l e) (list_all (λ l. nat_le l e) levels) h)
 
--- ---- eigenconstants
+-- ---- eigenvariables
 
 pub eigens_none : (k : ℕ) (t : Term) → eigens_below k t ≡ true → has_eigen k t ≡ false
 eigens_none k (Var x) h = refl
@@ -61,7 +61,7 @@ occurs_below n y (Ap t u) v h =
     or_split (occurs y t) (occurs y u) h (λ q. occurs_below n y t (and_left (vars_below n t) (vars_below n u) v) q)
     (λ q. occurs_below n y u (and_right (vars_below n t) (vars_below n u) v) q)
 
--- a term that fits a level has no newer eigenconstant once its variables have terms that fit theirs
+-- a term that fits a level has no newer eigenvariable once its variables have terms that fit theirs
 pub sub_below : (l : ℕ) (levels : List ℕ) (f : ℕ → Term) → ((y : ℕ) → y < length levels → eigens_below (slice_index levels y) (f y) ≡ true)
     → (t : Term) → vars_below (length levels) t ≡ true → FitsLevel l t levels → eigens_below l (sub f t) ≡ true
 sub_below l levels f below (Var x) v fit = eigens-mono (slice_index levels x) l (f x) (fit.vars x (eq-eqb x x refl)) (below x (ltb-true x (length levels) v))
@@ -86,7 +86,7 @@ resources_avoid may f v [] r = refl
 resources_avoid may f v (e ∷ es) r = or_none _ _ (form_avoids may f v ClauseSide [] e.clause (fits_of_formula may ClauseSide [] e.clause r.0))
     (resources_avoid may f v es r.1)
 
--- terms that fit the levels of a consistent state avoid the next eigenconstant
+-- terms that fit the levels of a consistent state avoid the next eigenvariable
 pub avoids_next : (beside : Setting) (s : State) (f : ℕ → Term) → IsConsistent beside s
     → ((x : ℕ) → x < length s.levels → eigens_below (slice_index s.levels x) (f x) ≡ true)
     → Avoids s.eigens (length s.levels) f
@@ -103,7 +103,7 @@ ready names beside s f g rest v i cl below e =
     let fits : AreGoals may (Goal g ∷ rest) = subst (AreGoals may) e i.goals in
     record {
       fresh = fresh_label s.label s.context i.labels_below;
-      new = λ a q. or_none _ _ (form_avoids may f av GoalSide (true ∷ []) a (subst (Fits may GoalSide []) q (fits_of_formula may GoalSide [] g fits.0)))
+      new = λ a q. or_none _ _ (form_avoids may f av GoalSide (true ∷ []) a (subst (FormFits may GoalSide []) q (fits_of_formula may GoalSide [] g fits.0)))
           (resources_avoid may f av s.context i.resources);
       modules = λ k m ts h q. unfold_sub f cl beside.modules _ m ts h
           (module-fits names beside.modules beside.modules (given beside.modules 0) k m (grows-refl (given beside.modules 0)) v q);

@@ -14,7 +14,7 @@ use Rattle.ll_laws.specs.Attempt.{entry_at, is_open, fits_head, leaf_head, leaf_
 use Rattle.ll_laws.specs.Valid.{Allowed, Scope, ClauseSide}
 use Rattle.ll_laws.proofs.unification.UnifyLaws.{head_eq-refl}
 use Rattle.ll_laws.proofs.consistency.ConsistentTerms.{IsHead}
-use Rattle.ll_laws.proofs.consistency.ConsistentForms.{Fits}
+use Rattle.ll_laws.proofs.consistency.ConsistentForms.{FormFits}
 use Rattle.ll_laws.proofs.consistency.ConsistentStates.{length-vars}
 use Rattle.ll_laws.proofs.search.LeafWays.{under}
 use Rattle.ll_laws.proofs.search.AnswerRuns.{Among}
@@ -79,7 +79,7 @@ add_likewise p o i l e w = record {
   places = ap arity e ∙ w.places;
 }
 
-likewise : (may : Allowed) (scope : Scope) (e d : Env) (r : Form) (k : ℕ) (us ws : List Term) (l : Leaf) → NoHeads scope → Fits may ClauseSide scope r
+likewise : (may : Allowed) (scope : Scope) (e d : Env) (r : Form) (k : ℕ) (us ws : List Term) (l : Leaf) → NoHeads scope → FormFits may ClauseSide scope r
     → length us ≡ length ws → leaf_from e r k us ≡ Some l
     → Likewise (leaf_from d r k ws) l
 likewise may scope e d (Atom a) zero [] [] l n f q h =
@@ -140,7 +140,7 @@ predicates : (t u : Term) → is_spine t ≡ true → head_of t ≡ head_of u �
 predicates t u s h a = ap (λ b. b && nat_eq (arity t) (arity u)) (same_heads t (head_of u) s h) ∙ eq-eqb (arity t) (arity u) a
 
 -- a leaf whose head can be made equal to the atom passes the test of heads
-pub leaf-head-fits : (may : Allowed) (f : ℕ → Term) (a : Term) (r : Form) (k n m : ℕ) (l : Leaf) → IsHead [] a → IsHead [] l.head → Fits may ClauseSide [] r
+pub leaf-head-fits : (may : Allowed) (f : ℕ → Term) (a : Term) (r : Form) (k n m : ℕ) (l : Leaf) → IsHead [] a → IsHead [] l.head → FormFits may ClauseSide [] r
     → leaf r k (vars_from m n) ≡ Some l
     → sub f a ≡ sub f l.head → fits_head a (leaf_head r k n) ≡ true
 unfolding NoHeads

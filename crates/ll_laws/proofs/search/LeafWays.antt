@@ -3,7 +3,8 @@ use Rattle.std.proofs.Common.{◌≡◌, ◌<◌, ℕ, zero, suc, ◌+◌, ◌-�
 use Rattle.std.specs.Prelude.{if◌then◌else◌, nat_lt, Option, Some, None, option_map, slice_get, sum_by}
 use Rattle.std.proofs.lemmas.Bool.{ltb-true, ltb-false}
 use Rattle.std.proofs.lemmas.List.Sums.{sum_by-append}
-use Rattle.ll_lists.proofs.CallerLemmas.{slice_get-append_left as get_left, slice_get-append_right as get_right, slice_get-map_suc as get_suc, length-map_suc}
+use Rattle.ll_list_laws.proofs.CallerLemmas.{slice_get-append_left as get_left, slice_get-append_right as get_right}
+use Rattle.ll_list_laws.proofs.CallerLemmas.{slice_get-map_suc as get_suc, length-map_suc}
 use Rattle.ll_bank.specs.declared.FormAt.{FormAt}
 use Rattle.ll_bank.specs.Term.{Term, Env}
 use Rattle.ll_bank.specs.Form.{Form, Atom, With, Lolli, Imp, Forall}

@@ -28,7 +28,7 @@ use Rattle.ll_laws.specs.Dealt.{value}
 use Rattle.ll_laws.proofs.unification.SubLaws.{sub_instantiate, leaf-sub, sub_premise, sub_leaf, IsClosing}
 use Rattle.ll_laws.proofs.unification.UnifyBest.{found-unifier, found-best, none-unifier}
 use Rattle.ll_laws.proofs.consistency.ConsistentTerms.{IsHead, Fit, fit-more, fit-vars}
-use Rattle.ll_laws.proofs.consistency.ConsistentForms.{Fits, fits-more, fits_of_formula}
+use Rattle.ll_laws.proofs.consistency.ConsistentForms.{FormFits, fits-more, fits_of_formula}
 use Rattle.ll_laws.proofs.consistency.ConsistentLeaves.{LeafFits, leaf-fits}
 use Rattle.ll_laws.proofs.consistency.ConsistentStates.{length-vars}
 use Rattle.ll_laws.proofs.consistency.ConsistentSteps.{levels_with, allowed_with, grows_with, vars_with, all_fit_of_made, entry-formula}
@@ -144,7 +144,7 @@ module _ (beside : Setting) (t : State) (rest : List (Item Form)) (g : Form) (i 
   goals : AreGoals (allowed_in beside t) (Goal g ∷ rest)
   goals = subst (AreGoals (allowed_in beside t)) e i.goals
 
-  goal-fits : Fits (allowed_in beside t) GoalSide [] g
+  goal-fits : FormFits (allowed_in beside t) GoalSide [] g
   goal-fits = fits_of_formula (allowed_in beside t) GoalSide [] g (goals.0)
 
 -- ---- `exists`
@@ -274,7 +274,7 @@ module _ (beside : Setting) (t : State) (a : Term) (rest : List (Item Form)) (fs
   closing : IsClosing new
   closing = value-closing (levels_with t n) (fs ++ us) all_fit
 
-  clause-fits : Fits (allowed_in beside t) ClauseSide [] en.clause
+  clause-fits : FormFits (allowed_in beside t) ClauseSide [] en.clause
   clause-fits = fits_of_formula (allowed_in beside t) ClauseSide [] en.clause (entry-formula (allowed_in beside t) t.context label en i.resources fe)
 
   atom-fits : IsHead [] a × Fit (allowed_in beside t) [] a
@@ -293,7 +293,7 @@ module _ (beside : Setting) (t : State) (a : Term) (rest : List (Item Form)) (fs
   way : slice_get (ways en.clause) k ≡ Some n
   way = leaf_ways [] en.clause k vs opened.leaf_of opened.is ∙ ap Some (length-vars (length t.levels) n)
 
-  wide : Fits (allowed_with beside t n) ClauseSide [] en.clause
+  wide : FormFits (allowed_with beside t n) ClauseSide [] en.clause
   wide = fits-more (allowed_in beside t) (allowed_with beside t n) ClauseSide [] [] en.clause (grows_with beside t n) tt clause-fits
 
   leaf-is : LeafFits (allowed_with beside t n) opened.leaf_of

@@ -3,7 +3,7 @@ use Rattle.std.proofs.Common.{◌≡◌, inl, inr, ℕ, refl, ap, sym, subst, �
 use Rattle.std.specs.Prelude.{◌&&◌, ◌||◌, not, if◌then◌else◌, Option, Some, None}
 use Rattle.std.specs.List.{list_any}
 use Rattle.std.proofs.lemmas.Bool.{eqb-true, eq-eqb}
-use Rattle.ll_lists.proofs.CallerLemmas.{or_false_left as or_off_left, or_false_right as or_off_right}
+use Rattle.ll_list_laws.proofs.CallerLemmas.{or_false_left as or_off_left, or_false_right as or_off_right}
 use Rattle.ll_bank.specs.Form.{Form}
 use Rattle.ll_laws.specs.Module.{Setting}
 use Rattle.ll_laws.specs.Settle.{Entry, Saved, Item, Goal, LolliEnd, ImpEnd, WithMiddle, WithEnd, BangEnd, settle_front, marks, remark, end_with, join, within}

@@ -5,7 +5,7 @@ use Rattle.std.specs.Prelude.{◌||◌, not, if◌then◌else◌, Option, Some, 
 use Rattle.std.specs.List.{take-map, list_any}
 use Rattle.std.proofs.lemmas.List.{append-nil, length-map}
 use Rattle.std.proofs.Math.Seq.{take-append_seam}
-use Rattle.ll_lists.proofs.CallerLemmas.{or_false_left as or_off_left, or_false_right as or_off_right}
+use Rattle.ll_list_laws.proofs.CallerLemmas.{or_false_left as or_off_left, or_false_right as or_off_right}
 use Rattle.ll_bank.specs.Term.{Term, Var, sub, is_closed, eigens_below}
 use Rattle.ll_bank.specs.Form.{Form, sub_form}
 use Rattle.ll_laws.specs.declared.Candidate.{Candidate}

@@ -5,7 +5,7 @@ use Rattle.std.specs.List.{list_any}
 use Rattle.std.proofs.lemmas.Bool.{eqb-true, ne_eqb, both_ways}
 use Rattle.std.proofs.lemmas.List.{append-nil}
 use Rattle.std.proofs.Math.Bool.{or-false, or-true}
-use Rattle.ll_lists.proofs.CallerLemmas.{or_elim as or_split, or_false_left as or_off_left, or_false_right as or_off_right}
+use Rattle.ll_list_laws.proofs.CallerLemmas.{or_elim as or_split, or_false_left as or_off_left, or_false_right as or_off_right}
 use Rattle.ll_bank.specs.Term.{Term}
 use Rattle.ll_bank.specs.Form.{Form}
 use Rattle.ll_laws.specs.declared.Kind.{Kind}

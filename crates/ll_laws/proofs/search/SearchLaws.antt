@@ -3,7 +3,7 @@ use Rattle.std.proofs.Common.{◌≡◌, ℕ, zero, suc, ◌≤◌, refl, ap, sy
 use Rattle.std.proofs.lemmas.List.Folds.{list_any-append}
 use Rattle.std.proofs.lemmas.List.Sums.{sum_by-cons}
 use Rattle.std.specs.Prelude.{Option, Some, None, flat_map, sum_by, ◌||◌}
-use Rattle.ll_lists.proofs.CallerLemmas.{or_false_left as or_left, or_false_right as or_right}
+use Rattle.ll_list_laws.proofs.CallerLemmas.{or_false_left as or_left, or_false_right as or_right}
 use Rattle.ll_laws.specs.Module.{Setting}
 use Rattle.ll_laws.specs.declared.Event.{Event}
 use Rattle.ll_laws.specs.declared.Event.TheVariants.{Reached}

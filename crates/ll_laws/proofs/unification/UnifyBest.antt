@@ -3,7 +3,7 @@ use Rattle.std.proofs.Common.{◌≡◌, ◌≤◌, ◌<◌, ℕ, zero, suc, ref
 use Rattle.std.specs.Prelude.{Some, None, slice_index, nat_eq, ◌||◌}
 use Rattle.std.specs.List.{list_all, list_any}
 use Rattle.std.proofs.lemmas.Bool.{ltb-true, eqb-true, eqb-false, cases_lt}
-use Rattle.ll_lists.proofs.CallerLemmas.{and_true_left as and_left, and_true_right as and_right, or_elim as or_cases}
+use Rattle.ll_list_laws.proofs.CallerLemmas.{and_true_left as and_left, and_true_right as and_right, or_elim as or_cases}
 use Rattle.ll_bank.specs.Term.{Term, Var, Int, Con, Ap, sub, occurs}
 use Rattle.ll_laws.specs.Unify.{Solved, mgu, vars_below, Respects, RespectsThose, FitsLevel, IsOver, IsUnifier, IsMostGeneral}
 use Rattle.ll_laws.proofs.unification.UnifyOver.{AllBelow, solve-falls, solve-over}

@@ -9,8 +9,9 @@ use Rattle.std.proofs.Math.Dec.{eqb-suc-zero, eqb-zero-suc, eqb-suc-suc}
 use Rattle.std.proofs.lemmas.Bool.Decides.{Decides-int_eq}
 use Rattle.std.proofs.lemmas.Bool.{cases_lt, both_ways}
 use Rattle.std.specs.List.{list_any}
-use Rattle.ll_lists.proofs.CallerLemmas.{or_false_left, or_false_right, or_elim as or_cases, and_true_left as and_left, and_true_right as and_right, map_same}
-use Rattle.ll_lists.proofs.CallerLemmas.{map_map}
+use Rattle.ll_list_laws.proofs.CallerLemmas.{or_false_left, or_false_right, or_elim as or_cases}
+use Rattle.ll_list_laws.proofs.CallerLemmas.{and_true_left as and_left, and_true_right as and_right, map_same}
+use Rattle.ll_list_laws.proofs.CallerLemmas.{map_map}
 use Rattle.ll_bank.specs.declared.Head.{Head}
 use Rattle.ll_bank.specs.declared.Head.TheVariants.{Name, Eigen, Bound}
 use Rattle.ll_bank.specs.Term.{Term, Var, Int, Con, Ap, sub, occurs, eigens_below, eigen_below, head_eq}
@@ -32,10 +33,6 @@ head_eq-refl (Bound m) = eq-eqb m m refl
 when-same : (b : Bool) → when b ≡ Same → b ≡ true
 when-same true e = refl
 when-same false e = cc
-
-when-clash : (b : Bool) → when b ≡ Clash → b ≡ false
-when-clash true e = cc
-when-clash false e = refl
 
 pub when-meet : (b : Bool) (x : ℕ) (t : Term) → when b ≡ Meet x t → ⊥
 when-meet true x t e = cc

@@ -17,7 +17,7 @@ use Rattle.ll_parser.specs.Grammar.{test_raw}
 use Rattle.ll_parser.specs.Flat.{Pending, Flat, part, term_part, close_term, close_group, operate, reduce, end_with, end_expression, final_expression}
 use Rattle.ll_parser.specs.Nodes.{raw_trees, raw_at}
 use Rattle.ll_parser.specs.Symbols.{symbol_tok}
-use Rattle.ll_parser.specs.Waiting.{known, word_view, args_view, pushed, waiting, waiting_below, tree, args_from, Fits, FitsBelow, IsNode, Dropped, HasMore}
+use Rattle.ll_parser.specs.Waiting.{known, word_view, args_view, pushed, waiting, waiting_below, tree, args_from, IsSound, FitsBelow, IsNode, Dropped, HasMore}
 use Rattle.ll_parser.specs.Waiting.{Added, IsBuilt, IsGoal, Gives, GivesTree}
 use Rattle.ll_parser.proofs.machines.Newest.{HasNewest}
 
@@ -36,7 +36,7 @@ module _ (old mid : Waiting) where
   still-tree f i d texts = ap (λ z. raw_at (known texts) z i.0) d.forms
 
   -- `)` behind a term
-  module _ (fits : Fits old) (i : RawAt) where
+  module _ (fits : IsSound old) (i : RawAt) where
     module _ (new : Waiting) (more : (n : ℕ) → FitsBelow mid n → HasMore mid new n (λ texts. tree texts mid i)) where
       arguments : (f : Frame) → Dropped old mid f → (n : ℕ) → FitsBelow mid n → (texts : List (List ℕ))
           → raws_then (args_from (known texts) mid n) (tree (known texts) old i) ≡ args_from (known texts) new n
@@ -64,10 +64,10 @@ module _ (old mid : Waiting) where
           )
 
     -- brackets round a term or an expression
-    pub closes-group : (f : Frame) (take : Raw → List Pending → Flat) → Dropped old mid f → Fits mid → IsNode old i
+    pub closes-group : (f : Frame) (take : Raw → List Pending → Flat) → Dropped old mid f → IsSound mid → IsNode old i
         → (close : List (List ℕ) → Raw → List Pending → Option Flat)
         → ((texts : List (List ℕ)) (r : Raw) → close texts r (pushed (known texts) mid f) ≡ Some (take r (waiting (known texts) mid)))
-        → (Fits mid × IsNode mid i) × ((texts : List (List ℕ)) → close texts (tree (known texts) old i) (waiting (known texts) old)
+        → (IsSound mid × IsNode mid i) × ((texts : List (List ℕ)) → close texts (tree (known texts) old i) (waiting (known texts) old)
         ≡ Some (take (tree (known texts) mid i) (waiting (known texts) mid)))
     closes-group f take d w inside close h = (
       (w, still-node f i d inside),
@@ -76,7 +76,7 @@ module _ (old mid : Waiting) where
     )
 
   -- the goal of an expression
-  module _ (new : Waiting) (fits : Fits old) (left i j : RawAt) where
+  module _ (new : Waiting) (fits : IsSound old) (left i j : RawAt) where
     pub ends-is : (at : Place) → Dropped old mid (frame.Is at left) → Added mid new j (λ texts. is_goal at (tree texts mid left) (tree texts mid i))
         → IsGoal old new i j
     ends-is at d a =

@@ -16,7 +16,8 @@ use Rattle.ll_parser.specs.Flat.{Pending, want, term_want, term_part, whole, bui
 use Rattle.ll_parser.specs.Flat.{flat_step, part, after_item, take_both, end_expression}
 use Rattle.ll_parser.specs.Nodes.{Node, raw_trees, raw_at}
 use Rattle.ll_parser.specs.Symbols.{symbol_tok}
-use Rattle.ll_parser.specs.Waiting.{known, prefix_view, prefix_left, base, pending, waiting, waiting_below, tree, args_from, Fits, FitsBelow, IsNode, CanWait}
+use Rattle.ll_parser.specs.Waiting.{known, prefix_view, prefix_left, base, pending, waiting}
+use Rattle.ll_parser.specs.Waiting.{waiting_below, tree, args_from, IsSound, FitsBelow, IsNode, CanWait}
 use Rattle.ll_parser.specs.Waiting.{Extends, Grows, Added, Dropped, IsBuilt, Popped, TakesNone, Reduced, PoppedCell, HasNoCell, Gathered}
 use Rattle.ll_parser.proofs.machines.Dropped.{no-arguments}
 use Rattle.ll_parser.proofs.machines.Newest.{Reducing, Gathering}
@@ -36,7 +37,7 @@ module _ (old new : Waiting) (operand i : RawAt) where
       → prefix_left old.args.items p ≡ old.args.items → CanWait old (frame.Front front)
       → Added old new i (λ texts. build (prefix_view texts (raw_trees texts old.forms) old.args.items p) (tree texts old operand)) → Builds front
   front-built front p e b l can a =
-      let w : Fits old = subst (FitsBelow old) b (subst (λ q. FitsBelow old (base (length old.args.items) (frame.Front q))) e can.fits) in
+      let w : IsSound old = subst (FitsBelow old) b (subst (λ q. FitsBelow old (base (length old.args.items) (frame.Front q))) e can.fits) in
       subst Builds (sym e) (record {
         leaves = record {
           fits = a.fits w;
@@ -49,7 +50,7 @@ module _ (old new : Waiting) (operand i : RawAt) where
 
 -- ---- the turns of the loop that reduces
 
-pub reducing-begins : (level : Level) (w : Waiting) (at : RawAt) → Fits w → IsNode w at → Reducing level w w at at
+pub reducing-begins : (level : Level) (w : Waiting) (at : RawAt) → IsSound w → IsNode w at → Reducing level w w at at
 reducing-begins level w at fits inside = record { fits = fits; grows = λ later e. e; inside = inside; same = λ texts. refl }
 
 pub popped-node : (level : Level) (w rest : Waiting) (front : Prefix) (at : RawAt) → Popped level w rest front → IsNode w at → IsNode rest at
@@ -76,7 +77,7 @@ module _ (level : Level) (old w : Waiting) (first at : RawAt) (inv : Reducing le
       (record { fits = inv.fits; inside = inv.inside; reduces = λ texts. sym (inv.same texts) ∙ t.reduces texts (tree (known texts) w at) })
 
 -- a front that the level takes
-pub popped : (level : Level) (old new : Waiting) (p : Prefix) → Fits old → Dropped old new (frame.Front p)
+pub popped : (level : Level) (old new : Waiting) (p : Prefix) → IsSound old → Dropped old new (frame.Front p)
     → ((texts : List (List ℕ)) (trees : List Raw) (args : List RawAt) → true ≡ taken level (prefix_view texts trees args p)) → Popped level old new p
 popped level old new p fits d h = record {
   can = d.can fits;
@@ -93,7 +94,7 @@ popped level old new p fits d h = record {
 
 -- ---- the turns of the loop that gathers
 
-pub gathering-begins : (w : Waiting) (at : RawAt) → Fits w → IsNode w at → Gathering w w at at
+pub gathering-begins : (w : Waiting) (at : RawAt) → IsSound w → IsNode w at → Gathering w w at at
 gathering-begins w at fits inside = record { fits = fits; grows = λ later e. e; inside = inside; same = λ texts. refl }
 
 module _ (old w : Waiting) (first at : RawAt) (inv : Gathering old w first at) (rest : Waiting) where
@@ -131,7 +132,7 @@ brace-closes old mid i at d texts =
 
 -- ---- no argument waits yet
 
-pub begins : (w : Waiting) (from : ℕ) → from ≡ length w.args.items → Fits w → FitsBelow w from
+pub begins : (w : Waiting) (from : ℕ) → from ≡ length w.args.items → IsSound w → FitsBelow w from
 begins w from e fits = subst (FitsBelow w) (sym e) fits
 
 pub begins-args : (w : Waiting) (from : ℕ) → from ≡ length w.args.items → (texts : List (List ℕ)) → none ≡ args_from texts w from

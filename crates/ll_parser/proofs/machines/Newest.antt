@@ -11,7 +11,7 @@ use Rattle.ll_parser.specs.declared.waiting.Waiting.{Waiting}
 use Rattle.ll_parser.specs.Raw.{Raw}
 use Rattle.ll_parser.specs.Flat.{Pending, taken, reduce, gather, admits_load}
 use Rattle.ll_parser.specs.Nodes.{Node, raw_trees}
-use Rattle.ll_parser.specs.Waiting.{known, prefix_view, frame_view, left, pending, waiting, tree, waiting_below, Fits, IsNode, Grows, HasNoCell, TakesNone}
+use Rattle.ll_parser.specs.Waiting.{known, prefix_view, frame_view, left, pending, waiting, tree, waiting_below, IsSound, IsNode, Grows, HasNoCell, TakesNone}
 use Rattle.ll_parser.proofs.stored.Shown.{pending-snoc}
 
 -- the newest frame, with what is below it
@@ -78,7 +78,7 @@ takes-other level w f t h = takes-stays level w f t (no-front level f h)
 
 -- after some steps of the loop the same is left to be reduced
 pub record Reducing (level : Level) (old new : Waiting) (i j : RawAt) : Type 0 where
-  pub fits : Fits new
+  pub fits : IsSound new
   pub grows : Grows old.forms new.forms
   pub inside : IsNode new j
   pub same : (texts : List (List ℕ)) → reduce level (tree (known texts) new j) (waiting (known texts) new)
@@ -117,7 +117,7 @@ no-cell-other w f t h = record {
 
 -- after some steps of the loop the same is left to be gathered
 pub record Gathering (old new : Waiting) (i j : RawAt) : Type 0 where
-  pub fits : Fits new
+  pub fits : IsSound new
   pub grows : Grows old.forms new.forms
   pub inside : IsNode new j
   pub same : (texts : List (List ℕ)) → gather (tree (known texts) new j) (waiting (known texts) new)

@@ -15,7 +15,8 @@ use Rattle.ll_parser.specs.Raw.{Raw, sign_raw}
 use Rattle.ll_parser.specs.Grammar.{Word}
 use Rattle.ll_parser.specs.Flat.{Pending, take_product, take_sum, after_word, close_number, end_expression, final_expression}
 use Rattle.ll_parser.specs.Nodes.{identifier, raw_trees, raw_at}
-use Rattle.ll_parser.specs.Waiting.{known, args_view, frame_view, left, pending, waiting, tree, args_from, FitsBelow, IsBuilt, Takes, PoppedSign, TakesNothing}
+use Rattle.ll_parser.specs.Waiting.{known, args_view, frame_view, left, pending, waiting}
+use Rattle.ll_parser.specs.Waiting.{tree, args_from, FitsBelow, IsBuilt, EndsWith, PoppedSign, TakesNothing}
 use Rattle.ll_parser.specs.Waiting.{HasNoGoal}
 use Rattle.ll_parser.proofs.machines.Newest.{HasNewest, pending-none, pending-newest}
 
@@ -77,7 +78,7 @@ no-sum frame.LeadGroup h texts trees args ps r = refl
 pub sign-taken : (take : Raw → List Pending → Raw × List Pending) (old mid new : Waiting) (sign : List ℕ) (left i j : RawAt) (n : Named)
     → PoppedSign take sign old mid n.at left
     → IsBuilt mid new j (λ texts. sign_raw (identifier texts n).text n.at (tree texts mid left) (tree texts mid i)) (λ texts. waiting texts mid)
-    → ((texts : List (List ℕ)) → slice_index_or (known texts) n.name [] ≡ sign) → Takes take old new i j
+    → ((texts : List (List ℕ)) → slice_index_or (known texts) n.name [] ≡ sign) → EndsWith take old new i j
 sign-taken take old mid new sign left i j n p b e = record {
   fits = b.leaves.fits;
   inside = b.leaves.inside;

@@ -118,15 +118,6 @@ ending-tokens (params at n ns cs ms) = tt
 ending-tokens (localizing at cs ms h ls) = tt
 ending-tokens (locals at n ns cs ms h ls) = tt
 
-read-next : (o : Option Reading) (ts xs : List Tok) → ((r : Reading) → IfSome (read r ts) (λ p. program_tokens p ≡ tokens_so_far r ++ ts)) → (t : Tok)
-    → Extends xs t o → IfSome (option_and_then (λ next. read next ts) o) (λ p. program_tokens p ≡ xs ++ t ∷ ts)
-read-next None ts xs ih t h = tt
-read-next (Some r) ts xs ih t h = let e : tokens_so_far r ++ ts ≡ xs ++ t ∷ ts = rw h (rw append_assoc refl) in rw (← e) (ih r)
-
-pub program-sound : (ts : List Tok) (r : Reading) → IfSome (read r ts) (λ p. program_tokens p ≡ tokens_so_far r ++ ts)
-program-sound [] r = rw append-nil (ending-tokens r)
-program-sound (t ∷ ts) r = read-next (move r t) ts (tokens_so_far r) (program-sound ts) t (move-extends r t)
-
 somewhere : Place
 somewhere = record { line = 1; column = 1 }
 

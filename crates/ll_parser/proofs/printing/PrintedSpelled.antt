@@ -2,7 +2,7 @@
 use Rattle.std.proofs.Common.{◌≡◌, ℕ, Bool, true, false, not, ◌||◌, ◌==◌, List, [], ◌∷◌, codes, inl, inr, refl, sym, subst, arith, ◌++◌}
 use Rattle.std.specs.List.{list_all}
 use Rattle.std.proofs.lemmas.Bool.Decides.{nat_tests}
-use Rattle.ll_lists.proofs.CallerLemmas.{and_true_both as both, false_from_not}
+use Rattle.ll_list_laws.proofs.CallerLemmas.{and_true_both as both, false_from_not}
 use Rattle.ll_lexer.specs.declared.TokenKind.{TokenKind}
 use Rattle.ll_lexer.specs.declared.TokenKind.TheVariants as kind
 use Rattle.ll_lexer.specs.Spelling.{is_lower, is_upper, is_word_byte, is_name, is_variable, fixed_spellings, Spells}

@@ -1,6 +1,6 @@
 -- The text by levels is the text of the parse tree that is printed: terms.
 use Rattle.std.proofs.Common.{◌≡◌, Bool, true, false, List, [], ◌∷◌, ◌++◌, codes, inl, inr, refl, sym, ◌∙◌, ap, subst, append_assoc, append-nil, ℕ, ◌||◌}
-use Rattle.ll_lists.proofs.CallerLemmas.{or_false as or-false}
+use Rattle.ll_list_laws.proofs.CallerLemmas.{or_false as or-false}
 use Rattle.ll_parser.specs.Tokens.{Identifier}
 use Rattle.ll_parser.specs.Raw.{Raw, truth, erasure, braces, universal, existential, load, binary, head, anything, int, RawList, none, more, is_goal}
 use Rattle.ll_parser.specs.Raw.{less_goal, most_goal}

@@ -3,7 +3,7 @@ use Rattle.std.proofs.Common.{◌≡◌, ℕ, ◌<◌, ◌≤◌, Bool, true, fa
 use Rattle.std.proofs.Common.{refl, sym, subst, ◌∙◌, ap, append-nil, arith, length-append}
 use Rattle.std.proofs.lemmas.List.{map-append}
 use Rattle.std.proofs.lemmas.List.Elements.{All-push}
-use Rattle.ll_lists.proofs.CallerLemmas.{map_same_on as same_map}
+use Rattle.ll_list_laws.proofs.CallerLemmas.{map_same_on as same_map}
 use Rattle.ll_lexer.specs.declared.Place.{Place}
 use Rattle.ll_bank.proofs.CallerLemmas.{grow_kept}
 use Rattle.ll_parser.specs.declared.RawAt.{RawAt}
@@ -25,7 +25,7 @@ use Rattle.ll_parser.specs.FlatText.{boundary, inside, FlatProgram, add_clause, 
 use Rattle.ll_parser.specs.FlatText.{query_step, program_start, program_final}
 use Rattle.ll_parser.specs.Nodes.{Node, identifier, build_raw, raw_trees, raw_at, shown_clause, shown_module, shown_program}
 use Rattle.ll_parser.specs.Symbols.{symbol_tok}
-use Rattle.ll_parser.specs.Waiting.{known, waiting, tree, mode_view, Extends, Grows, Fits, Gives, GivesTree}
+use Rattle.ll_parser.specs.Waiting.{known, waiting, tree, mode_view, Extends, Grows, IsSound, Gives, GivesTree}
 use Rattle.ll_parser.specs.Drafts.{whole_view, current_view, draft_view, IsIdle, PhaseFits, ClausesFit, ModuleFits, CurrentFits, DraftFits, GivesPhase}
 use Rattle.ll_parser.specs.Drafts.{AddsClause, ClosesModule, stage_view, GivesStage}
 use Rattle.ll_parser.proofs.machines.Newest.{pending-none}
@@ -147,12 +147,6 @@ begins-clause texts w m (symbol.Local at) h i j = absurd (i at refl)
 begins-clause texts w m (symbol.Linear at) h i j = absurd (j at refl)
 begins-clause texts w m _ h i j = refl
 
--- a token that is no dot goes on with one
-pub goes-on : (texts : List (List ℕ)) (w : ProgramTree) (m : Option ModuleTree) (linear : Bool) (x : Flat) (s : Symbol) → ((at : Place) → s ≡ symbol.Dot at → ⊥)
-    → phase_step w m (inside linear x) (symbol_tok texts s) ≡ enter w m linear (flat_step x (symbol_tok texts s))
-goes-on texts w m linear x (symbol.Dot at) h = absurd (h at refl)
-goes-on texts w m linear x _ h = refl
-
 -- and with a query
 pub asks-on : (texts : List (List ℕ)) (x : Flat) (s : Symbol) → ((at : Place) → s ≡ symbol.Dot at → ⊥)
     → query_step (asking x) (symbol_tok texts s) ≡ option_map asking (flat_step x (symbol_tok texts s))
@@ -216,7 +210,7 @@ closes-some d new m fits some left waiting clauses modules = record {
 
 -- ---- before the first token
 
-pub fits-none : (w : Waiting) → w.forms ≡ [] → w.args.items ≡ [] → w.frames.items ≡ [] → Fits w
+pub fits-none : (w : Waiting) → w.forms ≡ [] → w.args.items ≡ [] → w.frames.items ≡ [] → IsSound w
 fits-none w forms args frames = rw (forms, args, frames) (record { args = λ k a l. absurd (omega arith); within = omega arith; frames = tt })
 
 pub idle-none : (w : Waiting) → w.forms ≡ [] → w.args.items ≡ [] → w.frames.items ≡ [] → IsIdle w

@@ -18,7 +18,7 @@ use Rattle.ll_parser.specs.Flat.{added as adding}
 use Rattle.ll_parser.specs.Nodes.{Node, HeadNode, LoadNode, identifier, raw_in, raws_in, build_raw, raw_trees, raw_at}
 use Rattle.ll_parser.specs.Seen.{places}
 use Rattle.ll_parser.specs.Waiting.{known, word_view, args_view, frame_view, left, base, frames_view, pending, tree, args_from, waiting_below, FrameFits}
-use Rattle.ll_parser.specs.Waiting.{FramesFit, FitsTo, FitsBelow, IsNode, CanWait, Added, Pushed, Dropped, HasMore, Leaves}
+use Rattle.ll_parser.specs.Waiting.{FramesFit, FitsTo, FitsBelow, IsNode, CanWait, Added, Pushed, Dropped, HasMore, ShowsTree}
 use Rattle.ll_parser.proofs.stored.StoredLemmas.{same_raws, places_below}
 
 -- ---- trees of more nodes
@@ -249,7 +249,7 @@ more-after old mid new x raw a h from w =
 
 pub finished : (old new : Waiting) (n : Node) (at : RawAt) (from : ℕ) → FitsBelow old from → at.0 ≡ length old.forms → new.forms ≡ old.forms ++ n ∷ []
     → new.args.items ≡ take from old.args.items → new.frames.items ≡ old.frames.items
-    → Leaves new at (λ texts. build_raw texts (raw_trees texts old.forms) n) (λ texts. waiting_below texts old from)
+    → ShowsTree new at (λ texts. build_raw texts (raw_trees texts old.forms) n) (λ texts. waiting_below texts old from)
 finished old new n at from w e forms args frames =
     let c : length new.forms ≡ length old.forms + 1 = ap length forms ∙ length-append old.forms (n ∷ []) in
     let l : length (take from old.args.items) ≡ from = length-take-le from old.args.items w.within in
@@ -277,7 +277,7 @@ rest-of ys xs i e =
 pub finished-head : (old new : Waiting) (name : Named) (at : RawAt) (from : ℕ) (s : List RawAt) → s ≡ drop from old.args.items → FitsBelow old from
     → at.0 ≡ length old.forms → new.forms ≡ old.forms ++ HeadNode name (places s) ∷ [] → new.args.items ≡ take from old.args.items
     → new.frames.items ≡ old.frames.items
-    → Leaves new at (λ texts. head (identifier texts name) (args_from texts old from)) (λ texts. waiting_below texts old from)
+    → ShowsTree new at (λ texts. head (identifier texts name) (args_from texts old from)) (λ texts. waiting_below texts old from)
 finished-head old new name at from s same w e forms args frames =
     finished old new (HeadNode name (places (drop from old.args.items))) at from w e (forms ∙ ap (λ z. old.forms ++ HeadNode name (places z) ∷ []) same) args
     frames
@@ -285,7 +285,7 @@ finished-head old new name at from s same w e forms args frames =
 pub finished-load : (old new : Waiting) (place : Place) (name : Named) (goal at : RawAt) (from : ℕ) (s : List RawAt) → s ≡ drop from old.args.items
     → FitsBelow old from → at.0 ≡ length old.forms → new.forms ≡ old.forms ++ LoadNode place name (places s) goal.0 ∷ []
     → new.args.items ≡ take from old.args.items → new.frames.items ≡ old.frames.items
-    → Leaves new at (λ texts. load place (identifier texts name) (args_from texts old from) (tree texts old goal)) (λ texts. waiting_below texts old from)
+    → ShowsTree new at (λ texts. load place (identifier texts name) (args_from texts old from) (tree texts old goal)) (λ texts. waiting_below texts old from)
 finished-load old new place name goal at from s same w e forms args frames =
     finished old new (LoadNode place name (places (drop from old.args.items)) goal.0) at from w e
     (forms ∙ ap (λ z. old.forms ++ LoadNode place name (places z) goal.0 ∷ []) same) args frames

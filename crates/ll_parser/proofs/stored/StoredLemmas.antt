@@ -8,7 +8,7 @@ use Rattle.std.proofs.Math.Seq.{get_or-append_seam}
 use Rattle.std.proofs.lemmas.Bool.{cases_lt}
 use Rattle.std.proofs.lemmas.List.{length-map, map-append, drop-append-le, take-append-le, take-append-drop, length-take-le}
 use Rattle.std.proofs.lemmas.List.Elements.{All-head, All-tail, All-push, All-cons}
-use Rattle.ll_lists.proofs.CallerLemmas.{each-push as push_all, map_same_on as same_map, OnErr-always}
+use Rattle.ll_list_laws.proofs.CallerLemmas.{each-push as push_all, map_same_on as same_map, OnErr-always}
 use Rattle.ll_bank.specs.Nodes.{grow}
 use Rattle.ll_bank.proofs.CallerLemmas.{grow_kept, get_or-grow_at}
 use Rattle.ll_lexer.specs.declared.Place.{Place}

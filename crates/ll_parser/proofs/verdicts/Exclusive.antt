@@ -10,7 +10,7 @@ use Rattle.ll_parser.specs.Tokens.{Tok, name, variable, any, number, true_word, 
 use Rattle.ll_parser.specs.Tokens.{dot, comma, ampersand, semicolon, paren_left, paren_right, brace_left, brace_right, backslash, cons_sign, colon_dash}
 use Rattle.ll_parser.specs.Tokens.{left_arrow, right_arrow, lolli, load_arrow, is_sign, most_sign, less_sign, plus_sign, minus_sign, star_sign, tok_place}
 use Rattle.ll_parser.specs.Text.{Language}
-use Rattle.ll_parser.specs.Reads.{Derives, Begins, open_after, Within, Reads, Stands, opens, HasFault, bad_token, ends_early, too_many_open}
+use Rattle.ll_parser.specs.Reads.{Derives, Begins, open_after, Within, Reads, IsTokenAt, opens, HasFault, bad_token, ends_early, too_many_open}
 use Rattle.ll_parser.proofs.verdicts.Verdict.{open-snoc}
 
 take-of-take : (n m : ℕ) (xs : List Tok) → n ≤ m → take n (take m xs) ≡ take n xs
@@ -84,12 +84,12 @@ module _ (l : Language) (limit : ℕ) (ts : List Tok) where
   whole-front : (i : ℕ) → Begins l ts → Begins l (take (i + 1) ts)
   whole-front i b = begins-front (i + 1) (length ts + (i + 1)) (omega arith) (subst (Begins l) (sym (take_all (length ts + (i + 1)) ts (omega arith))) b)
 
-  stands-within : (i : ℕ) (t : Tok) (s : Stands l limit ts i t) → length (take i ts) ≡ i
+  stands-within : (i : ℕ) (t : Tok) (s : IsTokenAt l limit ts i t) → length (take i ts) ≡ i
   stands-within i t s =
       let e : length ts ≡ length (take i ts) + (1 + length s.after) = ap length s.split ∙ length-append (take i ts) (t ∷ s.after) ∙ omega arith in
       omega (arith, length-take i ts)
 
-  stands-take : (i : ℕ) (t : Tok) (s : Stands l limit ts i t) → take (i + 1) ts ≡ take i ts ++ t ∷ []
+  stands-take : (i : ℕ) (t : Tok) (s : IsTokenAt l limit ts i t) → take (i + 1) ts ≡ take i ts ++ t ∷ []
   stands-take i t s =
       let n : i + 1 ≡ length (take i ts) + 1 = ap (λ z. z + 1) (sym (stands-within i t s)) in
       ap (take (i + 1)) s.split ∙ ap (λ z. take z (take i ts ++ t ∷ s.after)) n ∙ take-append-add (take i ts) (t ∷ s.after) 1
@@ -98,10 +98,10 @@ module _ (l : Language) (limit : ℕ) (ts : List Tok) where
   abbrev Broken : ℕ → Type 0
   Broken i = Begins l (take (i + 1) ts) → Within limit (take (i + 1) ts) → ⊥
 
-  bad-breaks : (i : ℕ) (t : Tok) → Stands l limit ts i t → (Begins l (take i ts ++ t ∷ []) → ⊥) → Broken i
+  bad-breaks : (i : ℕ) (t : Tok) → IsTokenAt l limit ts i t → (Begins l (take i ts ++ t ∷ []) → ⊥) → Broken i
   bad-breaks i t s n b w = n (subst (Begins l) (stands-take i t s) b)
 
-  many-breaks : (i : ℕ) (t : Tok) → Stands l limit ts i t → opens t ≡ true → open_after 0 (take i ts) ≡ limit → Broken i
+  many-breaks : (i : ℕ) (t : Tok) → IsTokenAt l limit ts i t → opens t ≡ true → open_after 0 (take i ts) ≡ limit → Broken i
   many-breaks i t s o e c w =
       let le : open_after 0 (take (i + 1) (take (i + 1) ts)) ≤ limit = w (i + 1) in
       let f : take (i + 1) (take (i + 1) ts) ≡ take i ts ++ t ∷ [] = take-of-take (i + 1) (i + 1) ts (omega arith) ∙ stands-take i t s in
@@ -109,10 +109,10 @@ module _ (l : Language) (limit : ℕ) (ts : List Tok) where
       ap (open_after 0) f ∙ open-snoc (take i ts) t 0 ∙ opens-more t (open_after 0 (take i ts)) o ∙ ap suc e in
       omega arith
 
-  before : (i j : ℕ) (t : Tok) → Broken i → Stands l limit ts j t → i < j → ⊥
+  before : (i j : ℕ) (t : Tok) → Broken i → IsTokenAt l limit ts j t → i < j → ⊥
   before i j t b s h = b (begins-front (i + 1) j (omega arith) s.begins) (within-front limit ts (i + 1) j (omega arith) s.within)
 
-  same-number : (i j : ℕ) (t u : Tok) → Broken i → Stands l limit ts i t → Broken j → Stands l limit ts j u → i ≡ j
+  same-number : (i j : ℕ) (t u : Tok) → Broken i → IsTokenAt l limit ts i t → Broken j → IsTokenAt l limit ts j u → i ≡ j
   same-number i j t u b s c r =
       elim (cases_lt i j) [
         | inl g ↦ absurd (before i j u b r g)
@@ -120,13 +120,13 @@ module _ (l : Language) (limit : ℕ) (ts : List Tok) where
       ]
 
   -- two places that cannot be passed are one, with one token
-  same-token : (i j : ℕ) (t u : Tok) → Broken i → Stands l limit ts i t → Broken j → Stands l limit ts j u → t ≡ u
+  same-token : (i j : ℕ) (t u : Tok) → Broken i → IsTokenAt l limit ts i t → Broken j → IsTokenAt l limit ts j u → t ≡ u
   same-token i j t u b s c r =
       let p : i ≡ j = same-number i j t u b s c r in
       same-last (take i ts) (take j ts) t u (ap (λ z. take z ts) p) (sym (stands-take i t s) ∙ ap (λ z. take (z + 1) ts) p ∙ stands-take j u r)
 
   -- a bad token is no bracket past the limit
-  clash : (i j : ℕ) (t u : Tok) → Stands l limit ts i t → (Begins l (take i ts ++ t ∷ []) → ⊥) → Stands l limit ts j u → Begins l (take j ts ++ u ∷ [])
+  clash : (i j : ℕ) (t u : Tok) → IsTokenAt l limit ts i t → (Begins l (take i ts ++ t ∷ []) → ⊥) → IsTokenAt l limit ts j u → Begins l (take j ts ++ u ∷ [])
       → opens u ≡ true → open_after 0 (take j ts) ≡ limit → ⊥
   clash i j t u s n r b o e =
       let p : i ≡ j = same-number i j t u (bad-breaks i t s n) s (many-breaks j u r o e) r in

@@ -6,7 +6,7 @@ use Rattle.std.proofs.lemmas.List.{take-append-le, take_all}
 use Rattle.ll_lexer.specs.declared.Place.{Place}
 use Rattle.ll_parser.specs.Tokens.{Tok, paren_left, paren_right, brace_left, brace_right, tok_place}
 use Rattle.ll_parser.specs.Text.{Language}
-use Rattle.ll_parser.specs.Reads.{open_after, Within, Reads, Stands, opens, HasFault, bad_token, ends_early, too_many_open}
+use Rattle.ll_parser.specs.Reads.{open_after, Within, Reads, IsTokenAt, opens, HasFault, bad_token, ends_early, too_many_open}
 use Rattle.ll_parser.specs.FlatText.{run_by, Taken}
 use Rattle.ll_parser.proofs.machines.Decides.{Decides, run-snoc, begins, bad, derives, early}
 
@@ -46,7 +46,7 @@ module _ (l : Language) (F : Type 0) (begin : F) (next : F → Tok → Option F)
   taken-none = record { run = refl; depth_is = refl; below = omega arith; within = within-none limit }
 
   module _ (i : ℕ) (t : Tok) (here : slice_get ts i ≡ Some t) (x : F) (depth : ℕ) (k : Taken begin next limit ts i x depth) where
-    stands : Stands l limit ts i t
+    stands : IsTokenAt l limit ts i t
     stands = let c = divides ts i t here in record { after = c.0; split = c.1; within = k.within; begins = begins l F begin next end d (take i ts) x k.run }
 
     run-on : (o : Option F) → next x t ≡ o → run_by next begin (take i ts ++ t ∷ []) ≡ o

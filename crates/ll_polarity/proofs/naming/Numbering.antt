@@ -9,7 +9,7 @@ use Rattle.std.proofs.lemmas.Bool.{le-ltb, ne_eqb, eq-eqb, eqb-true, eqb-false}
 use Rattle.std.proofs.lemmas.List.Folds.{list_any-append, position_or_len_push}
 use Rattle.ll_polarity.specs.Numbered.{has_number, numbered, with_number, AreNumbered}
 use Rattle.std.proofs.lemmas.Bool.Decides.{nat_tests}
-use Rattle.ll_lists.proofs.CallerLemmas.{position_within as place_within}
+use Rattle.ll_list_laws.proofs.CallerLemmas.{position_within as place_within}
 use Rattle.ll_polarity.proofs.reading.Grows.{place_is}
 
 -- ---- the first place at which a test passes, with one more element
@@ -72,15 +72,6 @@ pub new_number : (lookup : ℕ → Option ℕ) (variables : List (Option ℕ)) (
     → length variables ≡ numbered (variables ++ Some n ∷ []) n
 new_number lookup variables n are e =
     ap (λ o. unwrap_or o 0) (sym (finds_last (has_number n) variables (Some n) (none_found variables n (sym (are n) ∙ sym e)) (eq-eqb n n refl)))
-
-pub numbered_nameless : (lookup : ℕ → Option ℕ) (variables : List (Option ℕ)) → AreNumbered lookup variables → AreNumbered lookup (variables ++ None ∷ [])
-numbered_nameless lookup variables are n = are n ∙ by (list_any (has_number n) variables) refl
-  where
-    by : (b : Bool) → list_any (has_number n) variables ≡ b → position (has_number n) variables ≡ position (has_number n) (variables ++ None ∷ [])
-    by true h = sym (keeps_place (has_number n) variables None h)
-    by false h =
-        finds_none (has_number n) variables h
-        ∙ sym (finds_none (has_number n) (variables ++ None ∷ []) (list_any-append (has_number n) variables (None ∷ []) ∙ ap (λ b. b || (false || false)) h))
 
 pub numbered_more : (lookup later : ℕ → Option ℕ) (variables : List (Option ℕ)) (n : ℕ) → AreNumbered lookup variables → None ≡ lookup n
     → ((q : ℕ) → later q ≡ cond (nat_eq n q) (Some (length variables)) (lookup q)) → AreNumbered later (variables ++ Some n ∷ [])

@@ -11,7 +11,7 @@ use Rattle.ll_bank.specs.Form.{Form, Top, One, Atom, With, Tensor, Plus, Bang, L
 use Rattle.ll_laws.specs.Module.{ModuleTree, forall_all}
 use Rattle.ll_laws.specs.Leaf.{ways}
 use Rattle.ll_laws.specs.Valid.{Side, GoalSide, ClauseSide, Scope, given, each_term, names_below, arity_up_to, leaves_up_to}
-use Rattle.ll_laws.proofs.CallerLemmas.{IsHead, Fit, AllFit, Fits, other, opens_on, fits_module-length}
+use Rattle.ll_laws.proofs.CallerLemmas.{IsHead, Fit, AllFit, FormFits, other, opens_on, fits_module-length}
 use Rattle.ll_polarity.specs.Reading.{moved_out, bind_term, bind_form, quantified}
 use Rattle.ll_polarity.proofs.reading.Terms.{Room}
 use Rattle.ll_polarity.proofs.reading.Forms.{IsGood, forall_good}
@@ -98,8 +98,8 @@ module _ (modules : List ModuleTree) (n : ℕ) where
   bound_fits d inner outer [] m h = tt
   bound_fits d inner outer (t ∷ ts) m h = (bound_fit d inner outer t m h.0, bound_fits d inner outer ts m h.1)
 
-  bound_form : (d : ℕ) (side : Side) (inner outer : Scope) (f : Form) → Moves n d inner outer → Fits (given modules n) side inner f
-      → Fits (given modules 0) side outer (bind_form n d f)
+  bound_form : (d : ℕ) (side : Side) (inner outer : Scope) (f : Form) → Moves n d inner outer → FormFits (given modules n) side inner f
+      → FormFits (given modules 0) side outer (bind_form n d f)
   bound_form d side inner outer Top m h = tt
   bound_form d side inner outer One m h = h
   bound_form d side inner outer (Atom a) m h = (bound_head d inner outer a m h.0, bound_fit d inner outer a m h.1)

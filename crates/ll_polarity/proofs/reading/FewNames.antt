@@ -7,13 +7,13 @@ use Rattle.ll_bank.proofs.CallerLemmas.{length-with_name}
 use Rattle.ll_parser.specs.Raw.{Raw, truth, erasure, braces, universal, existential, load, binary, is_goal, less_goal, most_goal, head, anything, int, RawList}
 use Rattle.ll_parser.specs.Raw.{none, more, ProgramTree}
 use Rattle.ll_parser.specs.Raw as raw
-use Rattle.ll_parser.specs.Text.{programs, queries}
+use Rattle.ll_parser.specs.Text.{programs}
 use Rattle.ll_parser.specs.Reads.{IsWhole}
 use Rattle.ll_parser.specs.Weights.{weight, weights, clauses_weight, modules_weight}
-use Rattle.ll_parser.proofs.CallerLemmas.{few_nodes, small_query}
+use Rattle.ll_parser.proofs.CallerLemmas.{few_nodes}
 use Rattle.ll_polarity.specs.Scope.{Scope, binds, Meaning, Bound, Local, Free, Constant, meaning, module_scope}
 use Rattle.ll_polarity.specs.Reading.{Met, has_text, read_name, read_term, read_terms, read_number, read_form}
-use Rattle.ll_polarity.specs.Asks.{module_names, read_clause, read_clauses, read_module, read_modules, part_of, read_asked, modules_of, problem_with}
+use Rattle.ll_polarity.specs.Asks.{module_names, read_clause, read_clauses, read_module, read_modules, part_of, read_asked}
 
 -- how many names and variables were met
 abbrev pub met_count : Met → ℕ
@@ -85,12 +85,3 @@ pub few_asked : (names : List (List ℕ)) (vs : List (Option (List ℕ))) → le
 few_asked names [] = omega arith
 few_asked names (None ∷ vs) = let i = few_asked names vs in omega arith
 few_asked names (Some w ∷ vs) = let i = few_asked (with_name names w) vs in let j = length-with_name names w in omega arith
-
--- the names of the problem that a whole query asks of it
-pub few_names_of_problem : (p : ProgramTree) (query : Raw) (bound : ℕ) → IsWhole programs p → IsWhole queries query
-    → length (problem_with (part_of p) query bound).names ≤ 33554432
-few_names_of_problem p query bound whole_program whole_query =
-    let part = part_of p in
-    let r = read_form (modules_of part) [] (record { names = part.names; variables = [] }) query in
-    let i = few_form (modules_of part) [] (record { names = part.names; variables = [] }) query in
-    let j = few_asked r.met.names r.met.variables in omega (arith, few_names_of_part p whole_program, (small_query query whole_query).light)

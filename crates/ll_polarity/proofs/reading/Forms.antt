@@ -11,7 +11,7 @@ use Rattle.ll_laws.specs.Module.{ModuleTree}
 use Rattle.ll_laws.specs.Leaf.{ways}
 use Rattle.ll_laws.specs.Valid.{Side, GoalSide, ClauseSide, given, each_term, names_below, arity_up_to, fits_module, leaves_up_to}
 use Rattle.ll_laws.specs.Valid as valid
-use Rattle.ll_laws.proofs.CallerLemmas.{Fits}
+use Rattle.ll_laws.proofs.CallerLemmas.{FormFits}
 use Rattle.ll_parser.specs.declared.Op.{Op}
 use Rattle.ll_parser.specs.declared.Op.TheVariants as op
 use Rattle.ll_parser.specs.Tokens.{Identifier}
@@ -30,7 +30,7 @@ use Rattle.ll_polarity.proofs.reading.Terms.{read_is_term, read_are_terms}
 
 -- a formula on a side in a scope
 pub record IsGood (room : Room) (side : Side) (scope : valid.Scope) (f : Form) : Type 0 where
-  pub fits : Fits (given room.modules room.variables) side scope f
+  pub fits : FormFits (given room.modules room.variables) side scope f
   pub named : (m : ℕ) → each_term (λ n. names_below room.names) m f ≡ true
   pub leaves : leaves_up_to room.most side f ≡ true
   pub arguments : (m : ℕ) → each_term (λ n. arity_up_to room.most) m f ≡ true

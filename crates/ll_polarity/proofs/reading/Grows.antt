@@ -8,7 +8,7 @@ use Rattle.std.proofs.lemmas.Bool.Decides.{Decides-ltb}
 use Rattle.std.proofs.lemmas.List.Folds.{list_any-append}
 use Rattle.std.proofs.lemmas.Option.{slice_get_within}
 use Rattle.std.proofs.lemmas.Slice.Eq.{bytes_eq-Decides}
-use Rattle.ll_lists.proofs.CallerLemmas.{position_within as place_within}
+use Rattle.ll_list_laws.proofs.CallerLemmas.{position_within as place_within}
 use Rattle.ll_bank.specs.Names.{with_name}
 use Rattle.ll_bank.specs.Form.{Relation, Is, Less, Most}
 use Rattle.ll_bank.proofs.CallerLemmas.{slice_get-number_of, number_of-with_name, slice_get-with_name}

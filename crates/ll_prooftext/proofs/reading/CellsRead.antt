@@ -9,7 +9,7 @@ use Rattle.std.proofs.lemmas.Fmt.{decimal_injective}
 use Rattle.std.proofs.lemmas.Option.{slice_get_within}
 use Rattle.ll_bank.specs.declared.At.{At}
 use Rattle.std.specs.Str.{bytes_eq}
-use Rattle.ll_lists.proofs.CallerLemmas.{and_true_left as and_left}
+use Rattle.ll_list_laws.proofs.CallerLemmas.{and_true_left as and_left}
 use Rattle.ll_bank.specs.declared.Head.TheVariants.{Name}
 use Rattle.ll_bank.specs.Term.{Term}
 use Rattle.ll_bank.specs.Names.{with_name}
@@ -20,13 +20,12 @@ use Rattle.ll_laws.specs.Output.{name_text, has_arguments, term_text}
 use Rattle.ll_prooftext.specs.declared.words.Word.{Word}
 use Rattle.ll_prooftext.specs.declared.cells.Front.{Front}
 use Rattle.ll_prooftext.specs.Admitted.{IsSpelledTerm}
-use Rattle.ll_prooftext.specs.Reading.{Plain, Sign, Cell, Want, More, Cells, Then, after_field, IsNumber, IsBare, IsField, Fields, none, one, IsAtEnd}
+use Rattle.ll_prooftext.specs.Reading.{Plain, Sign, Cell, Want, More, Cells, Then, after_field, IsBare, IsField, Fields, none, one, IsAtEnd}
 use Rattle.ll_prooftext.specs.Words.{Stops, is_not, BeginsNot, HasNone}
 use Rattle.ll_prooftext.specs.Terms.{Grows, Moves, is_part, Shape, Wanted, Bare, Applied, Closed, IsWord, IsWordOf, IsSpelledAt}
 use Rattle.ll_prooftext.specs.Brackets.{IsTermFrom}
 use Rattle.ll_prooftext.specs.Fields.{other, LacksField, HasNoTerm, StopsAt}
-use Rattle.ll_prooftext.specs.Fields.{ended as all_read}
-use Rattle.ll_prooftext.specs.Sharing.{Stands, itself, by_row, AreCells, no_cells, next_cell}
+use Rattle.ll_prooftext.specs.Sharing.{StandsFor, itself, by_row, AreCells, no_cells, next_cell}
 use Rattle.ll_prooftext.specs.Cells.{Stays, MovesBy, IsCellOf, IsCellField, AreCellFields, StopsAtCell, IsSignHead, IsFrontOf, IsFrontField, LacksFront}
 use Rattle.ll_prooftext.proofs.spelling.Arguments.{bare_word, end_stops as end_stops_word}
 use Rattle.ll_prooftext.proofs.spelling.Cuts.{one_cut}
@@ -36,7 +35,7 @@ use Rattle.ll_prooftext.proofs.spelling.Kept.{grows_none, grows_on, arg_good}
 use Rattle.ll_prooftext.proofs.reading.Labels.{decimal_not}
 use Rattle.ll_prooftext.proofs.spelling.Mentioning.{is_quiet, row_quiet, quiet_behind, quiet_apart, decimal_quiet, space_mentions}
 use Rattle.ll_prooftext.proofs.spelling.Reach.{head_word}
-use Rattle.ll_prooftext.proofs.reading.Rest.{end_stops, end_empty, stops_end, fields_on, stops_behind}
+use Rattle.ll_prooftext.proofs.reading.Rest.{end_stops, stops_end, fields_on, stops_behind}
 use Rattle.ll_prooftext.proofs.spelling.Spellings.{first_is, head_start, leaf_start, head_first, leaf_first, word_parts, all_weaker, one_shape}
 use Rattle.ll_prooftext.proofs.spelling.Steps.{word_good, word_text, word_shape, part_term}
 
@@ -63,9 +62,6 @@ pub no_cell : (n : ℕ) (w : List ℕ) → BeginsNot 64 w → ((p : Shape) → I
 no_cell n w b h (inl i) = let k = its_word w i in h k.0 k.1
 no_cell n w b h (inr r) = b (decimal r.number) r.is
 
-pub no_number_row : (n : ℕ) (number : List ℕ) → n < 2 ^ 32 → (IsNumber number → ⊥) → (k : ℕ) → k < n → number ≡ decimal k → ⊥
-no_number_row n number l h k b e = h (record { number = k; small = omega arith; is = e })
-
 pub no_row_there : (n m : ℕ) (number : List ℕ) → n < 2 ^ 32 → m < 2 ^ 32 → number ≡ decimal m → n ≤ m → (k : ℕ) → k < n → number ≡ decimal k → ⊥
 no_row_there n m number l s e h k b f = let q : k ≡ m = decimal_injective k m (omega arith) (omega arith) (sym f ∙ e) in omega arith
 
@@ -85,7 +81,7 @@ cell_free n w l (inr r) = ap (list_all (is_not 32)) r.is ∙ decimal_not 32 r.nu
 
 -- a term without arguments is spelled the same over more names
 pub itself_stays : (names : List (List ℕ)) (rows : List Term) (t : Term) (w : List ℕ) → IsSpelledTerm names t → has_arguments t ≡ false → w ≡ term_text names t
-    → Stays names (λ ns. Stands ns rows t w)
+    → Stays names (λ ns. StandsFor ns rows t w)
 itself_stays names rows t w s b e new g = itself b (e ∙ sym (ap (λ ns. term_text ns t) g.is ∙ (term_kept names g.more t s).text))
 
 -- a word is a term without arguments
@@ -157,7 +153,7 @@ cell_none n there word rest l t f s bare field behind i e end =
 pub cell_is : (rows : List Term) (w : List ℕ) (names : List (List ℕ)) (bank : Nodes) (at : ℕ) → IsCellOf rows w names bank at → IsField (Cell (length rows)) w
 cell_is rows w names bank at c = by_way (c.stands names (grows_none names))
   where
-    by_way : Stands names rows (term_tree bank at) w → IsField (Cell (length rows)) w
+    by_way : StandsFor names rows (term_tree bank at) w → IsField (Cell (length rows)) w
     by_way (itself b e) = inl (record { names = names; term = term_tree bank at; spelled = c.good.spelled; bare = b; is = e })
     by_way (by_row k g e) = inr (record { number = k; below = slice_get_within rows k (term_tree bank at) g; is = e })
 
@@ -301,9 +297,6 @@ front_none bytes there word rest b t f s plain sign = record { left_is = refl; p
     no_sign_there : HasNone Sign there
     no_sign_there field behind i e end = let k = one_cut (is_not 32) word field rest behind f (ap (list_all (is_not 32)) i) s (end_stops behind end) (sym t ∙ e)
         in sign (subst (IsField Sign) (sym k.0) i)
-
-pub front_lacks : (bytes : List ℕ) → IsAtEnd bytes → BeginsNot 32 bytes → LacksFront bytes (length bytes)
-front_lacks bytes end b = record { left_is = refl; plain = all_read (end_empty bytes end b); sign = all_read (end_empty bytes end b) }
 
 pub front_made : (names : List (List ℕ)) (bank : Nodes) (bytes there word rest : List ℕ) (new : List (List ℕ)) (over : Nodes) (f : Front) → bytes ≡ 32 ∷ there
     → there ≡ word ++ rest → Stops (is_not 32) rest → IsFrontOf word new f → MovesBy names bank word new over → IsFrontField names bank bytes new over f rest

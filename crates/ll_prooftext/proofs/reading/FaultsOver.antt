@@ -6,7 +6,7 @@ use Rattle.std.specs.List.{IsDistinct, flat_map, slice_get}
 use Rattle.std.specs.Str.{bytes_eq}
 use Rattle.std.proofs.lemmas.List.{length-map, take_all}
 use Rattle.std.proofs.lemmas.Option.{slice_get_within}
-use Rattle.ll_lists.proofs.CallerLemmas.{All-slice_get as there}
+use Rattle.ll_list_laws.proofs.CallerLemmas.{All-slice_get as there}
 use Rattle.ll_bank.specs.declared.At.{At}
 use Rattle.ll_bank.specs.Names.{with_names}
 use Rattle.ll_bank.specs.Term.{Term}

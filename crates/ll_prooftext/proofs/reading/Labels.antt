@@ -8,12 +8,12 @@ use Rattle.std.specs.List.{list_all}
 use Rattle.std.proofs.lemmas.List.Folds.{list_all-append}
 use Rattle.std.proofs.lemmas.List.Elements.{All-nil, All-head, All-tail, All-push}
 use Rattle.std.proofs.lemmas.Fmt.{decimal_by_steps, decimal_injective}
-use Rattle.ll_lists.proofs.CallerLemmas.{and_true_left as and_left, and_true_right as and_right, true_from_not}
+use Rattle.ll_list_laws.proofs.CallerLemmas.{and_true_left as and_left, and_true_right as and_right, true_from_not}
 use Rattle.ll_laws.specs.Line.{rises}
 use Rattle.ll_laws.specs.ProofText.{labels_text, field}
 use Rattle.ll_prooftext.specs.Admitted.{AreLabels}
-use Rattle.ll_prooftext.specs.Reading.{IsNumber, IsAtEnd, Set, IsSet, line_end, space}
-use Rattle.ll_prooftext.specs.Words.{Stops, ended, at_byte, is_not, BeginsNot, HasNone, IsLabelsText, IsSetAt}
+use Rattle.ll_prooftext.specs.Reading.{IsNumber, IsAtEnd, IsSet, line_end, space}
+use Rattle.ll_prooftext.specs.Words.{Stops, ended, at_byte, is_not, BeginsNot, IsLabelsText, IsSetAt}
 use Rattle.ll_prooftext.proofs.spelling.Cuts.{one_cut, first, tail}
 
 -- ---- digits
@@ -260,7 +260,3 @@ set_made bytes inside body tail rest labels b i t end l = record {
   where
     regroup : (w : List ℕ) → 123 ∷ (w ++ 125 ∷ rest) ≡ (123 ∷ (w ++ 125 ∷ [])) ++ rest
     regroup w = simp append_assoc
-
--- no brace at the front
-pub set_opened : (bytes : List ℕ) → BeginsNot 123 bytes → HasNone Set bytes
-set_opened bytes bare field rest s e end = bare ((labels_text s.labels ++ 125 ∷ []) ++ rest) (e ∙ ap (λ z. z ++ rest) s.is)

@@ -32,7 +32,7 @@ use Rattle.ll_prooftext.specs.Terms.{Moves, MovesLine, Shape, Wanted, Bare, Appl
 use Rattle.ll_prooftext.specs.Fields.{IsMissing, other, HasNoTerm, IsBad, lacking, wrong, StopsAt, brace, mark, IsNumberField, ArePartFields}
 use Rattle.ll_prooftext.specs.Fields.{ended as all_read}
 use Rattle.ll_prooftext.specs.RowWords.{spelling, asks, IsNodeWord, IsNodeRow, IsGoodRule}
-use Rattle.ll_prooftext.specs.Sharing.{Stands, AreCells, no_cells, next_cell, IsShare, IsClauseStep, IsStep}
+use Rattle.ll_prooftext.specs.Sharing.{StandsFor, AreCells, no_cells, next_cell, IsShare, IsClauseStep, IsStep}
 use Rattle.ll_prooftext.specs.Cells.{Stays, IsCellField, AreCellFields, StopsAtCell, IsSignHead, IsFrontField, LacksFront}
 use Rattle.ll_prooftext.specs.SharedLines.{node_words_over, let_words_over, want_over, asks_over, IsLineWord, IsSpineOver, IsPairOver, IsShareOver, IsStepOver}
 use Rattle.ll_prooftext.specs.SharedLines.{IsShareRow, IsLetOver}
@@ -214,7 +214,7 @@ spine_made rows names bank bytes head mid part first behind new two over others 
       tree = s.tree ∙ ap (λ (z : List At). app head (term_trees two z)) a;
       shown = λ ns grow. subst (AreCells ns rows (term_tree two first.0 ∷ term_trees two others))
           (sym (f.is ∙ ap (λ z. 32 ∷ f.text ++ z) (t.is ∙ (ap (λ z. t.text ++ z) r ∙ append-nil t.text))))
-          (next_cell (subst (λ u. Stands ns rows u f.text) (sym kept.tree) (f.cell.stands ns (grows_on mid new ns t.moves.grows grow))) (t.cells ns grow));
+          (next_cell (subst (λ u. StandsFor ns rows u f.text) (sym kept.tree) (f.cell.stands ns (grows_on mid new ns t.moves.grows grow))) (t.cells ns grow));
       moves = moves_over names bank bytes new two over [] (subst (Moves names bank bytes new two) r all) e;
     }
 
@@ -256,7 +256,7 @@ pair_made rows names bank bytes head mid part first behind new two over second a
         others = term_tree two second.0 ∷ [];
         tree = s.tree;
         shown = λ ns grow. subst (AreCells ns rows (term_tree two first.0 ∷ term_tree two second.0 ∷ [])) (sym (f.is ∙ ap (λ z. 32 ∷ f.text ++ z) t.is))
-            (next_cell (subst (λ u. Stands ns rows u f.text) (sym kept.tree) (f.cell.stands ns (grows_on mid new ns t.moves.grows grow)))
+            (next_cell (subst (λ u. StandsFor ns rows u f.text) (sym kept.tree) (f.cell.stands ns (grows_on mid new ns t.moves.grows grow)))
             (next_cell (t.cell.stands ns grow) no_cells));
         moves = moves_over names bank bytes new two over [] all e;
       };

@@ -155,18 +155,6 @@ version_is text o p line v r a t h =
       low = omega arith;
     }
 
-pub other_version : (text : List ℕ) (o p : Lines) (line : TextLine) (v : List ℕ) → o.rest.now ≡ text → TakesLine o line p → false ≡ bytes_eq line.bytes.now v
-    → HasNoVersion v (text_lines text)
-other_version text o p line v r t h rest k =
-    let lines : line.bytes.now ∷ text_lines p.rest.now ≡ v ∷ rest = sym t.lines ∙ (ap text_lines r ∙ k) in
-    let w : line.bytes.now ≡ v = heads line.bytes.now v (text_lines p.rest.now) rest lines in
-    let x : bytes_eq line.bytes.now v ≡ true = (bytes_eq-Decides line.bytes.now v).1 w in
-    let y : false ≡ true = h ∙ x in
-    let z : ⊥ = cc in z
-  where
-    heads : (a b : List ℕ) (us vs : List (List ℕ)) → a ∷ us ≡ b ∷ vs → a ≡ b
-    heads a b us vs e = cc
-
 pub no_version : (text v : List ℕ) (o p : Lines) → o.rest.now ≡ text → HasNoLine o p → HasNoVersion v (text_lines text)
 no_version text v o p r n rest k = apart v rest (ap text_lines (sym n.rest ∙ r) ∙ k)
   where

@@ -4,7 +4,7 @@ use Rattle.std.proofs.Common.{append-nil, IsTrue, Option, Some, None, decimal, i
 use Rattle.std.specs.Prelude.{◌==◌, if◌then◌else◌}
 use Rattle.std.specs.List.{list_all}
 use Rattle.std.proofs.lemmas.Bool.{eqb-true}
-use Rattle.ll_lists.proofs.CallerLemmas.{true_from_not}
+use Rattle.ll_list_laws.proofs.CallerLemmas.{true_from_not}
 use Rattle.ll_bank.specs.Nodes.{Nodes, term_tree}
 use Rattle.ll_laws.specs.ProofText.{field, set_text, part_field}
 use Rattle.ll_laws.specs.Line.{part_rises}
@@ -20,7 +20,7 @@ use Rattle.ll_prooftext.specs.declared.rows.Refusal.{Refusal}
 use Rattle.ll_prooftext.specs.declared.rows.Refusal.TheVariants as refusal
 use Rattle.ll_prooftext.specs.Reading.{Kind, Number, Set, Argument, Mark, Plain, Sign, Cell, Want, Nothing, Arguments, Premises, Row, More, Cells, Then}
 use Rattle.ll_prooftext.specs.Reading.{after_field, IsField, IsNumber, Fields, none, one, IsAtEnd, line_end, space, HasNoField}
-use Rattle.ll_prooftext.specs.Words.{Stops, ended, at_byte, is_not, BeginsNot, HasNone, IsSetAt}
+use Rattle.ll_prooftext.specs.Words.{Stops, ended, at_byte, is_not, BeginsNot, HasNone}
 use Rattle.ll_prooftext.specs.Terms.{Moves, IsSpelledAt, argument_at}
 use Rattle.std.specs.List.{flat_map}
 use Rattle.std.proofs.lemmas.List.Concat.{flat_map-append}
@@ -42,11 +42,6 @@ use Rattle.ll_prooftext.proofs.spelling.Ways.{byte_apart, behind_byte}
 use Rattle.ll_prooftext.proofs.reading.Labels.{decimal_not}
 
 -- ---- ends of fields
-
--- where a field ends and no space follows the line ends
-pub end_empty : (bytes : List ℕ) → IsAtEnd bytes → BeginsNot 32 bytes → bytes ≡ []
-end_empty bytes line_end b = refl
-end_empty bytes (space {rest = rest}) b = absurd (b rest refl)
 
 pub stops_end : (rest : List ℕ) → Stops (is_not 32) rest → IsAtEnd rest
 stops_end rest (ended e) = subst IsAtEnd (sym e) line_end
@@ -162,9 +157,6 @@ stops_more bytes left end full e = record { good = []; rest = bytes; next = Noth
 
 -- ---- what the fields come to
 
-pub nothing_left : (k : Kind) (bytes : List ℕ) → IsAtEnd bytes → BeginsNot 32 bytes → LacksField k bytes (length bytes)
-nothing_left k bytes end b = record { left_is = refl; missing = all_read (end_empty bytes end b) }
-
 pub nothing_there : (k : Kind) (bytes rest : List ℕ) → bytes ≡ 32 ∷ rest → HasNone k rest → LacksField k bytes (length bytes)
 nothing_there k bytes rest e h = record { left_is = refl; missing = other rest e h }
 
@@ -191,9 +183,6 @@ pub set_then : (bytes labels rest : List ℕ) (left : ℕ) (v next : Want) → a
 set_then bytes labels rest left v next a f s = stops_behind Set v next bytes (set_text labels) rest left a
     (record { labels = labels; small = f.small; rising = f.rising; is = refl }) f.is s
 
-pub set_made_field : (bytes there labels rest : List ℕ) → bytes ≡ 32 ∷ there → IsSetAt there labels rest → IsSetField bytes labels rest
-set_made_field bytes there labels rest b s = record { small = s.small; rising = s.rising; is = b ∙ ap (λ z. 32 ∷ z) s.is; end = s.end }
-
 pub term_made_field : (names : List (List ℕ)) (bank : Nodes) (bytes there : List ℕ) (new : List (List ℕ)) (over : Nodes) (at : ℕ) (rest : List ℕ)
     → bytes ≡ 32 ∷ there → IsArgumentAt names bank there new over at rest → IsTermField names bank bytes new over at rest
 term_made_field names bank bytes there new over at rest b s = record {
@@ -215,9 +204,6 @@ not_empty (x ∷ xs) h f e = absurd cc
 
 -- ---- premises
 
-pub part_nothing_left : (bytes : List ℕ) → IsAtEnd bytes → BeginsNot 32 bytes → LacksPart bytes (length bytes)
-part_nothing_left bytes end b = record { left_is = refl; set = all_read (end_empty bytes end b); mark = all_read (end_empty bytes end b) }
-
 byte_of_mark : (field : List ℕ) → IsField Mark field → field ≡ 33 ∷ []
 byte_of_mark field e = e
 
@@ -238,9 +224,6 @@ part_other bytes there b bare h = record { left_is = refl; set = other there b h
   where
     no_mark : HasNone Mark there
     no_mark field behind i e end = bare behind (e ∙ ap (λ z. z ++ behind) (byte_of_mark field i))
-
-pub part_unbounded : (bytes there rest : List ℕ) → bytes ≡ 32 ∷ there → there ≡ 33 ∷ rest → IsAtEnd rest → IsPartField bytes Unbounded rest
-part_unbounded bytes there rest b t end = record { spelled = tt; rising = refl; is = b ∙ ap (λ z. 32 ∷ z) t; end = end }
 
 -- ---- two sets
 
@@ -328,19 +311,11 @@ terms_stop names bank bytes new over terms rest left t bare l =
 
 -- ---- where no term stands
 
-pub no_term_end : (bytes : List ℕ) → IsAtEnd bytes → BeginsNot 32 bytes → HasNoTerm bytes
-no_term_end bytes end b = inl (end_empty bytes end b)
-
 pub no_term_brace : (bytes there rest : List ℕ) → bytes ≡ 32 ∷ there → there ≡ 123 ∷ rest → HasNoTerm bytes
 no_term_brace bytes there rest b t = inr (brace rest (b ∙ ap (λ z. 32 ∷ z) t))
 
 pub no_term_mark : (bytes there rest : List ℕ) → bytes ≡ 32 ∷ there → there ≡ 33 ∷ rest → HasNoTerm bytes
 no_term_mark bytes there rest b t = inr (mark rest (b ∙ ap (λ z. 32 ∷ z) t))
-
-pub some_term : (bytes there : List ℕ) → bytes ≡ 32 ∷ there → BeginsNot 123 there → BeginsNot 33 there → HasNoTerm bytes → ⊥
-some_term bytes there b s m (inl e) = let q : [] ≡ 32 ∷ there = sym e ∙ b in let x : ⊥ = cc in x
-some_term bytes there b s m (inr (brace rest e)) = s rest (behind_byte 32 there (123 ∷ rest) (sym b ∙ e))
-some_term bytes there b s m (inr (mark rest e)) = m rest (behind_byte 32 there (33 ∷ rest) (sym b ∙ e))
 
 -- ---- premises of a clause step
 

@@ -6,7 +6,7 @@ use Rattle.std.specs.List.{list_all, flat_map}
 use Rattle.std.specs.Str.{bytes_eq}
 use Rattle.std.proofs.lemmas.Slice.Eq.{bytes_eq-Decides}
 use Rattle.std.proofs.lemmas.Bool.{ne_eqb}
-use Rattle.ll_lists.proofs.CallerLemmas.{IfOk-each as if_ok}
+use Rattle.ll_list_laws.proofs.CallerLemmas.{IfOk-each as if_ok}
 use Rattle.ll_bank.specs.declared.At.{At}
 use Rattle.ll_bank.specs.Nodes.{Nodes, term_trees}
 use Rattle.ll_laws.specs.ProofText.{field, term_field, part_field, node_text, set_text}
@@ -80,24 +80,12 @@ not_listed (entry ∷ more) w h = let f : bytes_eq entry.0 w ≡ false = h.0 in 
 
 -- ---- `let` and the words of nodes
 
-pub let_is : (lets : Bool) (w t : List ℕ) → true ≡ bytes_eq w t → t ≡ codes "let" → lets ≡ true → IsRowWord lets w first.Let
-let_is lets w t h e l = record { is = equal w t h ∙ e; known = ap (λ b. want b w) l ∙ ap (want true) (equal w t h ∙ e) }
-
-pub let_not : (lets : Bool) (w t : List ℕ) → true ≡ bytes_eq w t → t ≡ codes "let" → lets ≡ false → want lets w ≡ None
-let_not lets w t h e l = ap (λ b. want b w) l ∙ ap (want false) (equal w t h ∙ e)
-
 behind_let : (lets : Bool) (w : List ℕ) → bytes_eq (codes "let") w ≡ false → want lets w ≡ listed node_words w
 behind_let true w f = not_first (codes "let") (Then Argument Nothing) node_words w f
   where
     not_first : (s : List ℕ) (v : Want) (more : List (List ℕ × Want)) (w : List ℕ) → bytes_eq s w ≡ false → listed ((s, v) ∷ more) w ≡ listed more w
     not_first s v more w f = rw f refl
 behind_let false w f = refl
-
-pub row_word_is : (lets : Bool) (w t : List ℕ) (k : NodeWord) → false ≡ bytes_eq w t → t ≡ codes "let" → IsNodeWord w k → IsRowWord lets w (first.Node k)
-row_word_is lets w t k h e i = record { is = i.is; known = behind_let lets w (unlike w t (codes "let") h e) ∙ i.known }
-
-pub row_word_none : (lets : Bool) (w t : List ℕ) → false ≡ bytes_eq w t → t ≡ codes "let" → listed node_words w ≡ None → want lets w ≡ None
-row_word_none lets w t h e n = behind_let lets w (unlike w t (codes "let") h e) ∙ n
 
 let_may : (lets : Bool) (v : Want) → want lets (codes "let") ≡ Some v → lets ≡ true
 let_may true v e = refl

@@ -25,7 +25,7 @@ use Rattle.ll_prooftext.specs.Terms.{Grows, IsSpelledAt, argument_at}
 use Rattle.ll_lexer.specs.Spelling.{is_lower, is_word_byte}
 use Rattle.ll_prooftext.specs.Mentions.{scanned, name_here, word_run, mentions, line_names}
 use Rattle.ll_prooftext.specs.RowWords.{IsGoodRule, IsNodeRow, IsLetRow}
-use Rattle.ll_prooftext.specs.Reader.{end_from, IsNext, TakesLine, IsBehindVersion, Takes, variable, node}
+use Rattle.ll_prooftext.specs.Reader.{end_from, IsNext, TakesLine, IsBehindVersion, AddsLine, variable, node}
 use Rattle.ll_prooftext.proofs.spelling.Extended.{at_kept}
 use Rattle.ll_prooftext.proofs.spelling.Kept.{grows_none, grows_on, flat_same, arg_same, arg_good, args_fields}
 
@@ -323,6 +323,6 @@ module _ (text : List ℕ) (old names : List (List ℕ)) (o : Reading) (p : Line
         few = omega arith;
       }
 
-  pub so_far_more : Takes names o line.bytes.now new r → IsSoFar text old new r q
+  pub so_far_more : AddsLine names o line.bytes.now new r → IsSoFar text old new r q
   so_far_more (variable at w a n l) = let_more at w a n l
   so_far_more (node x w n a l) = node_more x w n a l

@@ -5,7 +5,7 @@ use Rattle.std.specs.Prelude.{◌&&◌}
 use Rattle.std.specs.List.{flat_map}
 use Rattle.std.proofs.lemmas.List.{map-append}
 use Rattle.std.proofs.lemmas.List.Elements.{All-nil, All-push}
-use Rattle.ll_lists.proofs.CallerLemmas.{and_true_left as and_left, and_true_right as and_right}
+use Rattle.ll_list_laws.proofs.CallerLemmas.{and_true_left as and_left, and_true_right as and_right}
 use Rattle.ll_bank.specs.declared.At.{At}
 use Rattle.ll_bank.specs.Names.{with_names}
 use Rattle.ll_bank.specs.Term.{Term}

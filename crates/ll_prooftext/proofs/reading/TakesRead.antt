@@ -11,7 +11,7 @@ use Rattle.ll_prooftext.specs.declared.reader.Reading.{Reading}
 use Rattle.ll_prooftext.specs.Reading.{is_none, children, want}
 use Rattle.ll_prooftext.specs.RowWords.{IsNodeRow, IsLetRow, IsRefused}
 use Rattle.ll_prooftext.specs.declared.rows.Refusal.{Refusal}
-use Rattle.ll_prooftext.specs.Reader.{IsNext, Takes, variable, node}
+use Rattle.ll_prooftext.specs.Reader.{IsNext, AddsLine, variable, node}
 
 pub none_is : {X : Type 0} {b : Bool} (xs : List X) → b ≡ (length xs == 0) → is_none xs ≡ b
 none_is [] t = sym t
@@ -26,13 +26,13 @@ next_begins n rest at (inr e) = inr (e ∙ sym (ap (λ (z : Place). record { lin
 
 pub takes_let : (names : List (List ℕ)) (o : Reading) (line : List ℕ) (new : List (List ℕ)) (p : Reading) (at : At) (k : ℕ) {b : Bool}
     → k ≡ length o.nodes.items → b ≡ (k == 0) → IsLetRow names o.bank line b new p.bank at.0 → p.asked.items ≡ o.asked.items ++ at ∷ []
-    → p.nodes.items ≡ o.nodes.items → p.lacking ≡ o.lacking → Takes names o line new p
+    → p.nodes.items ≡ o.nodes.items → p.lacking ≡ o.lacking → AddsLine names o line new p
 takes_let names o line new p at k e t w a n l = variable at (subst (λ z. IsLetRow names o.bank line z new p.bank at.0)
     (sym (none_is o.nodes.items (t ∙ ap (λ j. j == 0) e))) w) a n l
 
 pub takes_node : (names : List (List ℕ)) (o : Reading) (line : List ℕ) (new : List (List ℕ)) (p : Reading) (r : Rule) (n : ℕ)
     → IsNodeRow names o.bank line new p.bank r → p.nodes.items ≡ o.nodes.items ++ r ∷ [] → p.asked.items ≡ o.asked.items
-    → ((bank : Nodes) → n ≡ children (line_of bank r)) → p.lacking ≡ o.lacking - 1 + n → Takes names o line new p
+    → ((bank : Nodes) → n ≡ children (line_of bank r)) → p.lacking ≡ o.lacking - 1 + n → AddsLine names o line new p
 takes_node names o line new p r n w m a c l = node r w m a (l ∙ ap (λ z. o.lacking - 1 + z) (c p.bank))
 
 -- a line that was refused

@@ -23,7 +23,8 @@ use Rattle.ll_prooftext.specs.Mentions.{Outside, mentions, line_names, text_name
 use Rattle.ll_prooftext.specs.ProofText2.{proof_text2}
 use Rattle.ll_prooftext.specs.Reading.{space}
 use Rattle.ll_prooftext.specs.Reading2.{IsText2Of}
-use Rattle.ll_prooftext.specs.Sharing.{Stands, itself, by_row, AreCells, no_cells, next_cell, IsShare, AreShares, no_shares, next_share, IsLet, IsStep, AreEach}
+use Rattle.ll_prooftext.specs.Sharing.{StandsFor, itself, by_row, AreCells, no_cells, next_cell}
+use Rattle.ll_prooftext.specs.Sharing.{IsShare, AreShares, no_shares, next_share, IsLet, IsStep, AreEach}
 use Rattle.ll_prooftext.specs.Table.{table}
 use Rattle.ll_prooftext.specs.Terms.{is_part, Bare, name}
 use Rattle.ll_prooftext.specs.Words.{Stops, ended, at_byte, is_not}
@@ -270,7 +271,7 @@ module _ (names others : List (List ℕ)) (r : Numbers) (P : List ℕ → Type 0
 
   -- what a field stands for, over rows that are kept
   cell-said : (rows : List Term) → AreKept names others r rows → length rows < 2 ^ 64 → (t : Term) → IsSpelledTerm names t → (text : List ℕ)
-      → Stands names rows t text → (rest : List ℕ) → Stops is_part rest → Said (text ++ rest) → Kept t × Said rest
+      → StandsFor names rows t text → (rest : List ℕ) → Stops is_part rest → Said (text ++ rest) → Kept t × Said rest
   cell-said rows a few t s text (itself b e) rest st h = term-said t s rest st (subst (λ z. Said (z ++ rest)) e h)
   cell-said rows a few t s text (by_row k f e) rest st h =
       let w = slice_get_within rows k t f in
@@ -335,7 +336,7 @@ module _ (names others : List (List ℕ)) (r : Numbers) (P : List ℕ → Type 0
       subst (AreKept names others r) (sym e) (keep-join before (t ∷ []) a (b, tt))
 
   module _ (rows : List Term) (a : AreKept names others r rows) (few : length rows < 2 ^ 64) where
-    stands-said : (w : List ℕ) → list_all (is_not 32) w ≡ true → (t : Term) → IsSpelledTerm names t → (text : List ℕ) → Stands names rows t text
+    stands-said : (w : List ℕ) → list_all (is_not 32) w ≡ true → (t : Term) → IsSpelledTerm names t → (text : List ℕ) → StandsFor names rows t text
         → All P (line_names (w ++ field text)) → Kept t
     stands-said w free t s text i h =
         let k = subst (All P) (line_mentions w (field text) free space) h in

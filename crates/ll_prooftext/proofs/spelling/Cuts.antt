@@ -1,7 +1,7 @@
 -- Bytes cut at the first one that fails a test.
 use Rattle.std.proofs.Common.{◌≡◌, ℕ, suc, ◌+◌, Bool, true, false, cond, List, [], ◌∷◌, ◌++◌, drop, refl, arith}
 use Rattle.std.specs.List.{list_all, prefix_len}
-use Rattle.ll_lists.proofs.CallerLemmas.{and_true_left as and_left, and_true_right as and_right}
+use Rattle.ll_list_laws.proofs.CallerLemmas.{and_true_left as and_left, and_true_right as and_right}
 use Rattle.ll_prooftext.specs.Words.{Stops, ended, at_byte}
 
 -- what is behind it

@@ -10,7 +10,7 @@ use Rattle.std.proofs.lemmas.List.Folds.{list_all-append}
 use Rattle.std.proofs.lemmas.List.Elements.{All-head, All-tail}
 use Rattle.std.proofs.lemmas.Bool.Decides.{nat_tests}
 use Rattle.std.proofs.Math.Seq.{drop-append_seam}
-use Rattle.ll_lists.proofs.CallerLemmas.{false_from_not as turned, and_true_both as both, and_true_left as and_left, and_true_right as and_right}
+use Rattle.ll_list_laws.proofs.CallerLemmas.{false_from_not as turned, and_true_both as both, and_true_left as and_left, and_true_right as and_right}
 use Rattle.ll_bank.specs.Names.{with_name, with_names}
 use Rattle.ll_lexer.specs.Spelling.{is_name, is_lower, is_word_byte}
 use Rattle.ll_laws.specs.Line.{PartLine, Labels, Free}
@@ -266,9 +266,6 @@ parts_quiet (p ∷ ps) a = quiet_join (part_field p) (flat_map part_field ps) (p
     (parts_quiet ps (All-tail IsSpelledPart p ps a))
 
 -- ---- names that are added
-
-pub added_one : (names : List (List ℕ)) (w : List ℕ) (more : List (List ℕ)) → with_names names (w ∷ more) ≡ with_names (with_name names w) more
-added_one names w more = refl
 
 pub added_apart : (names more others : List (List ℕ)) → with_names names (more ++ others) ≡ with_names (with_names names more) others
 added_apart names more others = fold-append with_name names more others

@@ -9,7 +9,7 @@ use Rattle.ll_laws.specs.Output.{head_text, is_cons_head, is_cons, bracket_if, h
 use Rattle.ll_prooftext.specs.Admitted.{IsPlainHead, IsPairHead, IsSpelledTerm, IsSpelledSpine}
 use Rattle.ll_prooftext.specs.Words.{Stops, at_byte}
 use Rattle.ll_prooftext.specs.Terms.{is_part, Shape, Wanted, Bare, Applied, Closed, IsHeadWord, name, eigen, variable, number, IsWord, Frame, frame, takes}
-use Rattle.ll_prooftext.specs.Terms.{closes, fresh, first_bracket, first_word, PartWay, bracket, word, sign, whole, argument, item, Goes, Accepts, goes}
+use Rattle.ll_prooftext.specs.Terms.{closes, fresh, first_bracket, first_word, PartWay, bracket, word, sign, whole, argument, item, WaysOn, Accepts, goes}
 use Rattle.ll_prooftext.specs.Terms.{closed as all_closed}
 
 -- what stands in a bracket once a term was read there
@@ -75,7 +75,7 @@ closing names (Ap (Ap (Con h) x) l) e = by_test (is_cons_head names h) (chain_on
 closing names (Ap f a) e = refl
 
 part_goes : (c : Bool) (p : Shape) (fs : List Frame) (bytes : List ℕ) (gs : List Frame) (left : List ℕ) → is_wanted p ≡ false → PartWay c p fs bytes gs left
-    → Goes (frame c p ∷ fs) bytes gs left
+    → WaysOn (frame c p ∷ fs) bytes gs left
 part_goes c Wanted fs bytes gs left e w = absurd cc
 part_goes c Bare fs bytes gs left e w = w
 part_goes c Applied fs bytes gs left e w = w

@@ -21,7 +21,7 @@ use Rattle.ll_prooftext.specs.Terms.{is_part, IsHeadWord, name, eigen, IsLeafWor
 use Rattle.ll_prooftext.specs.Terms.{small_keywords}
 use Rattle.ll_prooftext.proofs.spelling.Cuts.{one_cut}
 use Rattle.std.proofs.lemmas.Fmt.{decimal_nonempty}
-use Rattle.ll_lists.proofs.CallerLemmas.{and_true_both as both}
+use Rattle.ll_list_laws.proofs.CallerLemmas.{and_true_both as both}
 use Rattle.ll_prooftext.proofs.spelling.Numerals.{mag_small}
 use Rattle.ll_prooftext.proofs.reading.Labels.{is_figure, decimal_figures}
 

@@ -21,7 +21,7 @@ use Rattle.ll_prooftext.specs.declared.terms.Open.{Open}
 use Rattle.ll_prooftext.specs.Admitted.{IsPlainHead, IsSpelledTerm}
 use Rattle.ll_prooftext.specs.Reading.{is_none}
 use Rattle.ll_prooftext.specs.Words.{BeginsNot}
-use Rattle.ll_prooftext.specs.Terms.{Wanted, Applied, Closed, IsWord, IsWordOf, IsWordAt, HasNoWord, frame, fresh, takes, Accepts, Grows, Moves, IsSpelledAt}
+use Rattle.ll_prooftext.specs.Terms.{Wanted, Applied, IsWord, IsWordOf, IsWordAt, HasNoWord, frame, fresh, takes, Accepts, Grows, Moves, IsSpelledAt}
 use Rattle.ll_prooftext.specs.Terms.{text_at, argument_at}
 use Rattle.ll_prooftext.specs.Brackets.{shape_of, frame_of, frames, item_text, part_text, args_text, bracket_text, gap, outer_text, open_text, IsGoodItem}
 use Rattle.ll_prooftext.specs.Brackets.{IsGoodPart, IsGoodBracket, IsGood, Turns, IsTermFrom, IsOpened, HasItem}
@@ -31,7 +31,7 @@ use Rattle.ll_prooftext.proofs.spelling.Mentioning.{space_mentions, open_mention
 use Rattle.ll_prooftext.proofs.spelling.Extended.{at_kept, head_on, cons_on, app_text, app_spelled, app_closed, app_has, app_no_cons}
 use Rattle.ll_prooftext.proofs.spelling.Reach.{is_wanted}
 use Rattle.ll_prooftext.proofs.spelling.Spellings.{word_full}
-use Rattle.ll_prooftext.proofs.spelling.Ways.{first_bracket_on, first_word_on, first_none, argument_none, argument_refused, sign_none, argument_bracket_on}
+use Rattle.ll_prooftext.proofs.spelling.Ways.{first_bracket_on, first_word_on, first_none, argument_none, argument_bracket_on}
 use Rattle.ll_prooftext.proofs.spelling.Ways.{argument_word_on}
 
 -- ---- names and terms more
@@ -397,15 +397,3 @@ pub argument_stuck : (o : Open) (x : Word) (bytes : List ℕ) → o.top.part ≡
     → Accepts end (frames o) (32 ∷ bytes) → ⊥
 argument_stuck o x bytes n b w end a = argument_none end (not (is_none o.top.items.items)) (shape_of o.top.part o.top.args.items)
     (reverse (map frame_of o.outer.items)) bytes (known_part o x n) b w a
-
-pub leaf_stuck : (o : Open) (at : At) (bytes : List ℕ) → o.top.part ≡ Some (LeafWord at) → (end : List ℕ) → Accepts end (frames o) (32 ∷ bytes) → ⊥
-leaf_stuck o at bytes n end a =
-    let c = not (is_none o.top.items.items) in
-    let fs = reverse (map frame_of o.outer.items) in
-    let e : frames o ≡ frame c Closed ∷ fs = ap (λ q. frame c (shape_of q o.top.args.items) ∷ fs) n in
-    argument_refused end c fs bytes (subst (λ hs. Accepts end hs (32 ∷ bytes)) e a)
-
-pub sign_stuck : (o : Open) (x : Word) (bytes : List ℕ) → o.top.part ≡ Some x → BeginsNot 32 bytes → BeginsNot 41 bytes
-    → ((rest : List ℕ) → bytes ≡ 58 ∷ 58 ∷ rest → ⊥) → (end : List ℕ) → Accepts end (frames o) bytes → ⊥
-sign_stuck o x bytes n s e w end a = sign_none end (not (is_none o.top.items.items)) (shape_of o.top.part o.top.args.items)
-    (reverse (map frame_of o.outer.items)) bytes (known_part o x n) s e w a

@@ -5,7 +5,7 @@ use Rattle.std.proofs.lemmas.Bool.{eq-eqb}
 use Rattle.ll_lexer.specs.Spelling.{is_lower}
 use Rattle.ll_prooftext.specs.Words.{Stops, BeginsNot}
 use Rattle.ll_prooftext.specs.Terms.{is_part, Shape, Wanted, Bare, Applied, Closed, IsWord, HasNoWord, Frame, frame, takes, closes, fresh, FirstWay}
-use Rattle.ll_prooftext.specs.Terms.{first_bracket, first_word, PartWay, bracket, word, sign, whole, argument, item, Goes, Accepts, goes, closed}
+use Rattle.ll_prooftext.specs.Terms.{first_bracket, first_word, PartWay, bracket, word, sign, whole, argument, item, WaysOn, Accepts, goes, closed}
 use Rattle.ll_prooftext.proofs.spelling.Spellings.{word_parts, one_word, one_shape, head_start, leaf_start, head_first, leaf_first}
 use Rattle.ll_prooftext.proofs.spelling.Reach.{is_wanted}
 
@@ -13,7 +13,7 @@ use Rattle.ll_prooftext.proofs.spelling.Reach.{is_wanted}
 record Goer (end : List ℕ) (fs : List Frame) (bytes : List ℕ) : Type 0 where
   pub next : List Frame
   pub left : List ℕ
-  pub way : Goes fs bytes next left
+  pub way : WaysOn fs bytes next left
   pub rest : Accepts end next left
 
 goer : (end : List ℕ) (f : Frame) (fs : List Frame) (bytes : List ℕ) → Accepts end (f ∷ fs) bytes → Goer end (f ∷ fs) bytes
@@ -21,7 +21,7 @@ goer end f fs bytes (closed e b) = absurd cc
 goer end f fs bytes (goes gs left w a) = record { next = gs; left = left; way = w; rest = a }
 
 part_way : (c : Bool) (p : Shape) (fs : List Frame) (bytes : List ℕ) (gs : List Frame) (left : List ℕ) → is_wanted p ≡ false
-    → Goes (frame c p ∷ fs) bytes gs left → PartWay c p fs bytes gs left
+    → WaysOn (frame c p ∷ fs) bytes gs left → PartWay c p fs bytes gs left
 part_way c Wanted fs bytes gs left e w = absurd cc
 part_way c Bare fs bytes gs left e w = w
 part_way c Applied fs bytes gs left e w = w
@@ -156,18 +156,6 @@ sign_on end c p fs bs full a = by_ways end c p fs (58 ∷ 58 ∷ bs) full (Accep
     by_way gs left (whole t m f h) r = absurd (byte_apart _ _ _ _ f refl)
     by_way gs left (argument t d o hs m u f h) r = absurd (byte_apart _ _ _ _ f refl)
     by_way gs left (item t d hs m f h) r = absurd (byte_apart _ _ _ _ f refl)
-
-pub sign_none : (end : List ℕ) (c : Bool) (p : Shape) (fs : List Frame) (bytes : List ℕ) → is_wanted p ≡ false → BeginsNot 32 bytes → BeginsNot 41 bytes
-    → ((rest : List ℕ) → bytes ≡ 58 ∷ 58 ∷ rest → ⊥) → Accepts end (frame c p ∷ fs) bytes → ⊥
-sign_none end c p fs bytes full x y z a = by_ways end c p fs bytes full ⊥ by_way a
-  where
-    by_way : (gs : List Frame) (left : List ℕ) → PartWay c p fs bytes gs left → Accepts end gs left → ⊥
-    by_way gs left (bracket t f h) r = x (40 ∷ left) f
-    by_way gs left (word t v o j u f h) r = x (v ++ left) f
-    by_way gs left (sign f h) r = z left f
-    by_way gs left (whole t m f h) r = y left f
-    by_way gs left (argument t d o hs m u f h) r = y left f
-    by_way gs left (item t d hs m f h) r = y (58 ∷ 58 ∷ left) f
 
 -- ---- the end of a bracket
 

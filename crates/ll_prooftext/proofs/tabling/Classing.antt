@@ -1,17 +1,17 @@
 -- Equal terms have one number.
-use Rattle.std.proofs.Common.{◌≡◌, ℕ, zero, suc, ◌+◌, ◌<◌, ◌≤◌, Bool, true, false, if◌then◌else◌, List, [], ◌∷◌, ◌++◌, length, get_or, take, refl, ap, sym}
+use Rattle.std.proofs.Common.{◌≡◌, ℕ, zero, suc, ◌+◌, ◌<◌, Bool, true, false, if◌then◌else◌, List, [], ◌∷◌, ◌++◌, length, get_or, take, refl, ap, sym}
 use Rattle.std.proofs.Common.{subst, ◌∙◌, inl, inr, arith, true≢false, append_assoc, Some}
 use Rattle.std.specs.Prelude.{slice_get}
 use Rattle.std.specs.List.{list_any, IsDistinct, AllByRecursion}
 use Rattle.std.proofs.Math.ListN.{get_or-append}
 use Rattle.std.proofs.lemmas.Bool.{eqb-true, eq-eqb, cases_lt, and_parts, and_from}
 use Rattle.std.proofs.lemmas.Bool.Decides.{Decides-int_eq}
-use Rattle.std.proofs.lemmas.List.{append-nil, length_push, get_or_push, take-map, map_more, take_all, length-map}
+use Rattle.std.proofs.lemmas.List.{append-nil, length_push, get_or_push, take-map, map_more}
 use Rattle.std.proofs.lemmas.Option.{slice_get_within}
 use Rattle.ll_bank.specs.declared.At.{At}
 use Rattle.ll_bank.specs.declared.Head.{Head}
 use Rattle.ll_bank.specs.declared.Head.TheVariants.{Name, Eigen, Bound}
-use Rattle.ll_bank.specs.Nodes.{Nodes, AppNode, places, term_tree, term_trees}
+use Rattle.ll_bank.specs.Nodes.{Nodes, term_tree, term_trees}
 use Rattle.ll_bank.specs.Term.{Term, Var, Int, Con, Ap, apply, app}
 use Rattle.ll_bank.proofs.CallerLemmas.{apply-push}
 use Rattle.ll_prooftext.specs.declared.classes.Sign.{Sign}
@@ -76,9 +76,6 @@ number_stays old new g n t h = subst (λ ss. HasNumber ss n t) (sym g.is) (stays
     stays n (Int z) h = get-append old g.more n (sign.Int z) h
     stays n (Con k) h = get-append old g.more n (sign.Head k) h
     stays n (Ap f a) h = (h.0, (h.1.0, (get-append old g.more n (sign.Apply h.0 h.1.0) h.1.1.0, (stays h.0 f h.1.1.1.0, stays h.1.0 a h.1.1.1.1))))
-
-pub Gain-refl : (signs : List Sign) → AreApart signs → Gain signs signs
-Gain-refl signs a = record { apart = a; more = []; is = sym (append-nil signs) }
 
 pub Gain-trans : (a b c : List Sign) → Gain a b → Gain b c → Gain a c
 Gain-trans a b c p q = record { apart = q.apart; more = p.more ++ q.more; is = q.is ∙ (ap (λ xs. xs ++ q.more) p.is ∙ append_assoc a p.more q.more) }
@@ -172,14 +169,3 @@ number_more bank at args i old now next n m a c g d l arg e =
           ∙ ap (λ xs. xs ++ t ∷ []) (sym (take-map (λ (b : At). term_tree bank b.0) i args))))))
           (n, (a, (e, (number_stays now next g n (app c.head (take i (term_trees bank args))) c.number, number_stays now next g a t arg))));
     }
-
--- all arguments of the term at the place
-pub number_whole : (bank : Nodes) (at : ℕ) (args : List At) (i : ℕ) (old now : List Sign) (n : ℕ) (h : Head) → IsNumbering bank at args i old now n
-    → length args ≤ i
-    → slice_get bank.terms at ≡ Some (AppNode h (places args)) → term_tree bank at ≡ app h (term_trees bank args) → HasNumber now n (term_tree bank at)
-number_whole bank at args i old now n h c l node tree =
-    let same : c.head ≡ h = (let e : Some (AppNode c.head (places args)) ≡ Some (AppNode h (places args)) = sym c.node ∙ node in cc) in
-    subst (HasNumber now n)
-    (ap (app c.head) (take_all i (term_trees bank args) (let m = length-map args (λ (b : At). term_tree bank b.0) in omega arith))
-    ∙ (ap (λ k. app k (term_trees bank args)) same ∙ sym tree))
-    c.number

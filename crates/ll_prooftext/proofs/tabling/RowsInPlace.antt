@@ -16,7 +16,8 @@ use Rattle.ll_laws.specs.ProofText.{field, part_field}
 use Rattle.ll_laws.proofs.CallerLemmas.{term_eq-true, term_eq-refl}
 use Rattle.ll_prooftext.specs.Table.{completed, completed_arguments, is_among, with_row, row_of, table, line_terms, field_terms}
 use Rattle.ll_prooftext.specs.ProofText2.{short_field, share_line, spine_text, let_text_by, node_text_by, proof_text2}
-use Rattle.ll_prooftext.specs.Sharing.{Stands, itself, by_row, AreCells, no_cells, next_cell, IsShare, AreShares, no_shares, next_share, IsLet, IsStep, AreEach}
+use Rattle.ll_prooftext.specs.Sharing.{StandsFor, itself, by_row, AreCells, no_cells, next_cell}
+use Rattle.ll_prooftext.specs.Sharing.{IsShare, AreShares, no_shares, next_share, IsLet, IsStep, AreEach}
 use Rattle.ll_prooftext.proofs.spelling.Extended.{app_has}
 use Rattle.ll_prooftext.proofs.writing.ShortLines.{spine_app, field_by_row, field_itself, text2_is}
 use Rattle.ll_prooftext.proofs.tabling.TableTerms.{AreAmong, among-append, rows_in-among, wider, completed_is, completed_bare, arguments_app, row_kept}
@@ -79,7 +80,7 @@ table_once d = once_all (flat_map completed (field_terms d)) [] (λ k t e. absur
 
 -- what a text stands for is in a row, with all that it completes
 stands_among : (names : List (List ℕ)) (rows : List Term) (t : Term) (text : List ℕ) → ((u : Term) → is_among rows u ≡ true → AreAmong rows (completed u))
-    → Stands names rows t text → AreAmong rows (completed t)
+    → StandsFor names rows t text → AreAmong rows (completed t)
 stands_among names rows t text h (itself b e) = subst (AreAmong rows) (sym (completed_bare t b)) (All-nil (λ u. is_among rows u ≡ true))
 stands_among names rows t text h (by_row k g e) = h t (there_among rows k t g)
 
@@ -240,7 +241,7 @@ module _ (names : List (List ℕ)) (rows : List Term) (once : AreOnce rows) wher
   abbrev AreFront : List Term → Type 0
   AreFront before = (k : ℕ) (t : Term) → slice_get before k ≡ Some t → (slice_get rows k ≡ Some t) × (has_arguments t ≡ true)
 
-  stands_text : (before : List Term) (t : Term) (text : List ℕ) → AreFront before → Stands names before t text → field text ≡ short_field names rows t
+  stands_text : (before : List Term) (t : Term) (text : List ℕ) → AreFront before → StandsFor names before t text → field text ≡ short_field names rows t
   stands_text before t text f (itself b e) = ap field e ∙ field_itself names rows t b
   stands_text before t text f (by_row k g e) = ap field e ∙ (ap (λ j. codes " @" ++ decimal j) (sym (once k t (f k t g).0))
       ∙ field_by_row names rows t (f k t g).1)

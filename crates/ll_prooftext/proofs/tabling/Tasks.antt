@@ -1,6 +1,6 @@
 -- The task that is taken next.
 use Rattle.std.proofs.Common.{◌≡◌, List, [], ◌∷◌, ◌++◌, All, subst, arith}
-use Rattle.ll_lists.proofs.CallerLemmas.{All-last}
+use Rattle.ll_list_laws.proofs.CallerLemmas.{All-last}
 use Rattle.ll_bank.specs.Term.{Term}
 use Rattle.ll_bank.specs.Nodes.{Nodes, HasTerm}
 use Rattle.ll_prooftext.specs.declared.table.Table.{Table}

@@ -6,7 +6,7 @@ use Rattle.std.specs.List.{IsDistinct, list_all, flat_map, slice_get}
 use Rattle.std.specs.Str.{bytes_eq}
 use Rattle.std.proofs.lemmas.List.Folds.{list_all-append}
 use Rattle.std.proofs.lemmas.Bool.{and_from as both}
-use Rattle.ll_lists.proofs.CallerLemmas.{and_true_both as parts}
+use Rattle.ll_list_laws.proofs.CallerLemmas.{and_true_both as parts}
 use Rattle.ll_bank.specs.Term.{Term}
 use Rattle.ll_lexer.specs.declared.Fault.{Fault}
 use Rattle.ll_lexer.specs.Reading.{place_at}

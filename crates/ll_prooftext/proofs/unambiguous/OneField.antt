@@ -14,7 +14,7 @@ use Rattle.ll_prooftext.specs.Reading.{Kind, Number, Set, Argument, Mark, Plain,
 use Rattle.ll_prooftext.specs.Reading.{after_field, IsNumber, IsSet, IsArgument, IsField, IsAtEnd, line_end, space}
 use Rattle.ll_prooftext.specs.Words.{is_not, Stops, ended, at_byte}
 use Rattle.ll_prooftext.specs.Terms.{is_part, Shape, Wanted, Bare, Applied, Closed, variable, number, IsWord, Frame, frame, fresh, FirstWay, first_bracket}
-use Rattle.ll_prooftext.specs.Terms.{first_word, PartWay, bracket, word, sign, whole, argument, item, Goes, Accepts, closed, goes}
+use Rattle.ll_prooftext.specs.Terms.{first_word, PartWay, bracket, word, sign, whole, argument, item, WaysOn, Accepts, closed, goes}
 use Rattle.ll_prooftext.proofs.reading.CellsRead.{cell_free, word_free, plain_word}
 use Rattle.ll_prooftext.proofs.spelling.Cuts.{one_cut}
 use Rattle.ll_prooftext.proofs.reading.LinesOver.{cell_first}
@@ -50,7 +50,7 @@ part_same f c p fs bytes gs left full (item t d hs n e h) a =
     subst (λ z. Accepts f z left) (sym h) (close_item_on f c p d hs left full
     (subst (λ z. Accepts f (frame c p ∷ frame d Wanted ∷ hs) z) e (subst (λ z. Accepts f (frame c p ∷ z) bytes) n a)))
 
-way_same : (f : List ℕ) (fs : List Frame) (bytes : List ℕ) (gs : List Frame) (left : List ℕ) → Goes fs bytes gs left → Accepts f fs bytes → Accepts f gs left
+way_same : (f : List ℕ) (fs : List Frame) (bytes : List ℕ) (gs : List Frame) (left : List ℕ) → WaysOn fs bytes gs left → Accepts f fs bytes → Accepts f gs left
 way_same f [] bytes gs left w a = absurd w
 way_same f (frame c Wanted ∷ fs) bytes gs left w a = first_same f c fs bytes gs left w a
 way_same f (frame c Bare ∷ fs) bytes gs left w a = part_same f c Bare fs bytes gs left refl w a

@@ -20,7 +20,8 @@ use Rattle.ll_prooftext.specs.Admitted.{IsPlainHead, IsSpelledTerm, IsSpelledSpi
 use Rattle.ll_prooftext.specs.Reading.{Number, Set, Plain, Sign, Cell, Want, Nothing, Row, More, Cells, Then, after_field, IsField, IsAtEnd, line_end, space}
 use Rattle.ll_prooftext.specs.Reading.{listed, first_word, text_lines, children, missing, is_none, HasBadField, HasNoVersion}
 use Rattle.ll_prooftext.specs.Words.{is_not}
-use Rattle.ll_prooftext.specs.Sharing.{Stands, itself, by_row, AreCells, no_cells, next_cell, IsShare, AreShares, no_shares, next_share, IsLet, IsStep, AreEach}
+use Rattle.ll_prooftext.specs.Sharing.{StandsFor, itself, by_row, AreCells, no_cells, next_cell}
+use Rattle.ll_prooftext.specs.Sharing.{IsShare, AreShares, no_shares, next_share, IsLet, IsStep, AreEach}
 use Rattle.ll_prooftext.specs.SharedLines.{node_words_over, let_words_over, want_over}
 use Rattle.ll_prooftext.specs.Reading2.{IsOff, BeginsOver, derivation, line_behind, HasFault2, version2, unknown_word2, bad_field2, nodes_missing2, left_over2}
 use Rattle.ll_prooftext.specs.Reading2.{off_table}
@@ -34,7 +35,7 @@ use Rattle.ll_prooftext.proofs.unambiguous.OneVerdict.{tensor_read}
 use Rattle.ll_prooftext.proofs.unambiguous.OneFault.{fault_in, end_fault, Follows, follows_once}
 use Rattle.std.proofs.lemmas.Option.{slice_get_within}
 use Rattle.std.proofs.lemmas.Bool.{or_from as both_false}
-use Rattle.ll_lists.proofs.CallerLemmas.{and_true_left as and_left, and_true_right as and_right}
+use Rattle.ll_list_laws.proofs.CallerLemmas.{and_true_left as and_left, and_true_right as and_right}
 
 -- ---- first words
 
@@ -98,7 +99,7 @@ record IsGoodOver (n : ℕ) (shares lets : Bool) (bytes : List ℕ) (nodes : ℕ
   pub share : is_share bytes ≡ as_share
   pub let_line : is_let bytes ≡ as_let
 
-pub cell_good : (names : List (List ℕ)) (rows : List Term) (t : Term) (text : List ℕ) → IsSpelledTerm names t → Stands names rows t text
+pub cell_good : (names : List (List ℕ)) (rows : List Term) (t : Term) (text : List ℕ) → IsSpelledTerm names t → StandsFor names rows t text
     → IsField (Cell (length rows)) text
 cell_good names rows t text s (itself b e) = inl (record { names = names; term = t; spelled = s; bare = b; is = e })
 cell_good names rows t text s (by_row k g e) = inr (record { number = k; below = slice_get_within rows k t g; is = e })
@@ -206,7 +207,7 @@ share_good names before t line i s = subst (λ z. IsGoodOver (length before) tru
   let_line = refl;
 })
 
-cell_last : (names : List (List ℕ)) (rows : List Term) (t : Term) (text : List ℕ) (i : ℕ) → IsSpelledTerm names t → Stands names rows t text
+cell_last : (names : List (List ℕ)) (rows : List Term) (t : Term) (text : List ℕ) (i : ℕ) → IsSpelledTerm names t → StandsFor names rows t text
     → Reads (Good 0) (Then (Cell (length rows)) Nothing) i 0 (32 ∷ text)
 cell_last names rows t text i s c = more (Cell (length rows)) text [] Nothing (last text) (cell_then (length rows) Nothing) (cell_good names rows t text s c)
     line_end (ends refl refl refl)

@@ -24,7 +24,7 @@ use Rattle.ll_prooftext.specs.Fields.{HasNoTerm, brace, mark}
 use Rattle.ll_prooftext.specs.Terms.{Bare, IsWord}
 use Rattle.ll_prooftext.specs.Words.{at_byte, is_not}
 use Rattle.ll_prooftext.specs.Table.{completed, completed_arguments, is_among, with_row, table, line_terms, field_terms}
-use Rattle.ll_prooftext.specs.Sharing.{Stands, itself, by_row, AreCells, no_cells, next_cell, IsShare, AreShares, no_shares, next_share, IsLet, IsClauseStep}
+use Rattle.ll_prooftext.specs.Sharing.{StandsFor, itself, by_row, AreCells, no_cells, next_cell, IsShare, AreShares, no_shares, next_share, IsLet, IsClauseStep}
 use Rattle.ll_prooftext.specs.Sharing.{IsStep, AreEach}
 use Rattle.ll_prooftext.proofs.reading.CellsRead.{row_word, word_free, cell_free}
 use Rattle.ll_prooftext.proofs.spelling.Cuts.{one_cut}
@@ -252,7 +252,7 @@ module _ (names ms : List (List ℕ)) (one : IsDistinct bytes_eq names) (two : I
   bare_not_row t w k ns s b e f = row_word w (decimal k) f (bare_shape t) (subst (λ z. IsWord z (bare_shape t)) (sym e) (bare_word ns t b s))
 
   stands_alike : (rows others : List Term) (t u : Term) (w : List ℕ) → AlikeAll names ms rows others → length rows < 2 ^ 64 → IsSpelledTerm names t
-      → IsSpelledTerm ms u → Stands names rows t w → Stands ms others u w → Alike names ms t u
+      → IsSpelledTerm ms u → StandsFor names rows t w → StandsFor ms others u w → Alike names ms t u
   stands_alike rows others t u w r l s v (itself b e) (itself c f) = leaf_alike t u b c s v (sym e ∙ f)
   stands_alike rows others t u w r l s v (itself b e) (by_row j h f) = absurd (bare_not_row t w j names s b e f)
   stands_alike rows others t u w r l s v (by_row k g e) (itself c f) = absurd (bare_not_row u w k ms v c f e)
@@ -299,7 +299,7 @@ module _ (names ms : List (List ℕ)) (one : IsDistinct bytes_eq names) (two : I
       (end_stops (is_not 32) (behind ++ b) refl (cells_end ms others vs behind b ds (tail_end b g))) (let q : w ++ (rest ++ a) ≡ z ++ (behind ++ b) = cc in
       q) in
       let i = cells_alike rows others rs vs rest behind a b r l (All-tail (IsSpelledTerm names) t rs s) (All-tail (IsSpelledTerm ms) u vs v) cs ds h g k.1 in
-      (next_term (stands_alike rows others t u z r l st su (subst (Stands names rows t) k.0 c) d) i.0, i.1)
+      (next_term (stands_alike rows others t u z r l st su (subst (StandsFor names rows t) k.0 c) d) i.0, i.1)
 
   apply_alike : (f g : Term) (ts us : List Term) → Alike names ms f g → AlikeAll names ms ts us → Alike names ms (apply f ts) (apply g us)
   apply_alike f g ts us a no_terms = a
@@ -374,7 +374,7 @@ module _ (names ms : List (List ℕ)) (one : IsDistinct bytes_eq names) (two : I
       let e : codes "let" ++ field a.0.text ≡ codes "let" ++ field b.0.text = sym a.0.is ∙ b.0.is in
       let f : a.0.text ≡ b.0.text = cc in
       next_term (stands_alike rows others t u b.0.text r l (All-head (IsSpelledTerm names) t ts s) (All-head (IsSpelledTerm ms) u us v)
-      (subst (Stands names rows t) f a.0.stands) b.0.stands)
+      (subst (StandsFor names rows t) f a.0.stands) b.0.stands)
       (lets_alike rows others ts us ls r l (All-tail (IsSpelledTerm names) t ts s) (All-tail (IsSpelledTerm ms) u us v) a.1 b.1)
 
   parts_no_term : (ps : List PartLine) → HasNoTerm (flat_map part_field ps)
@@ -408,7 +408,7 @@ module _ (names ms : List (List ℕ)) (one : IsDistinct bytes_eq names) (two : I
   by_kind rows others (ExistsLine t) (ExistsLine u) k q r l s v a b =
       let e : codes "exists" ++ field a.text ≡ codes "exists" ++ field b.text = sym a.is ∙ b.is in
       let f : a.text ≡ b.text = cc in
-      next_term (stands_alike rows others t u b.text r l s v (subst (Stands names rows t) f a.stands) b.stands) no_terms
+      next_term (stands_alike rows others t u b.text r l s v (subst (StandsFor names rows t) f a.stands) b.stands) no_terms
   by_kind rows others (ClauseLine n m ts ps) (ClauseLine i j us qs) k q r l s v a b = (clause_alike rows others n m i j ts us ps qs k r l s v a b).2
   by_kind rows others OneLine OneLine k q r l s v a b = no_terms
   by_kind rows others EraseLine EraseLine k q r l s v a b = no_terms

@@ -19,7 +19,8 @@ use Rattle.ll_laws.specs.Line.{ExistsLine, ClauseLine, NumLine, DerivationLines}
 use Rattle.ll_prooftext.specs.Admitted.{IsPlainHead, IsSpelledTerm, IsSpelledSpine, IsSpelledLine}
 use Rattle.ll_prooftext.specs.Table.{completed, completed_arguments, is_among, with_row, row_of, table, line_terms, field_terms}
 use Rattle.ll_prooftext.specs.ProofText2.{short_text, short_field, spine_text, let_text_by, node_text_by, proof_text2}
-use Rattle.ll_prooftext.specs.Sharing.{Stands, itself, by_row, AreCells, no_cells, next_cell, IsShare, AreShares, no_shares, next_share, IsLet, IsStep, AreEach}
+use Rattle.ll_prooftext.specs.Sharing.{StandsFor, itself, by_row, AreCells, no_cells, next_cell}
+use Rattle.ll_prooftext.specs.Sharing.{IsShare, AreShares, no_shares, next_share, IsLet, IsStep, AreEach}
 use Rattle.ll_prooftext.specs.Reading.{text_lines, IsTextOf}
 use Rattle.ll_prooftext.specs.Reading2.{IsText2Of, BeginsOver, HasFault2}
 use Rattle.ll_prooftext.specs.Terms.{Bare}
@@ -63,7 +64,7 @@ record IsFront (rows top : List Term) : Type 0 where
   pub is : top ≡ rows ++ more
 
 stands_there : (names : List (List ℕ)) (rows top : List Term) (t : Term) → IsFront rows top → AreAmong rows (completed t)
-    → Stands names rows t (short_text names top t)
+    → StandsFor names rows t (short_text names top t)
 stands_there names rows top (Var n) f a = itself refl refl
 stands_there names rows top (Int z) f a = itself refl refl
 stands_there names rows top (Con h) f a = itself refl refl
@@ -317,7 +318,7 @@ laid_out names d s v =
 
 -- ---- its lines are those of the text
 
-stands_free : (names : List (List ℕ)) (rows : List Term) (t : Term) (w : List ℕ) → length rows < 2 ^ 64 → IsSpelledTerm names t → Stands names rows t w
+stands_free : (names : List (List ℕ)) (rows : List Term) (t : Term) (w : List ℕ) → length rows < 2 ^ 64 → IsSpelledTerm names t → StandsFor names rows t w
     → HasNoEnd w
 stands_free names rows t w l s (itself b e) = subst HasNoEnd (sym e) (word_free (term_text names t) (bare_shape t) (bare_word names t b s))
 stands_free names rows t w l s (by_row k g e) = subst HasNoEnd (sym e)

@@ -11,7 +11,7 @@ use Rattle.std.proofs.lemmas.List.{append_cancel_right}
 use Rattle.std.proofs.lemmas.List.Concat.{flat_map-append}
 use Rattle.std.proofs.lemmas.List.Elements.{All-head, All-tail}
 use Rattle.std.proofs.lemmas.List.Folds.{list_all-append}
-use Rattle.ll_lists.proofs.CallerLemmas.{and_true_both as both}
+use Rattle.ll_list_laws.proofs.CallerLemmas.{and_true_both as both}
 use Rattle.ll_bank.specs.Term.{Term}
 use Rattle.ll_lexer.specs.Spelling.{is_name, is_lower, is_word_byte}
 use Rattle.ll_laws.specs.Shows.{Tree, OneNode, EraseNode, TensorNode, WithNode, LeftNode, RightNode, BangNode, LolliNode, ImpNode, ForallNode, ExistsNode}
@@ -25,7 +25,7 @@ use Rattle.ll_prooftext.specs.Admitted.{AreLabels, IsSpelledTerm, IsSpelledPart,
 use Rattle.ll_prooftext.specs.Reading.{text_lines, children, missing, Begins, IsTextOf}
 use Rattle.ll_prooftext.specs.Words.{is_not}
 use Rattle.ll_prooftext.specs.Terms.{Shape, Wanted, Bare, Applied, Closed, name, eigen, variable, number, IsWord, Frame, frame, FirstWay, first_bracket}
-use Rattle.ll_prooftext.specs.Terms.{first_word, PartWay, bracket, word, sign, whole, argument, item, Goes, Accepts, closed, goes}
+use Rattle.ll_prooftext.specs.Terms.{first_word, PartWay, bracket, word, sign, whole, argument, item, WaysOn, Accepts, closed, goes}
 use Rattle.ll_prooftext.proofs.spelling.Numerals.{mag_small}
 use Rattle.ll_prooftext.proofs.reading.Labels.{decimal_not, labels_avoid}
 use Rattle.ll_prooftext.proofs.spelling.Spellings.{name_shaped}
@@ -163,7 +163,7 @@ part_free c p fs bytes gs left (whole t n e h) l = ap (list_all (is_not 10)) e �
 part_free c p fs bytes gs left (argument t d q hs n u e h) l = ap (list_all (is_not 10)) e ∙ l
 part_free c p fs bytes gs left (item t d hs n e h) l = ap (list_all (is_not 10)) e ∙ l
 
-way_free : (fs : List Frame) (bytes : List ℕ) (gs : List Frame) (left : List ℕ) → Goes fs bytes gs left → HasNoEnd left → HasNoEnd bytes
+way_free : (fs : List Frame) (bytes : List ℕ) (gs : List Frame) (left : List ℕ) → WaysOn fs bytes gs left → HasNoEnd left → HasNoEnd bytes
 way_free [] bytes gs left w l = absurd w
 way_free (frame c Wanted ∷ fs) bytes gs left w l = first_free c fs bytes gs left w l
 way_free (frame c Bare ∷ fs) bytes gs left w l = part_free c Bare fs bytes gs left w l

@@ -3,7 +3,7 @@ use Rattle.std.proofs.Common.{◌≡◌, ◌∙◌, ℕ, ap, sym, subst, Bool, L
 use Rattle.std.specs.Prelude.{Option, Some, None, is_some, if◌then◌else◌}
 use Rattle.std.specs.Io.KnownBytes.{append_known}
 use Rattle.std.proofs.lemmas.List.{append-nil}
-use Rattle.ll_lists.proofs.CallerLemmas.{none_not_some, some_is}
+use Rattle.ll_list_laws.proofs.CallerLemmas.{none_not_some, some_is}
 use Rattle.ll_edge.proofs.CallerLemmas.{append_known-append, front_in}
 use Rattle.ll_edge.specs.Pieces.{AppendsFront}
 use Rattle.ll_first.proofs.CallerLemmas.{upto_none, upto_some}

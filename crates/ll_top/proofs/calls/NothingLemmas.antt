@@ -5,8 +5,8 @@ use Rattle.ll_edge.specs.Texts.{Texts}
 use Rattle.ll_laws.specs.Problem.{ProblemTree}
 use Rattle.ll_laws.specs.Output.{run_status}
 use Rattle.ll_laws.specs.Valid.{IsValid}
-use Rattle.ll_textbook.specs.Follows.{reckons}
-use Rattle.ll_textbook.specs.Laws.{NothingFollows, NumberlessFollows}
+use Rattle.ll_top.specs.textbook.Follows.{reckons}
+use Rattle.ll_top.specs.textbook.Laws.{NothingFollows, NumberlessFollows}
 use Rattle.ll_top.specs.forms.Words.{RunWords, IsRun}
 use Rattle.ll_top.specs.texts.Outcome.{RunAsks}
 use Rattle.ll_top.specs.Outcome.{front_events, status_of_run}

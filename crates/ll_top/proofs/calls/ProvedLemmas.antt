@@ -14,7 +14,7 @@ use Rattle.ll_laws.specs.Answered.{Answered}
 use Rattle.ll_laws.specs.Problem.{ProblemTree, problem_events}
 use Rattle.ll_laws.specs.Line.{DerivationLines}
 use Rattle.ll_laws.specs.Laws.{AnswersAreShown}
-use Rattle.ll_textbook.specs.Laws.{AnswersFollow, InstancesFollow, FollowsIsAnswered}
+use Rattle.ll_top.specs.textbook.Laws.{AnswersFollow, InstancesFollow, FollowsIsAnswered}
 use Rattle.ll_laws.specs.Dealt.{dealt}
 use Rattle.ll_laws.specs.Output.{answer_text, answers_text}
 use Rattle.ll_laws.specs.ProofText.{derivation_text, proved_answers_text}

@@ -3,7 +3,7 @@ use Rattle.std.proofs.Common.{◌≡◌, ◌≤◌, ℕ, Bool, List, [], ◌∷�
 use Rattle.std.specs.Prelude.{Result, Ok, Err, IfOk}
 use Rattle.std.specs.Io.KnownBytes.{append_known}
 use Rattle.std.proofs.lemmas.List.{append-nil}
-use Rattle.ll_edge.specs.Log.{Entry, Fits}
+use Rattle.ll_edge.specs.Log.{Entry, ToldFits}
 use Rattle.ll_edge.specs.Texts.{Texts}
 use Rattle.ll_top.specs.declared.texts.judge.Role.{Role}
 use Rattle.ll_top.specs.declared.texts.refusing.TextRefusal.{TextRefusal}
@@ -14,8 +14,8 @@ use Rattle.ll_laws.specs.Problem.{ProblemTree, problem_events}
 use Rattle.ll_laws.specs.Output.{run_status}
 use Rattle.ll_laws.specs.Sound.{Every}
 use Rattle.ll_laws.specs.Valid.{IsValid}
-use Rattle.ll_textbook.specs.Follows.{reckons}
-use Rattle.ll_textbook.specs.Laws.{AnswersFollow, InstancesFollow, FollowsIsAnswered, NothingFollows, NumberlessFollows}
+use Rattle.ll_top.specs.textbook.Follows.{reckons}
+use Rattle.ll_top.specs.textbook.Laws.{AnswersFollow, InstancesFollow, FollowsIsAnswered, NothingFollows, NumberlessFollows}
 use Rattle.ll_session.specs.Queries.{QueryLine}
 use Rattle.ll_top.specs.forms.Words.{SessionWords, DeepenWords}
 use Rattle.ll_top.specs.texts.Judging.{IsFaultless}
@@ -89,9 +89,9 @@ module _ (laws : FollowingLaws) where
 
   pub texts-shown : (deepen : DeepenWords) (p : ProblemTree) (Fails : Role → TextRefusal → Type 0) (w : Type 0) (log later : List Entry)
       (before after : Option (List ℕ)) (r : Result Found Refusal) → IsValid p → deepen.series.to ≤ 1000000
-      → ((told : Option Texts) → Fits told log later → RunAsks told (first_run deepen) p)
+      → ((told : Option Texts) → ToldFits told log later → RunAsks told (first_run deepen) p)
       → EndsOwn (DeepensTo deepen.proofs deepen.series p) status_of_found Fails w before after r
-      → IfOk r (λ found. (told : Option Texts) → Fits told log later → DeepenShown told deepen before after (status_of_found found))
+      → IfOk r (λ found. (told : Option Texts) → ToldFits told log later → DeepenShown told deepen before after (status_of_found found))
   texts-shown deepen p Fails w log later before after (Ok found) valid small asks h = λ told fits.
       deepen-shown told deepen p before after (status_of_found found) h.0 valid small (asks told fits) h.1 h.2
   texts-shown deepen p Fails w log later before after (Err e) valid small asks h = tt

@@ -127,7 +127,7 @@ lines-ended status_of proofs name program text bound part w before after r p h =
     r
     (λ s t c. record { tree = p.tree; faultless = p.is_faultless; replies = c }) (λ role refusal f. absurd f) (h p.tree (loaded-program program part p))
 
--- the program has a fault, or memory was wanting
+-- the program has a fault, or memory ran out
 pub not-loaded : {A : Type 0} (Comes : ℕ → List ℕ → Type 0) (status_of : A
     → ℕ) (program : List ℕ) (w : Type 0) (before : Option (List ℕ)) (fault : TextFault) (e : Refusal) → e ≡ refusal_of Program fault
     → IsProgramCause program fault

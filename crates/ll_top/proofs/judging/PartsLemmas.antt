@@ -1,25 +1,18 @@
 -- Texts that are written one behind the other.
-use Rattle.std.proofs.Common.{◌≡◌, ℕ, ◌+◌, ◌<◌, ◌≤◌, List, [], ◌∷◌, ◌++◌, length, take, drop, get_or, Option, zero, suc, refl, ap, sym, ◌∙◌, arith}
+use Rattle.std.proofs.Common.{◌≡◌, ℕ, ◌+◌, ◌<◌, List, [], ◌∷◌, ◌++◌, length, take, drop, get_or, Option, zero, suc, refl, ap, sym, ◌∙◌, arith}
 use Rattle.std.proofs.Common.{append_assoc}
 use Rattle.std.specs.Borrow.{Bor}
 use Rattle.std.specs.List.{concat}
 use Rattle.std.specs.Io.KnownBytes.{append_known}
-use Rattle.std.proofs.lemmas.List.{take_all, take_more, take-append-drop, append-nil, length-map}
+use Rattle.std.proofs.lemmas.List.{take_more, take-append-drop, append-nil, length-map}
 use Rattle.std.proofs.lemmas.List.Folds.{concat-append}
 use Rattle.ll_edge.specs.Pieces.{AppendsFront}
 use Rattle.ll_top.specs.forms.Words.{word_texts as parts_of}
-use Rattle.ll_edge.proofs.CallerLemmas.{append_known-nil, append_known-append, front_in}
+use Rattle.ll_edge.proofs.CallerLemmas.{append_known-append, front_in}
 
 -- the first n texts were written
 pub record AreWritten (before now : Option (List ℕ)) (parts : List (Bor (List ℕ))) (n : ℕ) : Type 0 where
   pub written : now ≡ append_known before (concat (take n (parts_of parts)))
-
-pub none-written : (before : Option (List ℕ)) (parts : List (Bor (List ℕ))) → AreWritten before before parts 0
-none-written before parts = record { written = sym (ap (λ ps. append_known before (concat ps)) (nothing (parts_of parts)) ∙ append_known-nil before) }
-  where
-    nothing : (ps : List (List ℕ)) → take 0 ps ≡ []
-    nothing [] = refl
-    nothing (p ∷ ps) = refl
 
 get-part : (parts : List (Bor (List ℕ))) (n : ℕ) (d : Bor (List ℕ)) → n < length parts → get_or (parts_of parts) n [] ≡ (get_or parts n d).now
 get-part [] n d h = absurd (omega arith)
@@ -54,9 +47,3 @@ module _ (parts : List (Bor (List ℕ))) (n : ℕ) (d : Bor (List ℕ)) (h : n <
   part-cut before now after w f =
       front_in before now after (concat (take n (parts_of parts))) (get_or parts n d).now (concat (drop (n + 1) (parts_of parts))) (concat (parts_of parts))
       w.written concat-whole f
-
-pub all-written : (before now : Option (List ℕ)) (parts : List (Bor (List ℕ))) (n : ℕ) → length parts ≤ n → AreWritten before now parts n
-    → now ≡ append_known before (concat (parts_of parts))
-all-written before now parts n h w =
-    let l = length-map parts (λ (p : Bor (List ℕ)). p.now) in
-    w.written ∙ ap (λ ps. append_known before (concat ps)) (take_all n (parts_of parts) (omega arith))

@@ -2,7 +2,7 @@
 use Rattle.std.proofs.Common.{◌≡◌, ℕ, List, [], ◌∷◌, Option, refl, sym, subst}
 use Rattle.std.specs.Prelude.{Result, Ok, Err, IfOk, IfErr, Vec}
 use Rattle.std.specs.Vec.{vec_items}
-use Rattle.ll_edge.specs.Log.{Entry, Fits, Reads, Handed, ShelfKept, Met, NoText, Unreadable}
+use Rattle.ll_edge.specs.Log.{Entry, ToldFits, Reads, Handed, ShelfKept, Met, NoText, Unreadable}
 use Rattle.ll_edge.proofs.CallerLemmas.{met_later}
 use Rattle.ll_edge.specs.Texts.{Texts}
 use Rattle.ll_laws.specs.Problem.{ProblemTree}
@@ -173,14 +173,14 @@ pub source-faulty : (source : List ℕ) (fault : TextFault) (e : Refusal) → e 
 source-faulty source (text_fault.Text f) e r h = subst (IsNotMadeOf source) (sym r) h
 source-faulty source text_fault.OutOfMemory e r h = subst (IsNotMadeOf source) (sym r) tt
 
-module _ (before after : List Entry) (name source : List ℕ) (read : (told : Option Texts) → Fits told before after → IsRead told name source) where
+module _ (before after : List Entry) (name source : List ℕ) (read : (told : Option Texts) → ToldFits told before after → IsRead told name source) where
   pub source-made : {A : Type 0} (r : Result (Vec ℕ A) Refusal) → IfOk r (λ bytes. IsMadeOf source (vec_items bytes))
-      → IfOk r (λ bytes. (told : Option Texts) → Fits told before after → IsPrintedAs told name (vec_items bytes))
+      → IfOk r (λ bytes. (told : Option Texts) → ToldFits told before after → IsPrintedAs told name (vec_items bytes))
   source-made (Ok bytes) m = λ told fits. source-printed told name source (vec_items bytes) (read told fits) m
   source-made (Err e) m = tt
 
   pub source-unprinted : {A : Type 0} (absence read_failed : List ℕ → Type 0) (r : Result A Refusal) → IfErr r (IsNotMadeOf source)
-      → IfErr r (λ e. (told : Option Texts) → Fits told before after → IsNotPrinted told absence read_failed name e)
+      → IfErr r (λ e. (told : Option Texts) → ToldFits told before after → IsNotPrinted told absence read_failed name e)
   source-unprinted absence read_failed (Ok x) m = tt
   source-unprinted absence read_failed (Err e) m = λ told fits. source-judged told absence read_failed name source e (read told fits) m
 

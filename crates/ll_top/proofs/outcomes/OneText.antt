@@ -11,7 +11,7 @@ use Rattle.ll_top.specs.MadeRuns.{MadeRunComesTo}
 use Rattle.ll_top.specs.texts.Faults.{Usage, fault_text}
 use Rattle.ll_top.specs.Outcome.{RunComesTo}
 use Rattle.ll_top.specs.texts.Outcome.{AnyName, NoName, PrintComesTo}
-use Rattle.ll_textbook.specs.Laws.{ShownFollows}
+use Rattle.ll_top.specs.textbook.Laws.{ShownFollows}
 use Rattle.ll_top.specs.texts.CallEnds.{Ends, whole, unwritable, no_memory}
 use Rattle.ll_top.specs.checks.Outcome.{CheckComesTo, IsProved}
 use Rattle.ll_top.proofs.verdicts.ProvedLemmas.{comes-proved}

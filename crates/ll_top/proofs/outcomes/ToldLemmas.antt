@@ -2,10 +2,10 @@
 use Rattle.std.proofs.Common.{◌≡◌, ℕ, List, [], ◌++◌, Option, None, Some, take, sym, ◌∙◌, IfSome}
 use Rattle.std.specs.Io.KnownBytes.{append_known}
 use Rattle.std.proofs.lemmas.List.{append-nil}
-use Rattle.ll_lists.proofs.CallerLemmas.{some_is}
+use Rattle.ll_list_laws.proofs.CallerLemmas.{some_is}
 use Rattle.ll_edge.specs.Pieces.{AppendsFront}
 use Rattle.ll_edge.specs.Texts.{Texts}
-use Rattle.ll_edge.specs.Log.{Entry, ShelfKept, Agrees, Fits}
+use Rattle.ll_edge.specs.Log.{Entry, ShelfKept, Agrees, ToldFits}
 use Rattle.ll_edge.proofs.CallerLemmas.{append_known-nil, fits_told}
 use Rattle.ll_top.specs.forms.Words.{RunWords}
 use Rattle.ll_top.specs.texts.CallEnds.{AppendsOwn, nothing, front, Ends, whole, unwritable, no_memory}
@@ -14,19 +14,19 @@ use Rattle.ll_top.specs.Proved.{WritesShown}
 -- the texts that a shelf tells fit its log
 pub texts-fit : {S : Type 0} {texts : S → Option Texts} {faults absences : S → ℕ} {log : S → List Entry} {before after : S}
     → ShelfKept texts faults absences log before after → IfSome (texts after) (λ told. Agrees told [] (log after))
-    → Fits (texts before) (log before) (log after)
+    → ToldFits (texts before) (log before) (log after)
 texts-fit {texts} {log} {before} {after} kept told = fits_told (texts before) (texts after) (log before) (log after) kept.same_texts told
 
 -- ---- a call that may not be served
 
 module _ (P : Option Texts → ℕ → Type 0) (before after : List Entry) where
-  pub plain-at : (answer : Option ℕ) → IfSome answer (λ status. (told : Option Texts) → Fits told before after → P told status)
-      → (told : Option Texts) → Fits told before after → IfSome answer (P told)
+  pub plain-at : (answer : Option ℕ) → IfSome answer (λ status. (told : Option Texts) → ToldFits told before after → P told status)
+      → (told : Option Texts) → ToldFits told before after → IfSome answer (P told)
   plain-at None h told fits = tt
   plain-at (Some status) h told fits = h told fits
 
-  pub plain-each : (answer : Option ℕ) → ((told : Option Texts) → Fits told before after → IfSome answer (P told))
-      → IfSome answer (λ status. (told : Option Texts) → Fits told before after → P told status)
+  pub plain-each : (answer : Option ℕ) → ((told : Option Texts) → ToldFits told before after → IfSome answer (P told))
+      → IfSome answer (λ status. (told : Option Texts) → ToldFits told before after → P told status)
   plain-each None h = tt
   plain-each (Some status) h = h
 

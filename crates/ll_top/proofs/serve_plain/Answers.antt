@@ -7,7 +7,7 @@ use Rattle.ll_top.specs.declared.forms.words.Command.{Command}
 use Rattle.ll_top.specs.declared.forms.words.Command.TheVariants as command
 use Rattle.ll_top.specs.forms.Words.{IsCommand, IsBounded, shown_check, shown_convert, shown_make, word_texts}
 use Rattle.ll_top.specs.forms.CommandKinds.{command_kind, has_team}
-use Rattle.ll_lists.proofs.CallerLemmas.{none_not_some}
+use Rattle.ll_list_laws.proofs.CallerLemmas.{none_not_some}
 use Rattle.ll_top.proofs.wording.FirstWords.{asked-workers, asked-alone, asked-in-form, workers-in-form, bad-not-in-form}
 use Rattle.ll_edge.proofs.CallerLemmas.{kept_none}
 use Rattle.ll_top.proofs.outcomes.CallLemmas.{print-call, check-call, convert-call, make-call, usage-call, usage-misused}

@@ -1,5 +1,5 @@
 -- From the reading and judging of three texts to what a check comes to.
-use Rattle.std.proofs.Common.{◌≡◌, ◌+◌, ◌≤◌, ◌<◌, ℕ, List, length, Option, None, Some, refl, ap, sym, subst, ◌∙◌, arith, length-append}
+use Rattle.std.proofs.Common.{◌≡◌, ◌+◌, ◌≤◌, ℕ, List, length, Option, None, Some, refl, ap, sym, subst, ◌∙◌, arith, length-append}
 use Rattle.std.specs.List.{position_from}
 use Rattle.std.specs.Prelude.{Bool, true, IfSome, Result, Ok, Err, nat_eq, if◌then◌else◌, is_some, unwrap_or, slice_get}
 use Rattle.ll_bank.specs.Names.{with_names}
@@ -188,10 +188,6 @@ shows-closed p d w s n = record { shows = s; closed = w.asked; numberless = coun
 pub is-covered : (p : ProblemTree) (d : DerivationLines) (number : ℕ) → ShowsClosed p d → length d.nodes ≤ p.bound → NamesFirst p d number
     → IsFinding true p d (Covered number)
 is-covered p d number s w f = (refl, record { shows = s; within = w; first = f })
-
-pub is-too_long : (p : ProblemTree) (d : DerivationLines) (nodes bound : ℕ) → DerivationShows p d → nodes ≡ length d.nodes → bound ≡ p.bound → bound < nodes
-    → IsFinding true p d (TooLong nodes bound)
-is-too_long p d nodes bound s n b l = (refl, record { shows = s; beyond = omega arith }, n, b)
 
 pub is-counting : (p : ProblemTree) (d : DerivationLines) (node : ℕ) → DerivationShows p d → length d.nodes ≤ p.bound
     → position_from counts_numbers 1 d.nodes ≡ Some node → IsFinding true p d (CountsNumbers node)

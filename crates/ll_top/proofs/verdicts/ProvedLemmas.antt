@@ -7,7 +7,7 @@ use Rattle.ll_laws.specs.Problem.{ProblemTree}
 use Rattle.ll_laws.specs.Line.{DerivationLines}
 use Rattle.ll_laws.specs.Verdict.{DerivationShows}
 use Rattle.ll_prooftext.specs.Versions.{IsProofText, IsTextIn, first_version, second_version}
-use Rattle.ll_textbook.specs.Laws.{ShownFollows}
+use Rattle.ll_top.specs.textbook.Laws.{ShownFollows}
 use Rattle.ll_top.specs.forms.Words.{CheckWords}
 use Rattle.ll_top.specs.texts.Faults.{Cause, Usage, Absent, Unreadable, Oversized, OversizedAs, Faulty, cause_status}
 use Rattle.ll_top.specs.texts.Endings.{Refuses, line, cut}

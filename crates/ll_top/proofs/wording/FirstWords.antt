@@ -13,10 +13,10 @@ use Rattle.ll_top.specs.declared.forms.words.Command.TheVariants as command
 use Rattle.ll_top.specs.declared.forms.searches.SearchForm.TheVariants as search
 use Rattle.ll_top.specs.forms.Begins.{IsFirstBad}
 use Rattle.ll_top.specs.forms.Words.{word_texts}
-use Rattle.ll_top.specs.forms.Words.{Part, ThisWord, is_word, OptionForm, Fits, part, done, FitsForm, run_form, session_form, IsDeepenForm, print_form}
+use Rattle.ll_top.specs.forms.Words.{Part, ThisWord, is_word, OptionForm, FitsParts, part, done, FitsForm, run_form, session_form, IsDeepenForm, print_form}
 use Rattle.ll_top.specs.forms.Words.{check_form, cover_form, convert_form, make_form, made_run_form, IsInForm, IsInWorkersForm}
-use Rattle.ll_top.specs.forms.Words.{IsBadWord, IsCheckForm, IsCommand, IsBounded, IsWorkerCount}
-use Rattle.ll_top.specs.forms.FormWords.{HasPart, LacksPart, form_word, IsNoFormWord, workers_of}
+use Rattle.ll_top.specs.forms.Words.{IsBadWord, IsCheckForm, IsCommand}
+use Rattle.ll_top.specs.forms.FormWords.{HasPart, LacksPart, form_word, IsNoFormWord}
 use Rattle.ll_top.specs.forms.SearchOptions.{IsSearchForm}
 use Rattle.ll_top.specs.forms.MakeForm.{IsMakeForm, IsBadMakeWord}
 use Rattle.ll_top.specs.forms.CommandKinds.{a_run, a_session, a_deepening, a_print, a_check, a_conversion, a_make, a_made_run}
@@ -186,7 +186,7 @@ first-same form words word e h =
 -- ---- what words ask for
 
 -- words in a form with this first word
-begins-with : (text w : List ℕ) (ws : List (List ℕ)) {ps : List Part} {os : List OptionForm} → Fits (ThisWord text ∷ ps) os (w ∷ ws)
+begins-with : (text w : List ℕ) (ws : List (List ℕ)) {ps : List Part} {os : List OptionForm} → FitsParts (ThisWord text ∷ ps) os (w ∷ ws)
     → kind_of (w ∷ ws) ≡ by_first text (are_two ws)
 begins-with text w ws f = ap (λ v. by_first v (are_two ws)) (words-same w text (part-first f).0)
 
@@ -319,30 +319,11 @@ asked-workers words (command.Deepen deepen) a h = inr a.form
 asked-workers words (command.MadeRun run) a h = made-workers words run.make.kind a.form
 asked-workers words c a h = cc
 
--- so are the words of a run
-pub run-workers : (words : List (List ℕ)) → FitsForm run_form words → IsInWorkersForm words
-run-workers words f = inl (inl f)
-
 pub asked-alone : (words : List (List ℕ)) (c : Command) → IsCommand words c → has_team (command_kind c) ≡ false → IsInWorkersForm words → ⊥
 asked-alone words c a h f = let k = workers-kind words f in let e = ap has_team (asked-kind words c a) in cc
 
 some-is : (x y : ℕ) → ◌≡◌ {A = Option ℕ} (Some x) (Some y) → x ≡ y
 some-is x y e = cc
-
--- the number of workers of a command
-pub bounded-workers : (c : Command) (w : ℕ) → workers_of c ≡ Some w → IsBounded c → IsWorkerCount w
-bounded-workers (command.Run run) w e b = subst IsWorkerCount (some-is run.workers w e) b.1
-bounded-workers (command.Session session) w e b = subst IsWorkerCount (some-is session.workers w e) b.1
-bounded-workers (command.Deepen deepen) w e b = subst IsWorkerCount (some-is deepen.workers w e) b.1
-bounded-workers (command.MadeRun run) w e b = subst IsWorkerCount (some-is run.workers w e) b.2
-bounded-workers c w e b = cc
-
-pub no-team : (c : Command) → workers_of c ≡ None → has_team (command_kind c) ≡ false
-no-team (command.Run run) e = cc
-no-team (command.Session session) e = cc
-no-team (command.Deepen deepen) e = cc
-no-team (command.MadeRun run) e = cc
-no-team c e = refl
 
 -- words of a run ask for no other command
 pub asked-run : (words : List (List ℕ)) (c d : Command) → c ≡ d → IsCommand words c → FitsForm run_form words → a_run ≡ command_kind d

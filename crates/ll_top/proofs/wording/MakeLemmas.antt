@@ -10,7 +10,8 @@ use Rattle.std.specs.Borrow.{Bor}
 use Rattle.ll_top.specs.forms.Words.{word_texts}
 use Rattle.ll_top.specs.forms.Begins.{Begins, IsFirstBad, Leads}
 use Rattle.ll_top.specs.forms.Making.{kind_word}
-use Rattle.ll_top.specs.forms.Words.{Part, ThisWord, NumberFrom, is_part, is_word, is_number_word, OptionForm, Takes, here, behind, Fits, part, option, done}
+use Rattle.ll_top.specs.forms.Words.{Part, ThisWord, NumberFrom, is_part, is_word, is_number_word, OptionForm}
+use Rattle.ll_top.specs.forms.Words.{TakesOption, here, behind, FitsParts, part, option, done}
 use Rattle.ll_top.specs.forms.Words.{number_from, number_behind, greatest_bound, greatest_workers, bound_option, workers_option, make_parts}
 use Rattle.ll_top.specs.forms.Words.{made_options, IsMake}
 use Rattle.ll_top.specs.forms.Words.{IsMadeRun}
@@ -53,29 +54,29 @@ either-lacks (inl f) = part-lacks f
 either-lacks (inr f) = part-lacks f
 
 -- where a word stands, the options do
-only-options : (w : List ℕ) (ws : List (List ℕ)) → FitsEither [] (w ∷ ws) → Fits [] made_options (w ∷ ws)
+only-options : (w : List ℕ) (ws : List (List ℕ)) → FitsEither [] (w ∷ ws) → FitsParts [] made_options (w ∷ ws)
 only-options w ws (inl f) = absurd (no-option f)
 only-options w ws (inr f) = f
 
-options-bad : (w : List ℕ) (ws : List (List ℕ)) (k : ℕ) → IsFirstBad (Fits [] made_options) (w ∷ ws) k → IsFirstBad (FitsEither []) (w ∷ ws) k
+options-bad : (w : List ℕ) (ws : List (List ℕ)) (k : ℕ) → IsFirstBad (FitsParts [] made_options) (w ∷ ws) k → IsFirstBad (FitsEither []) (w ∷ ws) k
 options-bad w ws k b = record {
   within = b.within;
   before = (b.before.0, inr b.before.1);
   here = λ l m. b.here l (
     m.0,
-    subst (λ n. Fits [] made_options (take n (w ∷ ws) ++ m.0)) (let e : suc k ≡ k + 1 = omega arith in e)
+    subst (λ n. FitsParts [] made_options (take n (w ∷ ws) ++ m.0)) (let e : suc k ≡ k + 1 = omega arith in e)
         (only-options w (take k ws ++ m.0) (subst (λ n. FitsEither [] (take n (w ∷ ws) ++ m.0)) (let e : k + 1 ≡ suc k = omega arith in e) m.1)),
   );
   at_end = λ e m. b.at_end e (only-options w ws m);
 }
 
 leads-options : (words : List (List ℕ)) (n : ℕ) (w : List ℕ) → slice_get words n ≡ Some w → Leads IsMakeForm (FitsEither []) words n
-    → Leads IsMakeForm (Fits [] made_options) words n
+    → Leads IsMakeForm (FitsParts [] made_options) words n
 leads-options words n w e l = record {
   within = l.within;
   good = λ g. l.good (inr g);
   bad = λ k b. l.bad k (subst (λ ws. IsFirstBad (FitsEither []) ws k) (sym (drop-next words n w e))
-      (options-bad w (drop (n + 1) words) k (subst (λ ws. IsFirstBad (Fits [] made_options) ws k) (drop-next words n w e) b)));
+      (options-bad w (drop (n + 1) words) k (subst (λ ws. IsFirstBad (FitsParts [] made_options) ws k) (drop-next words n w e) b)));
 }
 
 -- ---- kinds
@@ -104,13 +105,13 @@ same-kind (w ∷ v ∷ ws) kind other f g =
 -- words of a make, put together
 built : (words : List (List ℕ)) (kind : MakeKind) (os : List OptionForm) → HasPart words 0 (ThisWord (codes "make")) → slice_get words 1 ≡ Some (kind_word kind)
     → HasPart words 2 (number_part kind)
-    → Fits [] os (drop 3 words) → Fits (make_parts kind) os words
+    → FitsParts [] os (drop 3 words) → FitsParts (make_parts kind) os words
 built [] kind os m e n f = absurd m
 built (w ∷ []) kind os m e n f = cc
 built (w ∷ v ∷ []) kind os m e n f = absurd n
 built (w ∷ v ∷ u ∷ ws) kind os m e n f =
     let same : v ≡ kind_word kind = cc in
-    part m (part (ap (λ x. is_word x (kind_word kind)) same ∙ same-word (kind_word kind)) (part n (subst (Fits [] os) (drop-none ws) f)))
+    part m (part (ap (λ x. is_word x (kind_word kind)) same ∙ same-word (kind_word kind)) (part n (subst (FitsParts [] os) (drop-none ws) f)))
 
 -- ---- from word to word
 
@@ -193,7 +194,7 @@ module _ (words : List (List ℕ)) (make : HasPart words 0 (ThisWord (codes "mak
       pub whole-make : length words ≤ 3 → IsMake words (record { kind = kind; number = value })
       whole-make l = record {
         form = built words kind [] make is_kind (number-there words 2 (least_number kind) (greatest_number kind) value number)
-            (subst (Fits [] []) (sym (drop-end words 3 (slice_get_past words 3 l))) (done refl));
+            (subst (FitsParts [] []) (sym (drop-end words 3 (slice_get_past words 3 l))) (done refl));
         number = number-value words 2 (least_number kind) (greatest_number kind) value number;
       }
 
@@ -208,7 +209,7 @@ module _ (words : List (List ℕ)) (make : HasPart words 0 (ThisWord (codes "mak
 
 -- ---- the options
 
-can-options : Begins (Fits [] made_options) []
+can-options : Begins (FitsParts [] made_options) []
 can-options = (
   codes "--bound" ∷ codes "0" ∷ codes "--workers" ∷ codes "1" ∷ [],
   option (here refl) refl (part refl (option (here refl) refl (part refl (done refl)))),
@@ -240,13 +241,13 @@ pub record Order : Type 0 where
   pub greatest : ℕ
   pub second_least : ℕ
   pub second_greatest : ℕ
-  pub takes : Takes (number_option first least greatest) made_options (number_option second second_least second_greatest ∷ [])
-  pub can_value : Begins (Fits (NumberFrom least greatest ∷ []) (number_option second second_least second_greatest ∷ [])) []
-  pub can_second : Begins (Fits [] (number_option second second_least second_greatest ∷ [])) []
-  pub can_last : Begins (Fits (NumberFrom second_least second_greatest ∷ []) []) []
+  pub takes : TakesOption (number_option first least greatest) made_options (number_option second second_least second_greatest ∷ [])
+  pub can_value : Begins (FitsParts (NumberFrom least greatest ∷ []) (number_option second second_least second_greatest ∷ [])) []
+  pub can_second : Begins (FitsParts [] (number_option second second_least second_greatest ∷ [])) []
+  pub can_last : Begins (FitsParts (NumberFrom second_least second_greatest ∷ []) []) []
 
 module _ (words : List (List ℕ)) (front : IsAtOptions words) (o : Order) (is_first : slice_get words 3 ≡ Some o.first) where
-  to-value : Leads IsMakeForm (Fits (NumberFrom o.least o.greatest ∷ []) (number_option o.second o.second_least o.second_greatest ∷ [])) words 4
+  to-value : Leads IsMakeForm (FitsParts (NumberFrom o.least o.greatest ∷ []) (number_option o.second o.second_least o.second_greatest ∷ [])) words 4
   to-value = leads-option IsMakeForm words 3 {o = number_option o.first o.least o.greatest} {os = made_options} {others =
       number_option o.second o.second_least o.second_greatest ∷ []} (refl, (refl, tt)) o.takes is_first front.leads
 
@@ -259,7 +260,7 @@ module _ (words : List (List ℕ)) (front : IsAtOptions words) (o : Order) (is_f
   }
 
   module _ (one : ℕ) (first_number : IsSomeAnd (slice_get words 4) (λ w. number_from o.least o.greatest w ≡ Some one)) where
-    to-second : Leads IsMakeForm (Fits [] (number_option o.second o.second_least o.second_greatest ∷ [])) words 5
+    to-second : Leads IsMakeForm (FitsParts [] (number_option o.second o.second_least o.second_greatest ∷ [])) words 5
     to-second = leads-part IsMakeForm words 4 (NumberFrom o.least o.greatest) [] (number_option o.second o.second_least o.second_greatest ∷ [])
         (number-there words 4 o.least o.greatest one first_number) to-value
 
@@ -272,7 +273,7 @@ module _ (words : List (List ℕ)) (front : IsAtOptions words) (o : Order) (is_f
             to-second
 
     module _ (is_second : HasPart words 5 (ThisWord o.second)) where
-      to-last : Leads IsMakeForm (Fits (NumberFrom o.second_least o.second_greatest ∷ []) []) words 6
+      to-last : Leads IsMakeForm (FitsParts (NumberFrom o.second_least o.second_greatest ∷ []) []) words 6
       to-last = leads-option IsMakeForm words 5 {o = number_option o.second o.second_least o.second_greatest} {os =
           number_option o.second o.second_least o.second_greatest ∷ []} {others = []} (refl, tt) (here refl) (this-word words 5 o.second is_second) to-second
 
@@ -294,7 +295,7 @@ module _ (words : List (List ℕ)) (front : IsAtOptions words) (o : Order) (is_f
               (number-there words 6 o.second_least o.second_greatest two last_number) to-last);
         }
 
-        pub options-built : length words ≤ 7 → Fits [] made_options (drop 3 words)
+        pub options-built : length words ≤ 7 → FitsParts [] made_options (drop 3 words)
         options-built l =
             let v = number-word-at words 4 o.least o.greatest one first_number in
             let z = number-word-at words 6 o.second_least o.second_greatest two last_number in
@@ -304,7 +305,7 @@ module _ (words : List (List ℕ)) (front : IsAtOptions words) (o : Order) (is_f
             drop-next words 3 o.first is_first ∙ ap (λ ws. o.first ∷ ws)
             (drop-next words 4 v.word v.is ∙ ap (λ ws. v.word ∷ ws)
             (drop-next words 5 o.second u ∙ ap (λ ws. o.second ∷ ws) (drop-next words 6 z.word z.is ∙ ap (λ ws. z.word ∷ ws) end))) in
-            subst (Fits [] made_options) (sym all) (option o.takes refl
+            subst (FitsParts [] made_options) (sym all) (option o.takes refl
             (part (ap is_some v.number) (option (here refl) refl (part (ap is_some z.number) (done refl)))))
 
         pub first-is : All (λ w. is_word w o.first ≡ false) (take 3 words) → number_behind o.first words ≡ Some one
@@ -325,22 +326,22 @@ module _ (words : List (List ℕ)) (front : IsAtOptions words) (o : Order) (is_f
 
 -- ---- the two orders
 
-pub can-last_bound : Begins (Fits (NumberFrom 0 greatest_bound ∷ []) []) []
+pub can-last_bound : Begins (FitsParts (NumberFrom 0 greatest_bound ∷ []) []) []
 can-last_bound = (codes "0" ∷ [], part refl (done refl))
 
-pub can-last_workers : Begins (Fits (NumberFrom 1 greatest_workers ∷ []) []) []
+pub can-last_workers : Begins (FitsParts (NumberFrom 1 greatest_workers ∷ []) []) []
 can-last_workers = (codes "1" ∷ [], part refl (done refl))
 
-pub can-bound_alone : Begins (Fits [] (bound_option ∷ [])) []
+pub can-bound_alone : Begins (FitsParts [] (bound_option ∷ [])) []
 can-bound_alone = (codes "--bound" ∷ can-last_bound.0, option (here refl) refl can-last_bound.1)
 
-pub can-workers_alone : Begins (Fits [] (workers_option ∷ [])) []
+pub can-workers_alone : Begins (FitsParts [] (workers_option ∷ [])) []
 can-workers_alone = (codes "--workers" ∷ can-last_workers.0, option (here refl) refl can-last_workers.1)
 
-pub can-bound_value : Begins (Fits (NumberFrom 0 greatest_bound ∷ []) (workers_option ∷ [])) []
+pub can-bound_value : Begins (FitsParts (NumberFrom 0 greatest_bound ∷ []) (workers_option ∷ [])) []
 can-bound_value = (codes "0" ∷ can-workers_alone.0, part refl can-workers_alone.1)
 
-pub can-workers_value : Begins (Fits (NumberFrom 1 greatest_workers ∷ []) (bound_option ∷ [])) []
+pub can-workers_value : Begins (FitsParts (NumberFrom 1 greatest_workers ∷ []) (bound_option ∷ [])) []
 can-workers_value = (codes "1" ∷ can-bound_alone.0, part refl can-bound_alone.1)
 
 abbrev pub bound_first : Order

@@ -8,7 +8,8 @@ use Rattle.ll_top.specs.declared.forms.searches.SearchForm.TheVariants.{Run, Ses
 use Rattle.ll_top.specs.declared.forms.searches.SearchOption.{SearchOption}
 use Rattle.ll_top.specs.declared.forms.searches.SearchOption.TheVariants.{Bound, Workers, Proofs, First, From, By, To}
 use Rattle.ll_top.specs.declared.forms.searches.SearchOptions.{SearchOptions}
-use Rattle.ll_top.specs.forms.Words.{is_word, is_name_word, is_number_word, greatest_bound, greatest_workers, greatest_first, Takes, here, behind, Fits, part}
+use Rattle.ll_top.specs.forms.Words.{is_word, is_name_word, is_number_word, greatest_bound, greatest_workers}
+use Rattle.ll_top.specs.forms.Words.{greatest_first, TakesOption, here, behind, FitsParts, part}
 use Rattle.ll_top.specs.forms.Words.{option, done, OptionForm}
 use Rattle.ll_top.specs.forms.SearchOptions.{option_word, option_form, search_word, options_of, same_option, value, with_value, is_unread, has_number, least_in}
 use Rattle.ll_top.specs.forms.SearchOptions.{greatest_in, IsWithin, IsBetween}
@@ -96,15 +97,6 @@ own-read options From v = refl
 own-read options By v = refl
 own-read options To v = refl
 
-own-value : (options : SearchOptions) (o : SearchOption) (v : ℕ) → has_number o ≡ true → value (with_value options o v) o ≡ Some v
-own-value options Bound v h = refl
-own-value options Workers v h = refl
-own-value options Proofs v h = cc
-own-value options First v h = refl
-own-value options From v h = refl
-own-value options By v h = refl
-own-value options To v h = refl
-
 other-unread : (options : SearchOptions) (o : SearchOption) (v : ℕ) (p : SearchOption) → same_option o p ≡ false
     → is_unread (with_value options o v) p ≡ is_unread options p
 other-unread options o v p h = ap (λ x. not (is_some x)) (other-value options o v p h)
@@ -139,24 +131,25 @@ forms_left m options os = map (option_form m) (filter (is_unread options) os)
 -- an option that is left, in front of the others
 taken-first : (m : ℕ) (options : SearchOptions) (o : SearchOption) (v : ℕ) (os : List SearchOption) → list_any (same_option o) os ≡ false
     → value options o ≡ None
-    → Takes (option_form m o) (forms_left m options (o ∷ os)) (forms_left m (with_value options o v) (o ∷ os))
+    → TakesOption (option_form m o) (forms_left m options (o ∷ os)) (forms_left m (with_value options o v) (o ∷ os))
 taken-first m options o v os d e =
-    subst (λ b. Takes (option_form m o) (map (option_form m) (cond b (o ∷ filter (is_unread options) os) (filter (is_unread options) os)))
+    subst (λ b. TakesOption (option_form m o) (map (option_form m) (cond b (o ∷ filter (is_unread options) os) (filter (is_unread options) os)))
     (forms_left m (with_value options o v) (o ∷ os))) (sym (none-unread options o e))
-    (subst (λ b. Takes (option_form m o) (option_form m o ∷ forms_left m options os)
+    (subst (λ b. TakesOption (option_form m o) (option_form m o ∷ forms_left m options os)
     (map (option_form m) (cond b (o ∷ filter (is_unread (with_value options o v)) os) (filter (is_unread (with_value options o v)) os))))
     (sym (own-read options o v))
-    (subst (λ l. Takes (option_form m o) (option_form m o ∷ forms_left m options os) (map (option_form m) l)) (sym (left-same options o v os d)) (here refl)))
+    (subst (λ l. TakesOption (option_form m o) (option_form m o ∷ forms_left m options os) (map (option_form m) l))
+    (sym (left-same options o v os d)) (here refl)))
 
 -- once an option was read, the others are left
 pub taken : (m : ℕ) (options : SearchOptions) (o : SearchOption) (v : ℕ) (os : List SearchOption) → AreDifferent os → list_any (same_option o) os ≡ true
     → value options o ≡ None
-    → Takes (option_form m o) (forms_left m options os) (forms_left m (with_value options o v) os)
+    → TakesOption (option_form m o) (forms_left m options os) (forms_left m (with_value options o v) os)
 taken m options o v [] d h e = cc
 taken m options o v (p ∷ os) d h e = by (same_option o p) refl (λ k. taken m options o v os d.1 k e)
   where
-    passed : (a b : Bool) → b ≡ a → Takes (option_form m o) (forms_left m options os) (forms_left m (with_value options o v) os)
-        → Takes (option_form m o) (map (option_form m) (cond a (p ∷ filter (is_unread options) os) (filter (is_unread options) os)))
+    passed : (a b : Bool) → b ≡ a → TakesOption (option_form m o) (forms_left m options os) (forms_left m (with_value options o v) os)
+        → TakesOption (option_form m o) (map (option_form m) (cond a (p ∷ filter (is_unread options) os) (filter (is_unread options) os)))
         (map (option_form m) (cond b (p ∷ filter (is_unread (with_value options o v)) os) (filter (is_unread (with_value options o v)) os)))
     passed true true s t = behind t
     passed true false s t = cc
@@ -164,11 +157,11 @@ taken m options o v (p ∷ os) d h e = by (same_option o p) refl (λ k. taken m 
     passed false false s t = t
 
     by : (b : Bool) → same_option o p ≡ b → (list_any (same_option o) os ≡ true
-        → Takes (option_form m o) (forms_left m options os) (forms_left m (with_value options o v) os))
-        → Takes (option_form m o) (forms_left m options (p ∷ os)) (forms_left m (with_value options o v) (p ∷ os))
+        → TakesOption (option_form m o) (forms_left m options os) (forms_left m (with_value options o v) os))
+        → TakesOption (option_form m o) (forms_left m options (p ∷ os)) (forms_left m (with_value options o v) (p ∷ os))
     by true s later =
         let q = same-is o p s in
-        subst (λ x. Takes (option_form m o) (forms_left m options (x ∷ os)) (forms_left m (with_value options o v) (x ∷ os))) q
+        subst (λ x. TakesOption (option_form m o) (forms_left m options (x ∷ os)) (forms_left m (with_value options o v) (x ∷ os))) q
         (taken-first m options o v os (subst (λ x. list_any (same_option x) os ≡ false) (sym q) d.0) e)
     by false s later =
         passed (is_unread options p) (is_unread (with_value options o v) p) (other-unread options o v p s)
@@ -224,7 +217,7 @@ IsFit m o v = (least_at m o ≤ v) × (v ≤ greatest_at m o)
 
 -- a number behind an option
 pub value-first : (m : ℕ) (o : SearchOption) (os : List OptionForm) (w : List ℕ) (ws : List (List ℕ)) → has_number o ≡ true
-    → Fits (option_form m o).values os (w ∷ ws) → IsNumber (least_at m o) (greatest_at m o) w × Fits [] os ws
+    → FitsParts (option_form m o).values os (w ∷ ws) → IsNumber (least_at m o) (greatest_at m o) w × FitsParts [] os ws
 value-first m Bound os w ws h f = let p = part-first f in (part-number 0 greatest_bound w p.0, p.1)
 value-first m Workers os w ws h f = let p = part-first f in (part-number 1 greatest_workers w p.0, p.1)
 value-first m Proofs os w ws h f = cc
@@ -233,7 +226,7 @@ value-first m From os w ws h f = let p = part-first f in (part-number 0 m w p.0,
 value-first m By os w ws h f = let p = part-first f in (part-number 1 greatest_bound w p.0, p.1)
 value-first m To os w ws h f = let p = part-first f in (part-number m greatest_bound w p.0, p.1)
 
-pub value-lacks : (m : ℕ) (o : SearchOption) (os : List OptionForm) → has_number o ≡ true → Fits (option_form m o).values os [] → ⊥
+pub value-lacks : (m : ℕ) (o : SearchOption) (os : List OptionForm) → has_number o ≡ true → FitsParts (option_form m o).values os [] → ⊥
 value-lacks m Bound os h f = part-lacks f
 value-lacks m Workers os h f = part-lacks f
 value-lacks m Proofs os h f = cc
@@ -243,7 +236,7 @@ value-lacks m By os h f = part-lacks f
 value-lacks m To os h f = part-lacks f
 
 pub value-part : (m : ℕ) (o : SearchOption) (os : List OptionForm) (w : List ℕ) (ws : List (List ℕ)) → has_number o ≡ true
-    → IsNumber (least_at m o) (greatest_at m o) w → Fits [] os ws → Fits (option_form m o).values os (w ∷ ws)
+    → IsNumber (least_at m o) (greatest_at m o) w → FitsParts [] os ws → FitsParts (option_form m o).values os (w ∷ ws)
 value-part m Bound os w ws h n f = part (number-part 0 greatest_bound w n) f
 value-part m Workers os w ws h n f = part (number-part 1 greatest_workers w n) f
 value-part m Proofs os w ws h n f = cc
@@ -377,8 +370,8 @@ sample From = codes "0" ∷ []
 sample By = codes "1" ∷ []
 sample To = codes "1000000" ∷ []
 
-pub sample-fits : (m : ℕ) → m ≤ greatest_bound → (o : SearchOption) (os : List OptionForm) (ws : List (List ℕ)) → Fits [] os ws
-    → Fits (option_form m o).values os (sample o ++ ws)
+pub sample-fits : (m : ℕ) → m ≤ greatest_bound → (o : SearchOption) (os : List OptionForm) (ws : List (List ℕ)) → FitsParts [] os ws
+    → FitsParts (option_form m o).values os (sample o ++ ws)
 sample-fits m l Bound os ws f = part refl f
 sample-fits m l Workers os ws f = part refl f
 sample-fits m l Proofs os ws f = f
@@ -387,7 +380,7 @@ sample-fits m l From os ws f = part (number-part 0 m (codes "0") (record { numbe
 sample-fits m l By os ws f = part refl f
 sample-fits m l To os ws f = part (number-part m greatest_bound (codes "1000000") (record { number = refl; least_is = l; greatest_is = omega arith })) f
 
-pub can-rest : (m : ℕ) → m ≤ greatest_bound → (os : List SearchOption) → (ws : List (List ℕ)) × Fits [] (map (option_form m) os) ws
+pub can-rest : (m : ℕ) → m ≤ greatest_bound → (os : List SearchOption) → (ws : List (List ℕ)) × FitsParts [] (map (option_form m) os) ws
 can-rest m l [] = ([], done refl)
 can-rest m l (o ∷ os) =
     let r = can-rest m l os in

@@ -16,8 +16,9 @@ use Rattle.ll_top.specs.declared.forms.searches.SearchOptions.{SearchOptions}
 use Rattle.ll_deepen.specs.Deciding.{IsSeries}
 use Rattle.ll_top.specs.forms.Words.{word_texts}
 use Rattle.ll_top.specs.forms.Begins.{Begins, IsFirstBad, Leads}
-use Rattle.ll_top.specs.forms.Words.{Part, ThisWord, AnyName, NumberFrom, is_part, is_word, is_name_word, is_number_word, number_from, greatest_bound, Takes}
-use Rattle.ll_top.specs.forms.Words.{Fits, part, option, done, number_behind, has_word, HasFirst, IsRun, IsSession, IsDeepen}
+use Rattle.ll_top.specs.forms.Words.{Part, ThisWord, AnyName, NumberFrom, is_part}
+use Rattle.ll_top.specs.forms.Words.{is_word, is_name_word, is_number_word, number_from, greatest_bound, TakesOption}
+use Rattle.ll_top.specs.forms.Words.{FitsParts, part, option, done, number_behind, has_word, HasFirst, IsRun, IsSession, IsDeepen}
 use Rattle.ll_top.specs.forms.FormWords.{HasPart, LacksPart}
 use Rattle.ll_top.specs.forms.SearchOptions.{option_word, option_form, search_word, options_of, IsSearchForm, IsBadSearchWord, same_option, offers, flag, value}
 use Rattle.ll_top.specs.forms.SearchOptions.{no_options, with_value, is_unread, options_left, IsLeft, has_number, least_in, greatest_in, IsValue, IsWithin}
@@ -33,15 +34,12 @@ use Rattle.ll_top.proofs.wording.WordValues.{value-of, other-word, found-behind,
 
 -- words are in the form, but for the parts in front of these
 abbrev IsRest : SearchForm → List Part → List (List ℕ) → Type 0
-IsRest form ps words = (m : ℕ) × (m ≤ greatest_bound) × Fits ps (map (option_form m) (options_of form)) words
+IsRest form ps words = (m : ℕ) × (m ≤ greatest_bound) × FitsParts ps (map (option_form m) (options_of form)) words
 
 none-left : (m : ℕ) (form : SearchForm) → map (option_form m) (options_left form no_options) ≡ map (option_form m) (options_of form)
 none-left m Run = refl
 none-left m Session = refl
 none-left m Deepen = refl
-
-can-none : (form : SearchForm) → Begins (IsRest form []) []
-can-none form = let r = can-rest 0 (omega arith) (options_of form) in (r.0, (0, omega arith, r.1))
 
 can-one : (form : SearchForm) → Begins (IsRest form (AnyName ∷ [])) []
 can-one form = let r = can-rest 0 (omega arith) (options_of form) in (codes "q" ∷ r.0, (0, omega arith, part refl r.1))
@@ -90,8 +88,13 @@ module _ (form : SearchForm) (words : List (List ℕ)) where
             → Leads (IsSearchForm form) (Follows form no_options) words 3
         to-none None e h = absurd h
         to-none (Some w) e h = leads-next (IsSearchForm form) (IsRest form (AnyName ∷ [])) (Follows form no_options) words 2 w
-            (λ ys f. (f.0, f.1.small, part h (subst (λ os. Fits [] os ys) (none-left f.0 form) f.2)))
-            (λ ys f. (f.0, record { small = f.1; from = tt; to = tt }, subst (λ os. Fits [] os ys) (sym (none-left f.0 form)) (part-first f.2).1)) to-second e
+            (λ ys f. (f.0, f.1.small, part h (subst (λ os. FitsParts [] os ys) (none-left f.0 form) f.2)))
+            (λ ys f. (
+              f.0,
+              record { small = f.1; from = tt; to = tt },
+              subst (λ os. FitsParts [] os ys)
+                  (sym (none-left f.0 form)) (part-first f.2).1,
+            )) to-second e
 
         name-other : (text : List ℕ) (n : ℕ) (next : Option (List ℕ)) → is_name_word text ≡ false → slice_get words n ≡ next
             → IsSomeAnd next (λ w. is_name_word w ≡ true) → All (λ u. is_word u text ≡ false) (take n words)
@@ -183,7 +186,7 @@ flag-limits options To h = cc
 -- what follows the word of an option
 abbrev FollowsWord : SearchForm → SearchOptions → SearchOption → ℕ → List (List ℕ) → Type 0
 FollowsWord form options o v words = (m : ℕ) × IsBetween options m
-    × Fits (option_form m o).values (map (option_form m) (options_left form (with_value options o v))) words
+    × FitsParts (option_form m o).values (map (option_form m) (options_left form (with_value options o v))) words
 
 module _ (words : List (List ℕ)) (form : SearchForm) (options : SearchOptions) (at : ℕ) (read : IsReadTo words form options at) where
   -- no option that is left
@@ -200,7 +203,7 @@ module _ (words : List (List ℕ)) (form : SearchForm) (options : SearchOptions)
       stuck ys f = let c = option-first f.2 in let t = taken-any w c.is c.takes in let k = word-among f.0 w (options_left form options) ∙ h in cc
 
   module _ (o : SearchOption) (left : IsLeft form options o) (is : slice_get words at ≡ Some (option_word o)) where
-    takes : (m v : ℕ) → Takes (option_form m o) (map (option_form m) (options_left form options))
+    takes : (m v : ℕ) → TakesOption (option_form m o) (map (option_form m) (options_left form options))
         (map (option_form m) (options_left form (with_value options o v)))
     takes m v = taken m options o v (options_of form) (offers-different form) left.0 left.1
 
@@ -212,7 +215,7 @@ module _ (words : List (List ℕ)) (form : SearchForm) (options : SearchOptions)
       f.0,
       f.1,
       option-next (different-forms f.0 (is_unread options) (options_of form) (offers-different form)) (takes f.0 v) ys
-          (subst (λ w. Fits [] (map (option_form f.0) (options_left form options)) (w ∷ ys)) (sym (word-of f.0 o)) f.2),
+          (subst (λ w. FitsParts [] (map (option_form f.0) (options_left form options)) (w ∷ ys)) (sym (word-of f.0 o)) f.2),
     )
 
     leads-word : (v : ℕ) → Leads (IsSearchForm form) (FollowsWord form options o v) words (at + 1)
@@ -278,7 +281,7 @@ module _ (words : List (List ℕ)) (form : SearchForm) (options : SearchOptions)
         to ys f = to-word 0 ys (
           f.0,
           between-old options o f.0 0 left.1 f.1,
-          subst (λ ps. Fits ps (map (option_form f.0) (options_left form (with_value options o 0))) ys) (sym (no-values f.0 o n)) f.2,
+          subst (λ ps. FitsParts ps (map (option_form f.0) (options_left form (with_value options o 0))) ys) (sym (no-values f.0 o n)) f.2,
         )
 
         from : (ys : List (List ℕ)) → Follows form options (option_word o ∷ ys) → Follows form (with_value options o 0) ys
@@ -286,7 +289,7 @@ module _ (words : List (List ℕ)) (form : SearchForm) (options : SearchOptions)
             let r = from-word 0 ys f in (
               r.0,
               between-new options o r.0 0 r.1 (fit r.0 o n),
-              subst (λ ps. Fits ps (map (option_form r.0) (options_left form (with_value options o 0))) ys) (no-values r.0 o n) r.2,
+              subst (λ ps. FitsParts ps (map (option_form r.0) (options_left form (with_value options o 0))) ys) (no-values r.0 o n) r.2,
             )
 
         values : (p : SearchOption) → IsValue words p (at + 1) (value (with_value options o 0) p)
@@ -459,7 +462,7 @@ module _ (words : List (List ℕ)) (form : SearchForm) (first second : List ℕ)
       search.read.leads.good (
         search.read.middle,
         search.read.between,
-        subst (Fits [] (map (option_form search.read.middle) (options_left form options)))
+        subst (FitsParts [] (map (option_form search.read.middle) (options_left form options)))
             (sym (drop-end words (length words) (slice_get_past words (length words) (omega arith)))) (done (h search.read.middle)),
       )
 

@@ -148,7 +148,7 @@ fault_is r e h = ap (fault_of e) h
 pub out_of_memory_apart : {A : Type 0} → OutOfMemory ≡ Write → A
 out_of_memory_apart e = cc
 
--- a fault that is no failed write is want of memory
+-- a fault that is no failed write is out of memory
 pub memory_else : {T : Type 0} (fault : OutFault) → ¬ (◌≡◌ {A = Result T OutFault} (Err fault) (Err Write)) → fault ≡ OutOfMemory
 memory_else Write other = absurd (other refl)
 memory_else OutOfMemory other = refl

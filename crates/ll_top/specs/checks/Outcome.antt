@@ -8,7 +8,7 @@ use Rattle.ll_laws.specs.Fault.{Fault as FaultAt}
 use Rattle.ll_laws.specs.Line.{DerivationLines, trees_of, counts_numbers}
 use Rattle.ll_laws.specs.Verdict.{DerivationShows, first_fault}
 use Rattle.ll_laws.specs.Completeness.{ShowsClosed}
-use Rattle.ll_textbook.specs.Follows.{IsFilling, Follows}
+use Rattle.ll_top.specs.textbook.Follows.{IsFilling, Follows}
 use Rattle.ll_cover.specs.Covering.{NamesFirst}
 use Rattle.ll_lexer.specs.declared.Fault.{Fault}
 use Rattle.ll_top.specs.declared.texts.judge.Role.{Role}

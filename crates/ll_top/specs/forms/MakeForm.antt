@@ -3,11 +3,11 @@ use Rattle.std.specs.Prelude.{◌≡◌, ◌⊎◌, ℕ, ◌+◌, false, List, [
 use Rattle.ll_make.specs.declared.kind.MakeKind.{MakeKind}
 use Rattle.ll_top.specs.forms.Begins.{IsFirstBad, Leads}
 use Rattle.ll_top.specs.forms.Making.{kind_word}
-use Rattle.ll_top.specs.forms.Words.{Part, is_word, Fits, make_parts, made_options, number_behind}
+use Rattle.ll_top.specs.forms.Words.{Part, is_word, FitsParts, make_parts, made_options, number_behind}
 
 -- words are in a form with these words in order, and with the options of a make or with none
 abbrev pub FitsEither : List Part → List (List ℕ) → Type 0
-FitsEither parts words = Fits parts [] words ⊎ Fits parts made_options words
+FitsEither parts words = FitsParts parts [] words ⊎ FitsParts parts made_options words
 
 -- words are in a form of a make of some kind
 abbrev pub IsMakeForm : List (List ℕ) → Type 0
@@ -31,12 +31,12 @@ LacksKind words at = IfSome (slice_get words at) IsNoKind
 
 -- the first three words were read, more stand behind them, and these are to be the options
 pub record IsAtOptions (words : List (List ℕ)) : Type 0 where
-  pub leads : Leads IsMakeForm (Fits [] made_options) words 3
+  pub leads : Leads IsMakeForm (FitsParts [] made_options) words 3
   pub no_bound : All (λ w. is_word w (codes "--bound") ≡ false) (take 3 words)
   pub no_workers : All (λ w. is_word w (codes "--workers") ≡ false) (take 3 words)
 
 -- the words behind the third are the two options, with these numbers
 pub record HasOptions (words : List (List ℕ)) (bound workers : ℕ) : Type 0 where
-  pub form : Fits [] made_options (drop 3 words)
+  pub form : FitsParts [] made_options (drop 3 words)
   pub bound_is : number_behind (codes "--bound") words ≡ Some bound
   pub workers_is : number_behind (codes "--workers") words ≡ Some workers

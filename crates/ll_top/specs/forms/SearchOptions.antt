@@ -8,7 +8,8 @@ use Rattle.ll_top.specs.declared.forms.searches.SearchOption.{SearchOption}
 use Rattle.ll_top.specs.declared.forms.searches.SearchOption.TheVariants.{Bound, Workers, Proofs, First, From, By, To}
 use Rattle.ll_top.specs.declared.forms.searches.SearchOptions.{SearchOptions}
 use Rattle.ll_top.specs.forms.Begins.{IsFirstBad, Leads}
-use Rattle.ll_top.specs.forms.Words.{ThisWord, AnyName, is_word, OptionForm, Form, Fits, FitsForm, bound_option, workers_option, proofs_option, first_option}
+use Rattle.ll_top.specs.forms.Words.{ThisWord, AnyName, is_word, OptionForm, Form}
+use Rattle.ll_top.specs.forms.Words.{FitsParts, FitsForm, bound_option, workers_option, proofs_option, first_option}
 use Rattle.ll_top.specs.forms.Words.{from_option, by_option, to_option, number_behind, has_word, greatest_bound, greatest_workers, greatest_first}
 
 -- ---- the three forms
@@ -156,7 +157,7 @@ pub record IsBetween (options : SearchOptions) (m : ℕ) : Type 0 where
 
 -- what may follow: the options that are still to be read
 abbrev pub Follows : SearchForm → SearchOptions → List (List ℕ) → Type 0
-Follows form options words = (m : ℕ) × IsBetween options m × Fits [] (map (option_form m) (options_left form options)) words
+Follows form options words = (m : ℕ) × IsBetween options m × FitsParts [] (map (option_form m) (options_left form options)) words
 
 -- the words up to this place were read: those in front of the options, and options with these values
 pub record IsReadTo (words : List (List ℕ)) (form : SearchForm) (options : SearchOptions) (at : ℕ) : Type 0 where

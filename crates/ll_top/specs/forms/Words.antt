@@ -19,7 +19,7 @@ use Rattle.ll_deepen.specs.declared.series.Series.{Series}
 use Rattle.ll_deepen.specs.Deciding.{IsSeries}
 use Rattle.ll_make.specs.declared.kind.MakeKind.{MakeKind}
 use Rattle.ll_make.specs.declared.kind.MakeKind.TheVariants.{Perm, Choice, Chain}
-use Rattle.ll_make.specs.Kinds.{least_number, greatest_number, Fits as FitsKind}
+use Rattle.ll_make.specs.Kinds.{least_number, greatest_number, InRange as FitsKind}
 use Rattle.ll_top.specs.forms.Begins.{IsFirstBad}
 use Rattle.ll_top.specs.forms.Making.{kind_word, MakeWords, MadeRunWords}
 
@@ -74,19 +74,21 @@ pub record Form : Type 0 where
   pub options : List OptionForm
 
 -- an option among options, and the others
-pub data Takes (o : OptionForm) : List OptionForm → List OptionForm → Type 0 where
-  here : {first : OptionForm} {os : List OptionForm} → first ≡ o → Takes o (first ∷ os) os
-  behind : {first : OptionForm} {os others : List OptionForm} → Takes o os others → Takes o (first ∷ os) (first ∷ others)
+pub data TakesOption (o : OptionForm) : List OptionForm → List OptionForm → Type 0 where
+  here : {first : OptionForm} {os : List OptionForm} → first ≡ o → TakesOption o (first ∷ os) os
+  behind : {first : OptionForm} {os others : List OptionForm} → TakesOption o os others → TakesOption o (first ∷ os) (first ∷ others)
 
 -- words are in a form: one for each of its parts, and then its options in any order, each once, where one that may lack may be left out
-pub data Fits : List Part → List OptionForm → List (List ℕ) → Type 0 where
-  part : {p : Part} {ps : List Part} {os : List OptionForm} {w : List ℕ} {ws : List (List ℕ)} → is_part p w ≡ true → Fits ps os ws → Fits (p ∷ ps) os (w ∷ ws)
-  option : {o : OptionForm} {os others : List OptionForm} {w : List ℕ} {ws : List (List ℕ)} → Takes o os others → w ≡ o.word → Fits o.values others ws
-      → Fits [] os (w ∷ ws)
-  done : {os : List OptionForm} → list_all (λ o. o.may_lack) os ≡ true → Fits [] os []
+pub data FitsParts : List Part → List OptionForm → List (List ℕ) → Type 0 where
+  part : {p : Part} {ps : List Part} {os : List OptionForm} {w : List ℕ} {ws : List (List ℕ)} → is_part p w ≡ true
+      → FitsParts ps os ws → FitsParts (p ∷ ps) os (w ∷ ws)
+  option : {o : OptionForm} {os others : List OptionForm} {w : List ℕ} {ws : List (List ℕ)} → TakesOption o os others
+      → w ≡ o.word → FitsParts o.values others ws
+      → FitsParts [] os (w ∷ ws)
+  done : {os : List OptionForm} → list_all (λ o. o.may_lack) os ≡ true → FitsParts [] os []
 
 abbrev pub FitsForm : Form → List (List ℕ) → Type 0
-FitsForm form words = Fits form.parts form.options words
+FitsForm form words = FitsParts form.parts form.options words
 
 -- words are in one of these forms
 abbrev pub FitsSome : List Form → List (List ℕ) → Type 0

@@ -46,7 +46,7 @@ pub data IsReadingFault (role : Role) (text : List ℕ) (f : Fault) : Type 0 whe
   lexical : HasFault text f → IsReadingFault role text f
   grammatical : (lexed : LexedText) → lexed.text ≡ text → IsLexed lexed → HasGrammarFault role lexed f → IsReadingFault role text f
 
--- why a text was not read by the grammar; want of memory is free
+-- why a text was not read by the grammar; out of memory is free
 abbrev pub IsReadingCause : Role → List ℕ → TextFault → Type 0
 IsReadingCause role text (fault.Text f) = IsReadingFault role text f
 IsReadingCause role text fault.OutOfMemory = Unit {0}
@@ -105,12 +105,12 @@ pub record IsPartOf (text : List ℕ) (part : ProgramPart) : Type 0 where
   pub whole : IsWhole programs tree
   pub is : part ≡ part_of tree
 
--- why a program's text was not loaded; want of memory is free
+-- why a program's text was not loaded; out of memory is free
 abbrev pub IsProgramCause : List ℕ → TextFault → Type 0
 IsProgramCause text (fault.Text f) = IsProgramFault text f
 IsProgramCause text fault.OutOfMemory = Unit {0}
 
--- why a query's text asks nothing of a part, whichever program fixed it; want of memory is free
+-- why a query's text asks nothing of a part, whichever program fixed it; out of memory is free
 abbrev pub IsQueryCause : ProgramPart → List ℕ → TextFault → Type 0
 IsQueryCause part text (fault.Text f) = (program : ProgramTree) → part ≡ part_of program → IsQueryFault program text f
 IsQueryCause part text fault.OutOfMemory = Unit {0}

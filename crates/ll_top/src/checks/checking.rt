@@ -2,7 +2,7 @@
 ghost use Rattle.std.specs.Prelude.{◌≡◌, ◌≤◌, ℕ, List, length, true, unwrap_or, Option, Some, IfOk, IfSome};
 ghost use Rattle.std.specs.List.{position_from};
 ghost use Rattle.ll_edge.specs.Counts.{Rose};
-ghost use Rattle.ll_edge.specs.Log.{ShelfKept, Fits, Met, NoText, Unreadable};
+ghost use Rattle.ll_edge.specs.Log.{ShelfKept, ToldFits, Met, NoText, Unreadable};
 ghost use Rattle.ll_edge.specs.Texts.{Texts};
 ghost use Rattle.ll_laws.specs.Line.{IsWhole};
 ghost use Rattle.ll_laws.specs.Valid.{IsValid};
@@ -15,6 +15,7 @@ ghost use Rattle.ll_top.specs.forms.Words.{shown_check};
 ghost use Rattle.ll_top.specs.checks.Outcome.{name_in_check, CheckComesTo, IsProved};
 ghost use Rattle.ll_top.specs.checks.Endings.{status_of_finding, IsFinding, Finds, CheckFinds, CheckEnds};
 
+use crate::answers_are_what_follows;
 use crate::checks::finding::{Finding, write_finding};
 use crate::forms::CheckCommand;
 use crate::texts::{Refusal, Role, derivation_of, problem_of, read, refuse};
@@ -23,7 +24,6 @@ use ll_cover::cover;
 use ll_edge::{Shelf, Sink};
 use ll_laws::{Derivation, Problem, Rule};
 use ll_sequent::{Verdict, check};
-use ll_textbook::answers_are_what_follows;
 use std::alloc::Global;
 
 /// Checks a derivation, or says which answer covers it, and says why not where this is not done. It answers the status. Where that is 0, the
@@ -40,11 +40,11 @@ pub fn serve_check<F: Shelf, O: Sink>(
     ensures sink_faults_kept { O.faults sink.old ≤ O.faults sink.new }
     ensures faults_told { StatusTold F.faults F.absences O.faults shelf.old shelf.new sink.old sink.new result }
 
-    ensures ends { (told : Option Texts) → Fits told (F.log shelf.old) (F.log shelf.new)
+    ensures ends { (told : Option Texts) → ToldFits told (F.log shelf.old) (F.log shelf.new)
         → Ends (CheckComesTo told (Met F.absences F.log shelf.old shelf.new NoText)
-        (Met F.faults F.log shelf.old shelf.new Unreadable) (shown_check check.now)) (Rose (O.faults sink.old) (O.faults sink.new))
-        (Some (O.taken sink.old)) (Some (O.taken sink.new)) result }
-    ensures proved { result ≡ 0 → (told : Option Texts) → Fits told (F.log shelf.old) (F.log shelf.new)
+        (Met F.faults F.log shelf.old shelf.new Unreadable) (shown_check check.now))
+        (Rose (O.faults sink.old) (O.faults sink.new)) (Some (O.taken sink.old)) (Some (O.taken sink.new)) result }
+    ensures proved { result ≡ 0 → (told : Option Texts) → ToldFits told (F.log shelf.old) (F.log shelf.new)
         → IsProved told (shown_check check.now) }
 {
     answers_are_what_follows();
@@ -97,9 +97,10 @@ fn check_derivation<F: Shelf, O: Sink>(
     ensures shelf_told { ShelfTold F.faults F.absences shelf.old shelf.new result }
     ensures sink_told { SinkTold (O.faults sink.old) (O.faults sink.new) result }
 
-    ensures ends { (told : Option Texts) → Fits told (F.log shelf.old) (F.log shelf.new)
-        → CheckEnds told (Met F.absences F.log shelf.old shelf.new NoText) (Met F.faults F.log shelf.old shelf.new Unreadable)
-        (Rose (O.faults sink.old) (O.faults sink.new)) (shown_check command.now) (Some (O.taken sink.old)) (Some (O.taken sink.new)) result }
+    ensures ends { (told : Option Texts) → ToldFits told (F.log shelf.old) (F.log shelf.new)
+        → CheckEnds told (Met F.absences F.log shelf.old shelf.new NoText)
+        (Met F.faults F.log shelf.old shelf.new Unreadable) (Rose (O.faults sink.old) (O.faults sink.new))
+        (shown_check command.now) (Some (O.taken sink.old)) (Some (O.taken sink.new)) result }
 {
     let finding = found(alloc, command, shelf)?;
     write_finding(sink, finding)?;
@@ -117,9 +118,9 @@ fn found<F: Shelf>(
     ensures kept { ShelfKept F.texts F.faults F.absences F.log shelf.old shelf.new }
     ensures shelf_told { ShelfTold F.faults F.absences shelf.old shelf.new result }
 
-    ensures finds { (told : Option Texts) → Fits told (F.log shelf.old) (F.log shelf.new)
-        → CheckFinds told (Met F.absences F.log shelf.old shelf.new NoText) (Met F.faults F.log shelf.old shelf.new Unreadable)
-        (shown_check command.now) result }
+    ensures finds { (told : Option Texts) → ToldFits told (F.log shelf.old) (F.log shelf.new)
+        → CheckFinds told (Met F.absences F.log shelf.old shelf.new NoText)
+        (Met F.faults F.log shelf.old shelf.new Unreadable) (shown_check command.now) result }
 {
     let program = read(alloc, shelf, command.program, Role::Program)?;
     let query = read(alloc, shelf, command.query, Role::Query)?;
@@ -156,7 +157,8 @@ fn finding_over(
 ) -> Result<Finding, Refusal>
     requires valid { IsValid problem.now }
     requires proof { length proof.now ≤ 16777216 }
-    ensures { (program query : List ℕ) → TextsAsk program query (unwrap_or bound 0) problem.old → Finds program query proof.now bound result }
+    ensures { (program query : List ℕ) → TextsAsk program query (unwrap_or bound 0) problem.old
+        → Finds program query proof.now bound result }
 {
     let derivation = derivation_of(alloc, proof, &mut problem.names)?;
     let finding = judged(alloc, problem, &derivation, bound.is_some())?;

@@ -28,10 +28,12 @@ pub enum Finding {
 /// Writes the line of a finding. After a refusal a prefix of it was written.
 pub fn write_finding<O: Sink>(sink: &mut O, finding: Finding) -> Result<(), WriteFailed>
     ensures faults_kept { O.faults sink.old ≤ O.faults sink.new }
-    ensures line { OnOk result (Some (O.taken sink.new) ≡ append_known (Some (O.taken sink.old)) (finding_text finding)) }
+    ensures line { OnOk result (Some (O.taken sink.new)
+        ≡ append_known (Some (O.taken sink.old)) (finding_text finding)) }
     ensures failed { OnErr result (Rose (O.faults sink.old) (O.faults sink.new)) }
     ensures quiet { OnOk result (O.faults sink.new ≡ O.faults sink.old) }
-    ensures prefix { OnErr result (AppendsFront (Some (O.taken sink.old)) (finding_text finding) (Some (O.taken sink.new))) }
+    ensures prefix { OnErr result (AppendsFront (Some (O.taken sink.old)) (finding_text finding)
+        (Some (O.taken sink.new))) }
 {
     match finding {
         Finding::Shows { nodes } => write_yes(sink, nodes),
@@ -45,10 +47,12 @@ pub fn write_finding<O: Sink>(sink: &mut O, finding: Finding) -> Result<(), Writ
 // Writes the line of a derivation that the answer of this number covers.
 fn write_covered<O: Sink>(sink: &mut O, answer: u64) -> Result<(), WriteFailed>
     ensures faults_kept { O.faults sink.old ≤ O.faults sink.new }
-    ensures line { OnOk result (Some (O.taken sink.new) ≡ append_known (Some (O.taken sink.old)) (covered_text answer)) }
+    ensures line { OnOk result (Some (O.taken sink.new)
+        ≡ append_known (Some (O.taken sink.old)) (covered_text answer)) }
     ensures failed { OnErr result (Rose (O.faults sink.old) (O.faults sink.new)) }
     ensures quiet { OnOk result (O.faults sink.new ≡ O.faults sink.old) }
-    ensures prefix { OnErr result (AppendsFront (Some (O.taken sink.old)) (covered_text answer) (Some (O.taken sink.new))) }
+    ensures prefix { OnErr result (AppendsFront (Some (O.taken sink.old)) (covered_text answer)
+        (Some (O.taken sink.new))) }
 {
     let mut digits = Buffer::new();
     let digits = digits.format(answer);
@@ -58,10 +62,12 @@ fn write_covered<O: Sink>(sink: &mut O, answer: u64) -> Result<(), WriteFailed>
 // Writes the line of a derivation with more nodes than the bound.
 fn write_too_long<O: Sink>(sink: &mut O, nodes: usize, bound: u32) -> Result<(), WriteFailed>
     ensures faults_kept { O.faults sink.old ≤ O.faults sink.new }
-    ensures line { OnOk result (Some (O.taken sink.new) ≡ append_known (Some (O.taken sink.old)) (too_long_text nodes bound)) }
+    ensures line { OnOk result (Some (O.taken sink.new)
+        ≡ append_known (Some (O.taken sink.old)) (too_long_text nodes bound)) }
     ensures failed { OnErr result (Rose (O.faults sink.old) (O.faults sink.new)) }
     ensures quiet { OnOk result (O.faults sink.new ≡ O.faults sink.old) }
-    ensures prefix { OnErr result (AppendsFront (Some (O.taken sink.old)) (too_long_text nodes bound) (Some (O.taken sink.new))) }
+    ensures prefix { OnErr result (AppendsFront (Some (O.taken sink.old)) (too_long_text nodes bound)
+        (Some (O.taken sink.new))) }
 {
     let mut node_digits = Buffer::new();
     let mut bound_digits = Buffer::new();
@@ -77,10 +83,12 @@ fn write_too_long_fields<'a, O: Sink>(
     bound: &'a str,
 ) -> Result<(), WriteFailed>
     ensures faults_kept { O.faults sink.old ≤ O.faults sink.new }
-    ensures line { OnOk result (Some (O.taken sink.new) ≡ append_known (Some (O.taken sink.old)) (too_long_fields nodes.now bound.now)) }
+    ensures line { OnOk result (Some (O.taken sink.new)
+        ≡ append_known (Some (O.taken sink.old)) (too_long_fields nodes.now bound.now)) }
     ensures failed { OnErr result (Rose (O.faults sink.old) (O.faults sink.new)) }
     ensures quiet { OnOk result (O.faults sink.new ≡ O.faults sink.old) }
-    ensures prefix { OnErr result (AppendsFront (Some (O.taken sink.old)) (too_long_fields nodes.now bound.now) (Some (O.taken sink.new))) }
+    ensures prefix { OnErr result (AppendsFront (Some (O.taken sink.old)) (too_long_fields nodes.now bound.now)
+        (Some (O.taken sink.new))) }
 {
     write_parts(
         sink,
@@ -100,7 +108,8 @@ fn write_counts<O: Sink>(sink: &mut O, node: usize) -> Result<(), WriteFailed>
     ensures line { OnOk result (Some (O.taken sink.new) ≡ append_known (Some (O.taken sink.old)) (counts_text node)) }
     ensures failed { OnErr result (Rose (O.faults sink.old) (O.faults sink.new)) }
     ensures quiet { OnOk result (O.faults sink.new ≡ O.faults sink.old) }
-    ensures prefix { OnErr result (AppendsFront (Some (O.taken sink.old)) (counts_text node) (Some (O.taken sink.new))) }
+    ensures prefix { OnErr result (AppendsFront (Some (O.taken sink.old)) (counts_text node)
+        (Some (O.taken sink.new))) }
 {
     let mut digits = Buffer::new();
     let digits = digits.format(node);
@@ -123,10 +132,12 @@ fn write_yes<O: Sink>(sink: &mut O, nodes: usize) -> Result<(), WriteFailed>
 // Writes the line of a derivation whose node of this number does not fit, for this reason.
 fn write_no<O: Sink>(sink: &mut O, node: usize, reason: u8) -> Result<(), WriteFailed>
     ensures faults_kept { O.faults sink.old ≤ O.faults sink.new }
-    ensures line { OnOk result (Some (O.taken sink.new) ≡ append_known (Some (O.taken sink.old)) (no_text node reason)) }
+    ensures line { OnOk result (Some (O.taken sink.new)
+        ≡ append_known (Some (O.taken sink.old)) (no_text node reason)) }
     ensures failed { OnErr result (Rose (O.faults sink.old) (O.faults sink.new)) }
     ensures quiet { OnOk result (O.faults sink.new ≡ O.faults sink.old) }
-    ensures prefix { OnErr result (AppendsFront (Some (O.taken sink.old)) (no_text node reason) (Some (O.taken sink.new))) }
+    ensures prefix { OnErr result (AppendsFront (Some (O.taken sink.old)) (no_text node reason)
+        (Some (O.taken sink.new))) }
 {
     let mut node_digits = Buffer::new();
     let mut reason_digits = Buffer::new();
@@ -146,10 +157,12 @@ fn write_no_fields<'a, O: Sink>(
     text: &'a str,
 ) -> Result<(), WriteFailed>
     ensures faults_kept { O.faults sink.old ≤ O.faults sink.new }
-    ensures line { OnOk result (Some (O.taken sink.new) ≡ append_known (Some (O.taken sink.old)) (no_fields node.now reason.now text.now)) }
+    ensures line { OnOk result (Some (O.taken sink.new)
+        ≡ append_known (Some (O.taken sink.old)) (no_fields node.now reason.now text.now)) }
     ensures failed { OnErr result (Rose (O.faults sink.old) (O.faults sink.new)) }
     ensures quiet { OnOk result (O.faults sink.new ≡ O.faults sink.old) }
-    ensures prefix { OnErr result (AppendsFront (Some (O.taken sink.old)) (no_fields node.now reason.now text.now) (Some (O.taken sink.new))) }
+    ensures prefix { OnErr result (AppendsFront (Some (O.taken sink.old)) (no_fields node.now reason.now text.now)
+        (Some (O.taken sink.new))) }
 {
     write_parts(
         sink,

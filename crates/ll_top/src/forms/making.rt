@@ -54,7 +54,8 @@ pub fn read_make<'a>(words: &[&'a str]) -> Result<Command<'a>, usize>
 fn read_options(words: &[&str]) -> Result<MadeOptions, usize>
     requires more { 3 < length words.now }
     requires front { IsAtOptions (word_texts words.now) }
-    ensures options { MatchResult result (λ options. HasOptions (word_texts words.now) options.bound options.workers) (IsBadMakeWord (word_texts words.now)) }
+    ensures options { MatchResult result (λ options. HasOptions (word_texts words.now) options.bound options.workers)
+        (IsBadMakeWord (word_texts words.now)) }
     ensures bound { IfOk result (λ options. options.bound ≤ greatest_bound) }
     ensures workers { IfOk result (λ options. IsWorkerCount options.workers) }
 {
@@ -69,7 +70,8 @@ fn read_bound_first(words: &[&str]) -> Result<MadeOptions, usize>
     requires more { 3 < length words.now }
     requires front { IsAtOptions (word_texts words.now) }
     requires other { LacksPart (word_texts words.now) 3 (ThisWord (codes "--workers")) }
-    ensures options { MatchResult result (λ options. HasOptions (word_texts words.now) options.bound options.workers) (IsBadMakeWord (word_texts words.now)) }
+    ensures options { MatchResult result (λ options. HasOptions (word_texts words.now) options.bound options.workers)
+        (IsBadMakeWord (word_texts words.now)) }
     ensures bound { IfOk result (λ options. options.bound ≤ greatest_bound) }
     ensures workers { IfOk result (λ options. IsWorkerCount options.workers) }
 {
@@ -88,7 +90,8 @@ fn read_bound_last(words: &[&str]) -> Result<MadeOptions, usize>
     requires more { 3 < length words.now }
     requires front { IsAtOptions (word_texts words.now) }
     requires first { HasPart (word_texts words.now) 3 (ThisWord (codes "--workers")) }
-    ensures options { MatchResult result (λ options. HasOptions (word_texts words.now) options.bound options.workers) (IsBadMakeWord (word_texts words.now)) }
+    ensures options { MatchResult result (λ options. HasOptions (word_texts words.now) options.bound options.workers)
+        (IsBadMakeWord (word_texts words.now)) }
     ensures bound { IfOk result (λ options. options.bound ≤ greatest_bound) }
     ensures workers { IfOk result (λ options. IsWorkerCount options.workers) }
 {

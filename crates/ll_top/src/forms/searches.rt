@@ -71,7 +71,8 @@ struct Limits {
 /// What the words of a run ask for, or the number of the first word through which no run begins.
 pub fn read_run<'a>(words: &[&'a str]) -> Result<RunCommand<'a>, usize>
     requires { HasPart (word_texts words.now) 0 (ThisWord (codes "run")) }
-    ensures run { MatchResult result (λ run. IsRun (word_texts words.now) (shown_words run)) (IsBadSearchWord Run (word_texts words.now)) }
+    ensures run { MatchResult result (λ run. IsRun (word_texts words.now) (shown_words run))
+        (IsBadSearchWord Run (word_texts words.now)) }
     ensures bound { IfOk result (λ run. IsBounded (command.Run run)) }
 {
     let search = read_search(words, SearchForm::Run)?;
@@ -117,7 +118,8 @@ pub fn read_session<'a>(words: &[&'a str]) -> Result<SessionCommand<'a>, usize>
 /// What the words of a deepening ask for, or the number of the first word through which no deepening begins.
 pub fn read_deepen<'a>(words: &[&'a str]) -> Result<DeepenCommand<'a>, usize>
     requires { HasPart (word_texts words.now) 0 (ThisWord (codes "deepen")) }
-    ensures deepen { MatchResult result (λ deepen. IsDeepen (word_texts words.now) (shown_deepen deepen)) (IsBadSearchWord Deepen (word_texts words.now)) }
+    ensures deepen { MatchResult result (λ deepen. IsDeepen (word_texts words.now) (shown_deepen deepen))
+        (IsBadSearchWord Deepen (word_texts words.now)) }
     ensures bound { IfOk result (λ deepen. IsBounded (command.Deepen deepen)) }
 {
     let search = read_search(words, SearchForm::Deepen)?;
@@ -145,7 +147,8 @@ pub fn read_deepen<'a>(words: &[&'a str]) -> Result<DeepenCommand<'a>, usize>
 // The names and the options of words that begin with the form's word.
 fn read_search<'a>(words: &[&'a str], form: SearchForm) -> Result<SearchWords<'a>, usize>
     requires { HasPart (word_texts words.now) 0 (ThisWord (search_word form)) }
-    ensures { MatchResult result (λ search. IsSearch (word_texts words.now) form search.first.now search.second.now search.options)
+    ensures { MatchResult result (λ search. IsSearch
+        (word_texts words.now) form search.first.now search.second.now search.options)
         (IsBadSearchWord form (word_texts words.now)) }
 {
     let first = name_at(words, 1)?;
@@ -161,8 +164,8 @@ fn read_search<'a>(words: &[&'a str], form: SearchForm) -> Result<SearchWords<'a
 // The options of a form, whose first three words stand.
 fn read_options(words: &[&str], form: SearchForm) -> Result<SearchOptions, usize>
     requires { IsReadTo (word_texts words.now) form no_options 3 }
-    ensures { MatchResult result (λ options. IsReadTo (word_texts words.now) form options (length (word_texts words.now)))
-        (IsBadSearchWord form (word_texts words.now)) }
+    ensures { MatchResult result (λ options. IsReadTo (word_texts words.now) form options
+        (length (word_texts words.now))) (IsBadSearchWord form (word_texts words.now)) }
 {
     let mut options = SearchOptions {
         bound: None,
@@ -191,7 +194,8 @@ fn read_option(
 ) -> Result<OptionsRead, usize>
     requires within { at < length words.now }
     requires read { IsReadTo (word_texts words.now) form options at }
-    ensures read { MatchResult result (λ read. IsReadTo (word_texts words.now) form read.options read.next) (IsBadSearchWord form (word_texts words.now)) }
+    ensures read { MatchResult result (λ read. IsReadTo (word_texts words.now) form read.options read.next)
+        (IsBadSearchWord form (word_texts words.now)) }
     ensures further { IfOk result (λ read. at < read.next) }
 {
     let Some(option) = option_at(words[at], form, options) else {
@@ -230,7 +234,8 @@ fn option_at(word: &str, form: SearchForm, options: SearchOptions) -> Option<Sea
 
 // The option that a word is.
 fn option_of(word: &str) -> Option<SearchOption>
-    ensures { MatchOption result ((option : SearchOption) → is_word word.now (option_word option) ≡ false) (λ option. word.now ≡ option_word option) }
+    ensures { MatchOption result ((option : SearchOption) → is_word word.now (option_word option) ≡ false)
+        (λ option. word.now ≡ option_word option) }
 {
     match word {
         "--bound" => Some(SearchOption::Bound),
@@ -276,8 +281,8 @@ fn is_read(options: SearchOptions, option: SearchOption) -> bool
 
 // What the number of an option may be, if it has one. The first bound of a deepening is not past its last one, whichever stands first.
 fn limits_of(options: SearchOptions, option: SearchOption) -> Option<Limits>
-    ensures { MatchOption result (has_number option ≡ false)
-        (λ limits. (has_number option ≡ true) × (limits.least ≡ least_in options option) × (limits.greatest ≡ greatest_in options option)) }
+    ensures { MatchOption result (has_number option ≡ false) (λ limits. (has_number option ≡ true)
+        × (limits.least ≡ least_in options option) × (limits.greatest ≡ greatest_in options option)) }
 {
     match option {
         SearchOption::Bound => Some(Limits {

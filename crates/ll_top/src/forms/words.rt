@@ -150,7 +150,7 @@ fn form_of(word: &str) -> Option<FormWord>
     }
 }
 
-/// How many search for a command, where it says so.
+/// How many search for a command, where it says so. The program does not call it: its contract says what the words ask for.
 pub fn workers_of(command: Command<'_>) -> Option<u32>
     ensures { result ≡ workers_of command.entry }
 {
@@ -169,7 +169,8 @@ pub fn workers_of(command: Command<'_>) -> Option<u32>
 // The name of a print's program, or the number of the first word through which no print begins.
 fn read_print<'a>(words: &[&'a str]) -> Result<&'a str, usize>
     requires { HasPart (word_texts words.now) 0 (ThisWord (codes "print")) }
-    ensures { MatchResult result (λ name. IsPrint (word_texts words.now) name.now) (IsBadFormWord print_form (word_texts words.now)) }
+    ensures { MatchResult result (λ name. IsPrint (word_texts words.now) name.now)
+        (IsBadFormWord print_form (word_texts words.now)) }
 {
     let name = name_at(words, 1)?;
     if words.len() > 2 {
@@ -181,7 +182,8 @@ fn read_print<'a>(words: &[&'a str]) -> Result<&'a str, usize>
 // The names of a check's texts, or the number of the first word through which no check begins.
 fn read_check<'a>(words: &[&'a str]) -> Result<CheckCommand<'a>, usize>
     requires { HasPart (word_texts words.now) 0 (ThisWord (codes "check")) }
-    ensures { MatchResult result (λ check. IsCheck (word_texts words.now) (shown_check check)) (IsBadFormWord check_form (word_texts words.now)) }
+    ensures { MatchResult result (λ check. IsCheck (word_texts words.now) (shown_check check))
+        (IsBadFormWord check_form (word_texts words.now)) }
 {
     let program = name_at(words, 1)?;
     let query = name_at(words, 2)?;
@@ -200,7 +202,8 @@ fn read_check<'a>(words: &[&'a str]) -> Result<CheckCommand<'a>, usize>
 // The names of a cover's texts and its bound, or the number of the first word through which no cover begins.
 fn read_cover<'a>(words: &[&'a str]) -> Result<CheckCommand<'a>, usize>
     requires { HasPart (word_texts words.now) 0 (ThisWord (codes "cover")) }
-    ensures cover { MatchResult result (λ cover. IsCheck (word_texts words.now) (shown_check cover)) (IsBadFormWord cover_form (word_texts words.now)) }
+    ensures cover { MatchResult result (λ cover. IsCheck (word_texts words.now) (shown_check cover))
+        (IsBadFormWord cover_form (word_texts words.now)) }
     ensures bound { IfOk result (λ cover. IfSome cover.bound (λ bound. bound ≤ greatest_bound)) }
 {
     let program = name_at(words, 1)?;
@@ -241,8 +244,8 @@ fn read_convert<'a>(words: &[&'a str]) -> Result<ConvertCommand<'a>, usize>
 /// The name at a word, or the word's number, counted from 1, where there is none.
 pub fn name_at<'a>(words: &[&'a str], at: usize) -> Result<&'a str, usize>
     requires { at ≤ length words.now }
-    ensures { MatchResult result (λ name. (slice_get (word_texts words.now) at ≡ Some name.now) × (is_name_word name.now ≡ true))
-        (λ number. (number ≡ at + 1) × LacksPart (word_texts words.now) at AnyName) }
+    ensures { MatchResult result (λ name. (slice_get (word_texts words.now) at ≡ Some name.now)
+        × (is_name_word name.now ≡ true)) (λ number. (number ≡ at + 1) × LacksPart (word_texts words.now) at AnyName) }
 {
     match words.get(at) {
         Some(word) if is_name(word) => Ok(*word),
@@ -265,8 +268,9 @@ pub fn this_at(words: &[&str], at: usize, text: &str) -> Result<(), usize>
 /// The value of the number at a word, which is from `least` to `greatest`, or the word's number, counted from 1, where there is none.
 pub fn number_at(words: &[&str], at: usize, least: u32, greatest: u32) -> Result<u32, usize>
     requires { at ≤ length words.now }
-    ensures { MatchResult result (λ value. IsSomeAnd (slice_get (word_texts words.now) at) (λ w. number_from least greatest w ≡ Some value))
-        (λ number. (number ≡ at + 1) × LacksPart (word_texts words.now) at (NumberFrom least greatest)) }
+    ensures { MatchResult result (λ value. IsSomeAnd (slice_get (word_texts words.now) at)
+        (λ w. number_from least greatest w ≡ Some value)) (λ number. (number ≡ at + 1)
+        × LacksPart (word_texts words.now) at (NumberFrom least greatest)) }
 {
     match words.get(at) {
         Some(word) => number(word, least, greatest).ok_or(at + 1),

@@ -109,7 +109,8 @@ fn lines_behind<T: Terms>(
     places: &[At],
 ) -> Result<SmallVec<u8, ROOM>, OutOfMemory>
     requires { All (λ a. T.has terms.now a.0) places.now }
-    ensures { IfOk result (λ lines. lines.items ≡ lines_behind problem.now (record { terms = map (λ a. T.tree terms.now a.0) places.now; steps = [] })) }
+    ensures { IfOk result (λ lines. lines.items
+        ≡ lines_behind problem.now (record { terms = map (λ a. T.tree terms.now a.0) places.now; steps = [] })) }
 {
     let mut lines = Vec::with_capacity(alloc, ROOM)?;
     if problem.asked.len() <= places.len() {

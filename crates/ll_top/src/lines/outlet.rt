@@ -171,9 +171,11 @@ fn put<O: Sink>(
     ensures faults_kept { O.faults sink.old ≤ O.faults sink.new }
     ensures tells { TellsFaults failed.old (O.faults sink.old) failed.new (O.faults sink.new) }
     ensures quiet { OnOk result (O.faults sink.new ≡ O.faults sink.old) }
-    ensures put { OnOk result (Puts (Some (O.taken sink.old)) waiting.old.items lines.now (Some (O.taken sink.new)) waiting.new.items) }
+    ensures put { OnOk result (Puts (Some (O.taken sink.old)) waiting.old.items lines.now
+        (Some (O.taken sink.new)) waiting.new.items) }
     ensures none { OnErr result (waiting.new.items ≡ []) }
-    ensures cut { OnErr result (AppendsFront (Some (O.taken sink.old)) (waiting.old.items ++ lines.now) (Some (O.taken sink.new))) }
+    ensures cut { OnErr result (AppendsFront (Some (O.taken sink.old)) (waiting.old.items ++ lines.now)
+        (Some (O.taken sink.new))) }
     ensures memory { result ≡ Err OutOfMemory → O.faults sink.new ≡ O.faults sink.old }
     ensures write { result ≡ Err Write → Rose (O.faults sink.old) (O.faults sink.new) }
 {
@@ -198,7 +200,8 @@ fn write_waiting<O: Sink>(
     ensures cause { IfErr result (λ fault. fault ≡ Write) }
     ensures none { waiting.new.items ≡ [] }
     ensures written { OnOk result (Some (O.taken sink.new) ≡ append_known (Some (O.taken sink.old)) waiting.old.items) }
-    ensures cut { OnErr result ((0 < length waiting.old.items) × AppendsFront (Some (O.taken sink.old)) waiting.old.items (Some (O.taken sink.new))) }
+    ensures cut { OnErr result ((0 < length waiting.old.items)
+        × AppendsFront (Some (O.taken sink.old)) waiting.old.items (Some (O.taken sink.new))) }
     ensures write { OnErr result (Rose (O.faults sink.old) (O.faults sink.new)) }
 {
     if waiting.is_empty() {
@@ -215,12 +218,12 @@ fn write_waiting<O: Sink>(
     }
 }
 
-// Writes the lines that wait where memory is wanting for more of them. Want of memory is answered only where all of them were written.
+// Writes the lines that wait where memory runs out for more of them. Out of memory is answered only where all of them were written.
 fn refuse<O: Sink>(waiting: &mut Vec<u8>, sink: &mut O, failed: &mut bool) -> OutFault
     ensures faults_kept { O.faults sink.old ≤ O.faults sink.new }
     ensures tells { TellsFaults failed.old (O.faults sink.old) failed.new (O.faults sink.new) }
-    ensures memory { result ≡ OutOfMemory
-        → (O.faults sink.new ≡ O.faults sink.old) × (Some (O.taken sink.new) ≡ append_known (Some (O.taken sink.old)) waiting.old.items) }
+    ensures memory { result ≡ OutOfMemory → (O.faults sink.new ≡ O.faults sink.old)
+        × (Some (O.taken sink.new) ≡ append_known (Some (O.taken sink.old)) waiting.old.items) }
     ensures none { waiting.new.items ≡ [] }
     ensures cut { AppendsFront (Some (O.taken sink.old)) waiting.old.items (Some (O.taken sink.new)) }
     ensures write { result ≡ Write → Rose (O.faults sink.old) (O.faults sink.new) }
@@ -240,7 +243,8 @@ fn write_proof(
 ) -> Result<(), OutOfMemory>
     requires valid { IsValid problem.now }
     requires found { Contains (problem_events problem.now) (Answer branch.now) }
-    ensures { OnOk result (lines.new.items ≡ lines.old.items ++ derivation_text problem.now.names (dealt problem.now branch.now)) }
+    ensures { OnOk result (lines.new.items ≡ lines.old.items ++ derivation_text problem.now.names
+        (dealt problem.now branch.now)) }
 {
     let derivation = explain(alloc, problem, branch)?;
     write(alloc, &problem.names, &derivation, lines)

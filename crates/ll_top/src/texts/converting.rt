@@ -1,7 +1,7 @@
 //! From the words of a conversion to its bytes.
 ghost use Rattle.std.specs.Prelude.{◌≡◌, ◌≤◌, ◌⊎◌, ℕ, List, length, Option, Some, IfOk};
 ghost use Rattle.ll_edge.specs.Counts.{Rose};
-ghost use Rattle.ll_edge.specs.Log.{ShelfKept, Fits, Met, NoText, Unreadable};
+ghost use Rattle.ll_edge.specs.Log.{ShelfKept, ToldFits, Met, NoText, Unreadable};
 ghost use Rattle.ll_edge.specs.Texts.{Texts};
 ghost use Rattle.ll_prooftext.specs.Sizes.{text_in};
 ghost use Rattle.ll_prooftext.specs.Versions.{IsProofText};
@@ -47,10 +47,10 @@ pub fn serve_convert<F: Shelf, O: Sink>(
     ensures sink_faults_kept { O.faults sink.old ≤ O.faults sink.new }
     ensures faults_told { StatusTold F.faults F.absences O.faults shelf.old shelf.new sink.old sink.new result }
 
-    ensures ends { (told : Option Texts) → Fits told (F.log shelf.old) (F.log shelf.new)
+    ensures ends { (told : Option Texts) → ToldFits told (F.log shelf.old) (F.log shelf.new)
         → Ends (ConvertComesTo told (Met F.absences F.log shelf.old shelf.new NoText)
-        (Met F.faults F.log shelf.old shelf.new Unreadable) (shown_convert convert.now)) (Rose (O.faults sink.old) (O.faults sink.new))
-        (Some (O.taken sink.old)) (Some (O.taken sink.new)) result }
+        (Met F.faults F.log shelf.old shelf.new Unreadable) (shown_convert convert.now))
+        (Rose (O.faults sink.old) (O.faults sink.new)) (Some (O.taken sink.old)) (Some (O.taken sink.new)) result }
 {
     match conversion(alloc, convert, shelf) {
         Ok(NewText::Whole(text)) => match write_all(sink, &text) {
@@ -75,7 +75,7 @@ fn conversion<F: Shelf>(
     ensures kept { ShelfKept F.texts F.faults F.absences F.log shelf.old shelf.new }
     ensures shelf_told { ShelfTold F.faults F.absences shelf.old shelf.new result }
 
-    ensures converts { (told : Option Texts) → Fits told (F.log shelf.old) (F.log shelf.new)
+    ensures converts { (told : Option Texts) → ToldFits told (F.log shelf.old) (F.log shelf.new)
         → Converts told (Met F.absences F.log shelf.old shelf.new NoText)
         (Met F.faults F.log shelf.old shelf.new Unreadable) (shown_convert convert.now) result }
 {
@@ -102,7 +102,8 @@ fn new_text(
     version: u8,
 ) -> Result<NewText, Refusal>
     requires { (version ≡ 1) ⊎ (version ≡ 2) }
-    ensures { (proof : List ℕ) → names.now ≡ own_names proof → IsProofText names.now proof derivation.now → IsConversionOf proof version result }
+    ensures { (proof : List ℕ) → names.now ≡ own_names proof → IsProofText names.now proof derivation.now
+        → IsConversionOf proof version result }
 {
     if size(alloc, names, derivation, version)? > LONGEST_TEXT as u64 {
         return Ok(NewText::TooLong);

@@ -58,10 +58,12 @@ fn status(cause: Cause<'_>) -> u8
 /// Writes the line of a cause. After a refusal a prefix of it was written.
 pub fn write_line<O: Sink>(cause: Cause<'_>, sink: &mut O) -> Result<(), WriteFailed>
     ensures faults_kept { O.faults sink.old ≤ O.faults sink.new }
-    ensures line { OnOk result (Some (O.taken sink.new) ≡ append_known (Some (O.taken sink.old)) (fault_text (shown_cause cause.entry))) }
+    ensures line { OnOk result (Some (O.taken sink.new)
+        ≡ append_known (Some (O.taken sink.old)) (fault_text (shown_cause cause.entry))) }
     ensures failed { OnErr result (Rose (O.faults sink.old) (O.faults sink.new)) }
     ensures quiet { OnOk result (O.faults sink.new ≡ O.faults sink.old) }
-    ensures prefix { OnErr result (AppendsFront (Some (O.taken sink.old)) (fault_text (shown_cause cause.entry)) (Some (O.taken sink.new))) }
+    ensures prefix { OnErr result (AppendsFront (Some (O.taken sink.old)) (fault_text (shown_cause cause.entry))
+        (Some (O.taken sink.new))) }
 {
     match cause {
         Cause::Usage(number) => {
@@ -87,10 +89,12 @@ pub fn write_line<O: Sink>(cause: Cause<'_>, sink: &mut O) -> Result<(), WriteFa
 // Writes the line of a text's fault.
 fn write_text_fault<O: Sink>(sink: &mut O, name: &str, fault: Fault) -> Result<(), WriteFailed>
     ensures faults_kept { O.faults sink.old ≤ O.faults sink.new }
-    ensures line { OnOk result (Some (O.taken sink.new) ≡ append_known (Some (O.taken sink.old)) (fault_text (FaultyText name.now fault))) }
+    ensures line { OnOk result (Some (O.taken sink.new)
+        ≡ append_known (Some (O.taken sink.old)) (fault_text (FaultyText name.now fault))) }
     ensures failed { OnErr result (Rose (O.faults sink.old) (O.faults sink.new)) }
     ensures quiet { OnOk result (O.faults sink.new ≡ O.faults sink.old) }
-    ensures prefix { OnErr result (AppendsFront (Some (O.taken sink.old)) (fault_text (FaultyText name.now fault)) (Some (O.taken sink.new))) }
+    ensures prefix { OnErr result (AppendsFront (Some (O.taken sink.old)) (fault_text (FaultyText name.now fault))
+        (Some (O.taken sink.new))) }
 {
     let mut line = Buffer::new();
     let mut column = Buffer::new();
@@ -115,11 +119,13 @@ fn write_fields<'a, O: Sink>(
     text: &'a str,
 ) -> Result<(), WriteFailed>
     ensures faults_kept { O.faults sink.old ≤ O.faults sink.new }
-    ensures line { OnOk result (Some (O.taken sink.new) ≡ append_known (Some (O.taken sink.old)) (fields_text name.now line.now column.now kind.now text.now)) }
+    ensures line { OnOk result (Some (O.taken sink.new)
+        ≡ append_known (Some (O.taken sink.old)) (fields_text name.now line.now column.now kind.now text.now)) }
     ensures failed { OnErr result (Rose (O.faults sink.old) (O.faults sink.new)) }
     ensures quiet { OnOk result (O.faults sink.new ≡ O.faults sink.old) }
-    ensures prefix { OnErr result (AppendsFront (Some (O.taken sink.old)) (fields_text name.now line.now column.now kind.now text.now) (Some
-        (O.taken sink.new))) }
+    ensures prefix { OnErr result
+        (AppendsFront (Some (O.taken sink.old)) (fields_text name.now line.now column.now kind.now text.now)
+        (Some (O.taken sink.new))) }
 {
     write_parts(
         sink,
@@ -132,10 +138,12 @@ fn write_fields<'a, O: Sink>(
 /// Writes some texts, one behind the other. After a refusal a prefix of them was written.
 pub fn write_parts<O: Sink>(sink: &mut O, parts: &[&str]) -> Result<(), WriteFailed>
     ensures faults_kept { O.faults sink.old ≤ O.faults sink.new }
-    ensures line { OnOk result (Some (O.taken sink.new) ≡ append_known (Some (O.taken sink.old)) (concat (map (λ part. part.now) parts.now))) }
+    ensures line { OnOk result (Some (O.taken sink.new)
+        ≡ append_known (Some (O.taken sink.old)) (concat (map (λ part. part.now) parts.now))) }
     ensures failed { OnErr result (Rose (O.faults sink.old) (O.faults sink.new)) }
     ensures quiet { OnOk result (O.faults sink.new ≡ O.faults sink.old) }
-    ensures prefix { OnErr result (AppendsFront (Some (O.taken sink.old)) (concat (map (λ part. part.now) parts.now)) (Some (O.taken sink.new))) }
+    ensures prefix { OnErr result (AppendsFront (Some (O.taken sink.old)) (concat (map (λ part. part.now) parts.now))
+        (Some (O.taken sink.new))) }
 {
     for part in parts {
         write_all(sink, part.as_bytes())?;

@@ -1,6 +1,6 @@
 // From the words of a run to its problem.
 ghost use Rattle.std.specs.Prelude.{◌≡◌, ◌≤◌, ℕ, List, [], length, Option, IfOk, IfErr};
-ghost use Rattle.ll_edge.specs.Log.{ShelfKept, Fits, Reads, Handed, Met, NoText, Unreadable};
+ghost use Rattle.ll_edge.specs.Log.{ShelfKept, ToldFits, Reads, Handed, Met, NoText, Unreadable};
 ghost use Rattle.ll_edge.specs.Texts.{Texts};
 ghost use Rattle.ll_laws.specs.Valid.{IsValid};
 ghost use Rattle.ll_top.specs.forms.Words.{shown_words};
@@ -34,7 +34,7 @@ pub fn prepare<F: Shelf>(
     ensures shelf_told { ShelfTold F.faults F.absences shelf.old shelf.new result }
 
     ensures valid { IfOk result IsValid }
-    ensures prepares { (told : Option Texts) → Fits told (F.log shelf.old) (F.log shelf.new)
+    ensures prepares { (told : Option Texts) → ToldFits told (F.log shelf.old) (F.log shelf.new)
         → Prepares told (Met F.absences F.log shelf.old shelf.new NoText)
         (Met F.faults F.log shelf.old shelf.new Unreadable) (shown_words run.now) result }
     ensures reads { IfOk result (ReadsWhatAsks (shown_words run.now) (F.log shelf.old) (F.log shelf.new)) }
@@ -56,8 +56,9 @@ pub fn read<F: Shelf>(
     ensures shelf_told { ShelfTold F.faults F.absences shelf.old shelf.new result }
 
     ensures reads { IfOk result (λ text. Reads name.now (F.log shelf.old) (F.log shelf.new) text.items (Handed [])) }
-    ensures read { IfOk result (λ text. (told : Option Texts) → Fits told (F.log shelf.old) (F.log shelf.new) → IsRead told name.now text.items) }
-    ensures refused { IfErr result (λ refusal. (told : Option Texts) → Fits told (F.log shelf.old) (F.log shelf.new)
+    ensures read { IfOk result (λ text. (told : Option Texts) → ToldFits told (F.log shelf.old) (F.log shelf.new)
+        → IsRead told name.now text.items) }
+    ensures refused { IfErr result (λ refusal. (told : Option Texts) → ToldFits told (F.log shelf.old) (F.log shelf.new)
         → IsNotRead told (Met F.absences F.log shelf.old shelf.new NoText)
         (Met F.faults F.log shelf.old shelf.new Unreadable) name.now role refusal) }
 {
@@ -107,7 +108,8 @@ pub fn load_text(alloc: Global, text: &[u8]) -> Result<Loaded, TextFault>
 fn ask_text(alloc: Global, loaded: Loaded, text: &[u8], bound: u32) -> Result<Problem, TextFault>
     requires text { length text.now ≤ 16777216 }
     requires bound { bound ≤ 1000000 }
-    ensures asks { IfOk result (λ problem. (program : List ℕ) → IsPartOf program loaded → TextsAsk program text.now bound problem × IsValid problem) }
+    ensures asks { IfOk result (λ problem. (program : List ℕ) → IsPartOf program loaded
+        → TextsAsk program text.now bound problem × IsValid problem) }
     ensures cause { IfErr result (IsQueryCause loaded text.now) }
 {
     let query = judge_query(alloc, text)?;

@@ -1,7 +1,7 @@
 //! From the words of a print to its bytes.
 ghost use Rattle.std.specs.Prelude.{◌≡◌, ◌≤◌, length, Option, Some, IfOk, IfErr};
 ghost use Rattle.ll_edge.specs.Counts.{Rose};
-ghost use Rattle.ll_edge.specs.Log.{ShelfKept, Fits, Met, NoText, Unreadable};
+ghost use Rattle.ll_edge.specs.Log.{ShelfKept, ToldFits, Met, NoText, Unreadable};
 ghost use Rattle.ll_edge.specs.Texts.{Texts};
 ghost use Rattle.ll_parser.specs.Printed.{program_text};
 ghost use Rattle.ll_top.specs.declared.texts.refusing.Refusal.TheVariants.{OutOfMemory};
@@ -24,7 +24,7 @@ pub fn serve_print<F: Shelf, O: Sink>(alloc: Global, name: &str, shelf: &mut F, 
     ensures sink_faults_kept { O.faults sink.old ≤ O.faults sink.new }
     ensures faults_told { StatusTold F.faults F.absences O.faults shelf.old shelf.new sink.old sink.new result }
 
-    ensures ends { (told : Option Texts) → Fits told (F.log shelf.old) (F.log shelf.new)
+    ensures ends { (told : Option Texts) → ToldFits told (F.log shelf.old) (F.log shelf.new)
         → Ends (PrintComesTo told (Met F.absences F.log shelf.old shelf.new NoText)
         (Met F.faults F.log shelf.old shelf.new Unreadable) name.now) (Rose (O.faults sink.old) (O.faults sink.new))
         (Some (O.taken sink.old)) (Some (O.taken sink.new)) result }
@@ -49,9 +49,10 @@ fn print_program<F: Shelf, O: Sink>(
     ensures shelf_told { ShelfTold F.faults F.absences shelf.old shelf.new result }
     ensures sink_told { SinkTold (O.faults sink.old) (O.faults sink.new) result }
 
-    ensures ends { (told : Option Texts) → Fits told (F.log shelf.old) (F.log shelf.new)
-        → PrintEnds told (Met F.absences F.log shelf.old shelf.new NoText) (Met F.faults F.log shelf.old shelf.new Unreadable)
-        (Rose (O.faults sink.old) (O.faults sink.new)) name.now (Some (O.taken sink.old)) (Some (O.taken sink.new)) result }
+    ensures ends { (told : Option Texts) → ToldFits told (F.log shelf.old) (F.log shelf.new)
+        → PrintEnds told (Met F.absences F.log shelf.old shelf.new NoText)
+        (Met F.faults F.log shelf.old shelf.new Unreadable) (Rose (O.faults sink.old) (O.faults sink.new)) name.now
+        (Some (O.taken sink.old)) (Some (O.taken sink.new)) result }
 {
     let bytes = printed(alloc, name, shelf)?;
     write_all(sink, &bytes)?;
@@ -64,9 +65,10 @@ fn printed<F: Shelf>(alloc: Global, name: &str, shelf: &mut F) -> Result<Vec<u8>
     ensures shelf_told { ShelfTold F.faults F.absences shelf.old shelf.new result }
 
     ensures bytes { IfOk result (λ bytes. (told : Option Texts)
-        → Fits told (F.log shelf.old) (F.log shelf.new) → IsPrintedAs told name.now bytes.items) }
-    ensures refused { IfErr result (λ refusal. (told : Option Texts) → Fits told (F.log shelf.old) (F.log shelf.new)
-        → IsNotPrinted told (Met F.absences F.log shelf.old shelf.new NoText) (Met F.faults F.log shelf.old shelf.new Unreadable) name.now refusal) }
+        → ToldFits told (F.log shelf.old) (F.log shelf.new) → IsPrintedAs told name.now bytes.items) }
+    ensures refused { IfErr result (λ refusal. (told : Option Texts) → ToldFits told (F.log shelf.old) (F.log shelf.new)
+        → IsNotPrinted told (Met F.absences F.log shelf.old shelf.new NoText)
+        (Met F.faults F.log shelf.old shelf.new Unreadable) name.now refusal) }
 {
     let text = read(alloc, shelf, name, Role::Program)?;
     printed_text(alloc, &text)

@@ -3,9 +3,9 @@ use Rattle.std.specs.Prelude.{Some, None}
 use Rattle.ll_bank.specs.Nodes.{term_trees}
 use Rattle.ll_bank.proofs.CallerLemmas.{Extends-refl}
 use Rattle.ll_laws.specs.Unify.{mgu}
-use Rattle.ll_bindings.specs.Bindings.{count}
-use Rattle.ll_equate.specs.Solving.{IsAnswer, IsSolved, wanted}
-use Rattle.ll_copy.specs.Copied.{AreFinal}
+use Rattle.ll_unify.specs.Bindings.{count}
+use Rattle.ll_unify.specs.Solving.{IsAnswer, IsSolved, wanted}
+use Rattle.ll_unify.specs.Copied.{AreFinal}
 use Rattle.ll_unify.specs.declared.Subst.{Subst}
 use Rattle.ll_unify.specs.Tables.{table_of}
 use Rattle.ll_unify.specs.Unifies.{solved_of}

@@ -4,10 +4,10 @@ use Rattle.std.proofs.lemmas.Result.{IfOk-weaker}
 use Rattle.ll_bank.specs.Term.{Term, close}
 use Rattle.ll_bank.specs.Nodes.{term_tree}
 use Rattle.ll_bank.proofs.CallerLemmas.{term_tree-extends}
-use Rattle.ll_close.specs.Closing.{env_of}
-use Rattle.ll_equate.specs.Fresh.{AreFresh, LeavesFresh}
-use Rattle.ll_equate.specs.Solving.{Settles}
-use Rattle.ll_bindings.proofs.CallerLemmas.{table-extends}
+use Rattle.ll_bank.specs.Closing.{env_of}
+use Rattle.ll_unify.specs.Fresh.{AreFresh, LeavesFresh}
+use Rattle.ll_unify.specs.Solving.{Settles}
+use Rattle.ll_unify.proofs.CallerLemmas.{table-extends}
 use Rattle.ll_store.specs.declared.store.Store.{Store}
 use Rattle.ll_store.specs.Tables.{table_of}
 use Rattle.ll_bind.proofs.Heads.{place_made, end_more, fresh_more, marks_more}

@@ -3,7 +3,7 @@ use Rattle.ll_bank.specs.declared.At.{At}
 use Rattle.ll_bank.specs.declared.Head.{Head}
 use Rattle.ll_bank.specs.Term.{close_head}
 use Rattle.ll_bank.specs.Nodes.{ShowsTerm}
-use Rattle.ll_close.specs.Closing.{env_of}
+use Rattle.ll_bank.specs.Closing.{env_of}
 use Rattle.ll_bind.proofs.Heads.{value_shows}
 use Rattle.ll_bind.proofs.head.value.Goals as goal
 

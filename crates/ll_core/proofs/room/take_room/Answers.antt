@@ -6,7 +6,7 @@ use Rattle.std.specs.Prelude.{OnOk, OnErr, is_ok}
 use Rattle.std.specs.declared.result.Result.{Result}
 use Rattle.std.specs.declared.result.Result.TheVariants.{Ok, Err}
 use Rattle.std.specs.Vec.{vec_len, vec_capacity}
-use Rattle.ll_lists.proofs.CallerLemmas.{OnErr-always}
+use Rattle.ll_list_laws.proofs.CallerLemmas.{OnErr-always}
 use Rattle.ll_core.specs.declared.room.Slot.{Slot}
 use Rattle.ll_core.specs.Slots.{piece_in, status_in}
 use Rattle.ll_core.proofs.sound.Forming.{slot_kept}

@@ -6,7 +6,7 @@ use Rattle.std.specs.BTreeMap.{is_at}
 use Rattle.std.specs.BTreeSet.{contains}
 use Rattle.ll_bank.specs.Nodes.{places}
 use Rattle.ll_bank.proofs.CallerLemmas.{below_places}
-use Rattle.ll_terms.proofs.CallerLemmas.{inserted, ceiling_falls, removed_other, removed_less}
+use Rattle.ll_bank.proofs.CallerLemmas.{inserted, ceiling_falls, removed_other, removed_less}
 use Rattle.ll_cover.proofs.Closes.{closing-begins, closing-on, closing-stops}
 use Rattle.ll_cover.proofs.closing.is_closed.Goals as goal
 

@@ -1,6 +1,6 @@
 use Rattle.std.specs.Ordering.{nat_cmp}
 use Rattle.std.specs.BTreeSet.{contains}
-use Rattle.ll_terms.proofs.CallerLemmas.{ceiling}
+use Rattle.ll_bank.proofs.CallerLemmas.{ceiling}
 use Rattle.ll_cover.specs.Closing.{IsClosedBy}
 use Rattle.ll_cover.proofs.closing.is_closed.Given as goal
 

@@ -1,6 +1,6 @@
 use Rattle.std.specs.BTreeMap.{keys}
 use Rattle.ll_bank.specs.Nodes.{term_trees}
-use Rattle.ll_terms.proofs.CallerLemmas.{ceiling}
+use Rattle.ll_bank.proofs.CallerLemmas.{ceiling}
 use Rattle.ll_cover.specs.Matching.{IsMatching}
 use Rattle.ll_cover.proofs.matching.instance.Given as goal
 

@@ -10,9 +10,6 @@ returns-in_default-clause-given g c = _
 pub returns-in_default-clause-counts : goal.returns-in_default-clause-counts
 returns-in_default-clause-counts g c = _
 
-pub give_until-requires-clause-workers : goal.give_until-requires-clause-workers
-give_until-requires-clause-workers g c κs within = c.requires.workers
-
 pub give_until-requires-clause-valid : goal.give_until-requires-clause-valid
 give_until-requires-clause-valid g c κs within = c.requires.valid
 

@@ -91,9 +91,6 @@ returns-in-Err-2-clause-given g c = _
 pub returns-in-Err-2-clause-counts : goal.returns-in-Err-2-clause-counts
 returns-in-Err-2-clause-counts g c = _
 
-pub crew_by-requires-clause-workers : goal.crew_by-requires-clause-workers
-crew_by-requires-clause-workers g c κs within = c.requires.workers
-
 pub crew_by-requires-clause-valid : goal.crew_by-requires-clause-valid
 crew_by-requires-clause-valid g c κs within = c.requires.valid
 

@@ -2,7 +2,7 @@ use Rattle.std.specs.Prelude.{map, IsSome, IsNone}
 use Rattle.std.proofs.Common.{◌∙◌, refl, sym, arith, rules, subst}
 use Rattle.std.proofs.lemmas.Bool.{true≢false}
 use Rattle.std.proofs.lemmas.Result.{IfOk-from_err}
-use Rattle.ll_lists.proofs.CallerLemmas.{OnErr-always}
+use Rattle.ll_list_laws.proofs.CallerLemmas.{OnErr-always}
 use Rattle.ll_crew.specs.Leading.{WasRefused}
 use Rattle.ll_crew.proofs.Calms.{same_itself, seat_on}
 use Rattle.ll_crew.proofs.Claiming.{goes_stays, stays_out}

@@ -2,7 +2,7 @@ use Rattle.std.proofs.Common.{◌≡◌, ◌<◌, length, ap, ◌∙◌, arith, 
 use Rattle.std.specs.Prelude.{slice_get, map}
 use Rattle.std.specs.Arc.{arc_value}
 use Rattle.std.proofs.lemmas.Result.{IfOk-from_err}
-use Rattle.ll_lists.proofs.CallerLemmas.{OnErr-always}
+use Rattle.ll_list_laws.proofs.CallerLemmas.{OnErr-always}
 use Rattle.ll_freeze.specs.Frozen.{FrozenSight, alternatives_in}
 use Rattle.ll_crew.proofs.Calms.{seat_on}
 use Rattle.ll_crew.proofs.Claiming.{stays_on, stays_out, goes_stays}

@@ -1,6 +1,6 @@
 use Rattle.std.proofs.lemmas.Result.{IfOk-from_err}
 use Rattle.std.proofs.Common.{subst, sym}
-use Rattle.ll_lists.proofs.CallerLemmas.{OnOk-weaker}
+use Rattle.ll_list_laws.proofs.CallerLemmas.{OnOk-weaker}
 use Rattle.ll_crew.specs.Pieces.{IsKeptOf}
 use Rattle.ll_crew.proofs.piece.run_claimed.Goals as goal
 

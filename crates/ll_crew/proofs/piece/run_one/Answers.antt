@@ -2,12 +2,12 @@ use Rattle.std.specs.Prelude.{map, slice_get, IfSome, IfNone}
 use Rattle.std.proofs.Common.{◌≡◌, ℕ, ◌∙◌, subst, sym, refl, true, false, Option, Some, None}
 use Rattle.std.proofs.lemmas.Result.{IfOk-from_err}
 use Rattle.std.specs.Arc.{arc_value}
-use Rattle.ll_lists.proofs.CallerLemmas.{OnOk-weaker, OnErr-always}
+use Rattle.ll_list_laws.proofs.CallerLemmas.{OnOk-weaker, OnErr-always}
 use Rattle.ll_laws.specs.declared.Event.{Event}
 use Rattle.ll_laws.specs.Pool.{Owed}
 use Rattle.ll_freeze.specs.Frozen.{alternatives_in}
 use Rattle.ll_crew.specs.Leading.{WasRefused}
-use Rattle.ll_crew.specs.Turns.{Leaves}
+use Rattle.ll_crew.specs.Turns.{LeavesPool}
 use Rattle.ll_crew.specs.Pieces.{IsKeptOf}
 use Rattle.ll_crew.specs.Runs.{RunsOne}
 use Rattle.ll_crew.proofs.Claiming.{stays_here}
@@ -57,7 +57,7 @@ pub returns-clause-none : goal.returns-clause-none
 returns-clause-none g c =
     let alone = c.run_alone-done.ensures in let chosen = c.choose.ensures in
     chosen_holds
-    (λ (x : Option ℕ). IfNone x (Leaves
+    (λ (x : Option ℕ). IfNone x (LeavesPool
     (Stopping g.O.Outlet c.args.job.now c.run_alone-done.new.worker c.run_alone-done.new.out) (WasRefused c.run_alone-done.new.worker.told.now)
     c.args.worker.now.seat.now
     c.run_alone-done.new.worker.seat.now))

@@ -2,7 +2,7 @@ use Rattle.std.proofs.lemmas.Result.{IfOk-from_err}
 use Rattle.std.specs.Prelude.{map}
 use Rattle.std.proofs.Common.{ap, ◌∙◌, refl, true, false, subst, sym}
 use Rattle.std.specs.Arc.{arc_value}
-use Rattle.ll_lists.proofs.CallerLemmas.{OnOk-weaker, OnErr-weaker}
+use Rattle.ll_list_laws.proofs.CallerLemmas.{OnOk-weaker, OnErr-weaker}
 use Rattle.ll_laws.specs.Search.{cut_count}
 use Rattle.ll_freeze.specs.Frozen.{alternatives_in}
 use Rattle.ll_crew.specs.Leading.{WasRefused}

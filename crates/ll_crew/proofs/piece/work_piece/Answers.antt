@@ -1,7 +1,7 @@
 use Rattle.std.proofs.Common.{◌∙◌, sym}
 use Rattle.std.proofs.lemmas.Bool.{true≢false}
 use Rattle.std.proofs.lemmas.Result.{IfOk-from_err}
-use Rattle.ll_lists.proofs.CallerLemmas.{OnErr-always}
+use Rattle.ll_list_laws.proofs.CallerLemmas.{OnErr-always}
 use Rattle.ll_crew.specs.Leading.{WasRefused}
 use Rattle.ll_crew.proofs.Claiming.{stays_here, stays_on, stays_out}
 use Rattle.ll_crew.proofs.Holding.{holds_itself}

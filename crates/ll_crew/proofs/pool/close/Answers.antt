@@ -1,6 +1,6 @@
 use Rattle.std.proofs.Common.{subst}
 use Rattle.ll_core.proofs.CallerLemmas.{every_more}
-use Rattle.ll_pool.specs.Fits.{Fits}
+use Rattle.ll_pool.specs.Fits.{SeatFits}
 use Rattle.ll_freeze.specs.Frozen.{alternatives_in}
 use Rattle.ll_crew.specs.Seats.{Sat, of_batch}
 use Rattle.ll_crew.specs.Crews.{IsBack, MayJoin}
@@ -12,4 +12,4 @@ join_all-requires-clause-others g c κs within =
     (every_more (IsBack c.args.pool) (MayJoin c.args.pool) c.args.others.items (λ s back. (back.table, back.done)) others.0, others.1)
 
 pub returns : goal.returns
-returns g c = subst (λ (s : Sat). Fits of_batch alternatives_in c.close.result s.problem s.mine) c.join_all.ensures c.close.ensures
+returns g c = subst (λ (s : Sat). SeatFits of_batch alternatives_in c.close.result s.problem s.mine) c.join_all.ensures c.close.ensures

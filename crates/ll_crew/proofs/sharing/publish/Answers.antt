@@ -9,8 +9,8 @@ use Rattle.ll_pool.specs.Turns.{EndsWith}
 use Rattle.ll_crew.specs.Seats.{IsSeat}
 use Rattle.ll_crew.proofs.sharing.publish.Goals as goal
 
-pub returns-in-Apart-clause-calm : goal.returns-in-Apart-clause-calm
-returns-in-Apart-clause-calm g c = calm_itself c.args.seat.now
+pub returns-then-gives_back-clause-calm : goal.returns-then-gives_back-clause-calm
+returns-then-gives_back-clause-calm g c = calm_itself c.args.seat.now
 
 pub returns-in_err-choice-clause-calm : goal.returns-in_err-choice-clause-calm
 returns-in_err-choice-clause-calm g c = calm_itself c.args.seat.now
@@ -24,14 +24,14 @@ returns-in_err-choice-clause-back g c = IfOk-from_err c.from_residual.result _ c
 pub returns-in_err-choice-clause-back_only : goal.returns-in_err-choice-clause-back_only
 returns-in_err-choice-clause-back_only g c = IfOk-from_err c.from_residual.result _ c.from_residual.ensures.0
 
-pub returns-in-Apart-clause-rest : goal.returns-in-Apart-clause-rest
-returns-in-Apart-clause-rest g c = _
+pub returns-then-gives_back-clause-rest : goal.returns-then-gives_back-clause-rest
+returns-then-gives_back-clause-rest g c = _
 
-pub returns-in-Apart-clause-back : goal.returns-in-Apart-clause-back
-returns-in-Apart-clause-back g c = (c.in_ok-choice.ensures, refl)
+pub returns-then-gives_back-clause-back : goal.returns-then-gives_back-clause-back
+returns-then-gives_back-clause-back g c = (c.in_ok-choice.ensures, refl)
 
-pub returns-in-Apart-clause-back_only : goal.returns-in-Apart-clause-back_only
-returns-in-Apart-clause-back_only g c = inl c.in-Apart.is
+pub returns-then-gives_back-clause-back_only : goal.returns-then-gives_back-clause-back_only
+returns-then-gives_back-clause-back_only g c = inl (c.gives_back.ensures c.if-gives_back.true)
 
 pub returns-in-Ok-true : goal.returns-in-Ok-true
 returns-in-Ok-true g c = record {

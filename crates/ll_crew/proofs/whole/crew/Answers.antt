@@ -6,9 +6,6 @@ returns-in_default-clause-given g c = _
 pub returns-in_default-clause-counts : goal.returns-in_default-clause-counts
 returns-in_default-clause-counts g c = _
 
-pub crew_by-requires-clause-workers : goal.crew_by-requires-clause-workers
-crew_by-requires-clause-workers g c κs within = c.requires.workers
-
 pub crew_by-requires-clause-valid : goal.crew_by-requires-clause-valid
 crew_by-requires-clause-valid g c κs within = c.requires.valid
 

@@ -10,7 +10,7 @@ search-requires-clause-leads g c κs within =
     subst (λ p. Leads g.O.Outlet c.args.out.now c.args.problem.now p c.args.out.now
     (record { answers = 0; reached = 0; inferences = 0 })) (sym s.1)
     (leads_first g.O.Outlet c.args.out.now c.args.problem.now
-    (opening c.args.problem.now s.0) c.args.workers
+    (opening c.args.problem.now s.0) c.args.team.now.workers
     (record { answers = 0; reached = 0; inferences = 0 }) refl refl refl refl refl c.requires.welcome)
 
 pub returns-in-Err-clause-given : goal.returns-in-Err-clause-given
@@ -32,7 +32,7 @@ pub search_alone-requires-clause-welcome : goal.search_alone-requires-clause-wel
 search_alone-requires-clause-welcome g c κs within = c.requires.welcome
 
 pub crew_of-requires-clause-workers : goal.crew_of-requires-clause-workers
-crew_of-requires-clause-workers g c κs within = c.requires.workers
+crew_of-requires-clause-workers g c κs within = c.args.team.now.few
 
 pub crew_of-requires-clause-valid : goal.crew_of-requires-clause-valid
 crew_of-requires-clause-valid g c κs within = c.requires.valid

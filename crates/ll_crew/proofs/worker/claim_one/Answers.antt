@@ -1,11 +1,12 @@
 use Rattle.std.proofs.Common.{◌∙◌, refl, arith}
 use Rattle.std.proofs.lemmas.Result.{IfOk-from_err}
-use Rattle.ll_lists.proofs.CallerLemmas.{OnErr-always}
+use Rattle.std.specs.Arc.{arc_value}
+use Rattle.ll_list_laws.proofs.CallerLemmas.{OnErr-always}
 use Rattle.ll_core.specs.declared.answers.Claimed.TheVariants as claims
 use Rattle.ll_crew.specs.Leading.{Stands, Stopped, WasRefused}
 use Rattle.ll_freeze.specs.Frozen.{alternatives_in}
 use Rattle.ll_crew.specs.Seats.{of_batch}
-use Rattle.ll_crew.proofs.Calms.{turn_counted, seat_on, calm_claim}
+use Rattle.ll_crew.proofs.Calms.{turn_counted, seat_on, calm_claim, found_sound}
 use Rattle.ll_crew.proofs.Goings.{stays_goes}
 use Rattle.ll_crew.proofs.Claiming.{stays_on, stays_out}
 use Rattle.ll_crew.proofs.Claiming.{claim_stands, claim_stays, claim_ended, claim_starved, claim_stopped}
@@ -194,3 +195,10 @@ pub returns-then-tell-clause-turns : goal.returns-then-tell-clause-turns
 returns-then-tell-clause-turns g c =
     let n = turn_counted of_batch alternatives_in _ c.args.worker.now.seat.now c.claim.new.seat c.in-Idle.ensures.turn in
     let told = c.tell.ensures.turns in omega arith
+
+pub work_piece-requires-clause-of : goal.work_piece-requires-clause-of
+work_piece-requires-clause-of g c κs within =
+    let can = c.requires.seat in let seat = can.seat in
+    let turn = c.in-Work.ensures.turn in
+    let sound = found_sound _ c.args.worker.now.seat.now c.claim.new.seat turn c.args.job.now.problem.now seat.problem in
+    sound.alike turn.changed.0 (arc_value c.in-Work.batch) turn.changed.1

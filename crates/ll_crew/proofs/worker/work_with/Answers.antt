@@ -1,9 +1,9 @@
 use Rattle.std.proofs.Common.{sym}
 use Rattle.std.proofs.lemmas.Bool.{true≢false}
 use Rattle.std.proofs.lemmas.Result.{IfOk-from_err}
-use Rattle.ll_lists.proofs.CallerLemmas.{OnErr-always}
+use Rattle.ll_list_laws.proofs.CallerLemmas.{OnErr-always}
 use Rattle.ll_crew.specs.Leading.{WasRefused}
-use Rattle.ll_crew.specs.declared.worker.Went.TheVariants as went
+use Rattle.ll_crew.specs.declared.worker.ClaimOutcome.TheVariants as went
 use Rattle.ll_crew.proofs.Calms.{seat_on}
 use Rattle.ll_crew.proofs.Claiming.{stays_on, stays_out, ended_on}
 use Rattle.ll_crew.specs.Workers.{Standing, Stopping}

@@ -5,7 +5,7 @@ use Rattle.ll_bank.specs.Term.{sub}
 use Rattle.ll_bank.specs.Nodes.{term_tree}
 use Rattle.ll_laws.specs.declared.Event.{Event}
 use Rattle.ll_laws.specs.declared.Event.TheVariants.{Answer}
-use Rattle.ll_bindings.specs.Bindings.{IsPlaceOf}
+use Rattle.ll_unify.specs.Bindings.{IsPlaceOf}
 use Rattle.ll_freeze.specs.Parts.{parts_of, table}
 use Rattle.ll_freeze.specs.Reading.{reading}
 use Rattle.ll_engine.proofs.machine.ReadLemmas.{fits_table}

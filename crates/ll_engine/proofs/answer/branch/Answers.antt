@@ -1,12 +1,12 @@
 use Rattle.std.proofs.lemmas.Result.{IfOk-from_err}
 use Rattle.std.proofs.Common.{◌≡◌, sym, subst, refl, ◌∙◌, List, map}
 use Rattle.std.specs.Prelude.{All}
-use Rattle.ll_lists.proofs.CallerLemmas.{IfOk-each}
+use Rattle.ll_list_laws.proofs.CallerLemmas.{IfOk-each}
 use Rattle.ll_bank.specs.declared.At.{At}
 use Rattle.ll_bank.specs.Term.{sub}
 use Rattle.ll_bank.specs.Nodes.{Nodes, AllInTerms, term_trees}
 use Rattle.ll_bank.proofs.CallerLemmas.{cut_same}
-use Rattle.ll_bindings.specs.Bindings.{IsPlaceOf}
+use Rattle.ll_unify.specs.Bindings.{IsPlaceOf}
 use Rattle.ll_freeze.specs.Parts.{parts_of, table}
 use Rattle.ll_freeze.proofs.CallerLemmas.{trees_read}
 use Rattle.ll_freeze.specs.Reading.{reading}

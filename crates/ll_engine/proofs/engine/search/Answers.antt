@@ -1,31 +1,31 @@
 use Rattle.std.proofs.Common.{rules, sym, subst, ◌∙◌}
 use Rattle.std.proofs.lemmas.Result.{IfOk-from_err}
-use Rattle.ll_engine.specs.Pointed.{spine_of, IsSound}
+use Rattle.ll_engine.specs.Pointed.{choices_of, IsSound}
 use Rattle.ll_engine.proofs.turns.Turns.{turned_fails, turned_over, turned_answer, turned_reached, turned_expand}
 use Rattle.ll_engine.proofs.engine.search.Goals as goal
 
 pub returns-then-not-branch-clause-turned : goal.returns-then-not-branch-clause-turned
 returns-then-not-branch-clause-turned c =
-    turned_fails (spine_of c.args.spine.now) (spine_of c.settle.new.self) c.in_ok-settle.field-0 c.if-not-branch.true c.in_ok-settle.ensures.settles
+    turned_fails (choices_of c.args.choices.now) (choices_of c.settle.new.self) c.in_ok-settle.field-0 c.if-not-branch.true c.in_ok-settle.ensures.settles
 
 pub returns-then-is_empty-clause-turned : goal.returns-then-is_empty-clause-turned
 returns-then-is_empty-clause-turned c =
-    turned_over (spine_of c.args.spine.now) (spine_of c.settle.new.self) c.in_ok-settle.field-0 c.if-not-branch.false c.in_ok-settle.ensures.settles
+    turned_over (choices_of c.args.choices.now) (choices_of c.settle.new.self) c.in_ok-settle.field-0 c.if-not-branch.false c.in_ok-settle.ensures.settles
     (search rules) (search rules)
 
 pub returns-then-left-eq0-clause-turned : goal.returns-then-left-eq0-clause-turned
 returns-then-left-eq0-clause-turned c =
-    turned_reached (spine_of c.args.spine.now) (spine_of c.settle.new.self) c.in_ok-settle.field-0 c.if-not-branch.false c.in_ok-settle.ensures.settles
+    turned_reached (choices_of c.args.choices.now) (choices_of c.settle.new.self) c.in_ok-settle.field-0 c.if-not-branch.false c.in_ok-settle.ensures.settles
     (search rules) (search rules)
 
 pub returns-then-answers-clause-turned : goal.returns-then-answers-clause-turned
 returns-then-answers-clause-turned c =
-    turned_answer (spine_of c.args.spine.now) (spine_of c.settle.new.self) c.in_ok-settle.field-0 c.if-not-branch.false c.in_ok-settle.ensures.settles
+    turned_answer (choices_of c.args.choices.now) (choices_of c.settle.new.self) c.in_ok-settle.field-0 c.if-not-branch.false c.in_ok-settle.ensures.settles
     (search rules) (search rules)
 
 pub returns-clause-turned : goal.returns-clause-turned
 returns-clause-turned c =
-    turned_expand (spine_of c.args.spine.now) (spine_of c.settle.new.self) (spine_of c.expand.new.self) c.in_ok-running.running c.in_ok-settle.field-0
+    turned_expand (choices_of c.args.choices.now) (choices_of c.settle.new.self) (choices_of c.expand.new.self) c.in_ok-running.running c.in_ok-settle.field-0
     c.if-not-branch.false c.in_ok-settle.ensures.settles (sym c.is_empty.ensures ∙ c.if-is_empty.false)
     c.in_ok-running.ensures.expands
 

@@ -3,10 +3,10 @@ use Rattle.ll_engine.specs.Pointed.{IsSound}
 use Rattle.ll_engine.proofs.engine.turn.Goals as goal
 
 pub search-requires : goal.search-requires
-search-requires c = record { sound = subst (λ r. IsSound r c.args.spine.now) c.if-running.true c.requires.sound }
+search-requires c = record { sound = subst (λ r. IsSound r c.args.choices.now) c.if-running.true c.requires.sound }
 
 pub go_back-requires-clause-sound : goal.go_back-requires-clause-sound
-go_back-requires-clause-sound c = subst (λ r. IsSound r c.args.spine.now) c.if-running.false c.requires.sound
+go_back-requires-clause-sound c = subst (λ r. IsSound r c.args.choices.now) c.if-running.false c.requires.sound
 
 pub go_back-requires-clause-points : goal.go_back-requires-clause-points
 go_back-requires-clause-points c = c.requires.points c.if-running.false

@@ -2,7 +2,7 @@ use Rattle.std.proofs.Common.{rules, ◌≡◌, ◌<◌, length, subst}
 use Rattle.std.specs.Prelude.{IfOk}
 use Rattle.ll_store.specs.Tables.{table_of}
 use Rattle.ll_bank.specs.Nodes.{term_tree}
-use Rattle.ll_bindings.specs.Bindings.{found}
+use Rattle.ll_unify.specs.Bindings.{found}
 use Rattle.ll_index.specs.declared.laws.First.{First}
 use Rattle.ll_engine.proofs.matching.SignLemmas.{first_at_place, first_at}
 use Rattle.ll_engine.proofs.heads.first_under.Goals as goal

@@ -5,7 +5,7 @@ use Rattle.ll_bank.specs.Nodes.{Nodes, Extends}
 use Rattle.ll_bank.proofs.CallerLemmas.{Extends-trans}
 use Rattle.ll_laws.specs.Problem.{ProblemTree}
 use Rattle.ll_agenda.specs.Frames.{items_at}
-use Rattle.ll_bindings.specs.Bindings.{IsOrdered}
+use Rattle.ll_unify.specs.Bindings.{IsOrdered}
 use Rattle.ll_store.specs.Tables.{table_of}
 use Rattle.ll_freeze.specs.declared.machine.Machine.{Machine}
 use Rattle.ll_freeze.specs.Parts.{Parts, parts_of}

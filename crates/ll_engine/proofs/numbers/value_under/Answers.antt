@@ -2,7 +2,7 @@ use Rattle.std.proofs.Common.{◌≡◌, ℕ, zero, suc, ◌<◌, List, [], ◌�
 use Rattle.ll_bank.specs.Term.{Term}
 use Rattle.ll_bank.specs.Nodes.{Nodes, term_tree, term_trees, HasTerm}
 use Rattle.ll_bank.specs.declared.At.{At}
-use Rattle.ll_bindings.specs.Bindings.{IsPlaceOf}
+use Rattle.ll_unify.specs.Bindings.{IsPlaceOf}
 use Rattle.ll_store.specs.Tables.{table_of}
 use Rattle.ll_laws.specs.Number.{operators_of, value_of}
 use Rattle.std.proofs.lemmas.Result.{IfOk-from_err}

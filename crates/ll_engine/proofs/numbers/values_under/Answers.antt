@@ -1,8 +1,8 @@
 use Rattle.std.proofs.Common.{rules, w64, FitsSigned, ap, sym, subst, ◌∙◌}
 use Rattle.std.proofs.lemmas.Result.{IfOk-from_err}
 use Rattle.ll_bank.proofs.CallerLemmas.{Extends-trans}
-use Rattle.ll_bindings.specs.Bindings.{Table, IsTable, IsPlaceOf}
-use Rattle.ll_bindings.proofs.CallerLemmas.{table-extends, place-extends}
+use Rattle.ll_unify.specs.Bindings.{Table, IsTable, IsPlaceOf}
+use Rattle.ll_unify.proofs.CallerLemmas.{table-extends, place-extends}
 use Rattle.ll_store.specs.Tables.{table_of}
 use Rattle.ll_laws.specs.Number.{operators_of, value_of}
 use Rattle.ll_freeze.specs.Reading.{read_term}

@@ -18,7 +18,7 @@ pub returns : goal.returns
 returns c =
     let m = c.args.machine.now in let new = c.go_on.new.machine in let n = length (parts_of m).levels in
     let fresh : Store = c.fresh.new.self in
-    let store : Store = record fresh { bank = c.instantiate.new.bank } in
+    let store : Store = record fresh { bank = c.instantiate.new.self } in
     let mid : Machine = record m { store = store; terms = c.push.new.self } in
     let go = c.in_ok-go_on.ensures.goes in
     let cells = c.in_ok-number.ensures.cells in
@@ -33,7 +33,7 @@ returns c =
             opens_shown (parts_of m) (parts_of mid) (parts_of new) refl refl refl refl refl c.in_ok-goal.goal
             (instantiate (form_tree m.store.bank c.args.body.0) (Var n)) (items_at m.agenda c.args.rest)
             (Extends-trans grows c.in_ok-goal.ensures.keeps)
-            (body_shown m.store.bank c.var.new.self c.instantiate.new.bank c.args.body.0 c.in_ok-goal.goal.0 c.in_ok-value.value.0 (Var n) grows c.requires.body
+            (body_shown m.store.bank c.var.new.self c.instantiate.new.self c.args.body.0 c.in_ok-goal.goal.0 c.in_ok-value.value.0 (Var n) grows c.requires.body
             v
             c.in_ok-goal.ensures.shows) go;
         bound = ap (λ (x : Parts). x.bound) go.same ∙ (ap (λ cs. map (λ (d : Cell). d.to) cs) cells ∙ map-append (λ (d : Cell). d.to) m.store.cells.cells _);
@@ -42,7 +42,7 @@ returns c =
         value = c.in_ok-value.value;
         shows =
             subst (λ (b : Nodes). ShowsTerm b c.in_ok-value.value.0 (Var n)) (sym (ap (λ (x : Parts). x.bank) go.same))
-            (value_shown c.var.new.self c.instantiate.new.bank c.in_ok-value.value.0 (Var n) c.in_ok-goal.ensures.keeps v);
+            (value_shown c.var.new.self c.instantiate.new.self c.in_ok-value.value.0 (Var n) c.in_ok-goal.ensures.keeps v);
         terms = ap (λ (x : Parts). x.terms) go.same ∙ c.in_ok-push.ensures.items;
         eigens = ap (λ (x : Parts). x.eigens) go.same;
       };

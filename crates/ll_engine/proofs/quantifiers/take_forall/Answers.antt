@@ -17,7 +17,7 @@ use Rattle.ll_engine.proofs.quantifiers.take_forall.Goals as goal
 pub returns : goal.returns
 returns c =
     let m = c.args.machine.now in let new = c.go_on.new.machine in let e = m.eigens in
-    let store : Store = record (m.store) { bank = c.instantiate.new.bank } in
+    let store : Store = record (m.store) { bank = c.instantiate.new.self } in
     let mid : Machine = record m { store = store; eigens = e + 1 } in
     let go = c.in_ok-go_on.ensures.goes in let keeps = Extends-trans c.in_ok-value.ensures.keeps c.in_ok-goal.ensures.keeps in
     record {
@@ -26,7 +26,7 @@ returns c =
             opens_shown (parts_of m) (parts_of mid) (parts_of new) refl refl refl refl refl c.in_ok-goal.goal
             (instantiate (form_tree m.store.bank c.args.body.0) (Con (Eigen e))) (items_at m.agenda c.args.rest)
             keeps
-            (body_shown m.store.bank c.app.new.self c.instantiate.new.bank c.args.body.0 c.in_ok-goal.goal.0 c.in_ok-value.value.0 (Con (Eigen e))
+            (body_shown m.store.bank c.app.new.self c.instantiate.new.self c.args.body.0 c.in_ok-goal.goal.0 c.in_ok-value.value.0 (Con (Eigen e))
             c.in_ok-value.ensures.keeps c.requires.body
             c.in_ok-value.ensures.shows c.in_ok-goal.ensures.shows) go;
         bound = ap (λ (x : Parts). x.bound) go.same;

@@ -1,9 +1,9 @@
 use Rattle.std.proofs.Common.{◌≡◌, ap, sym, ◌∙◌, [], ◌∷◌, false, reverse, ◌+◌}
 use Rattle.std.proofs.lemmas.List.Elements.{All-head}
-use Rattle.ll_lists.proofs.CallerLemmas.{IfOk-each}
+use Rattle.ll_list_laws.proofs.CallerLemmas.{IfOk-each}
 use Rattle.ll_freeze.specs.Frozen.{sight_of}
 use Rattle.ll_freeze.specs.Parts.{parts_at, IsBefore}
-use Rattle.ll_engine.specs.declared.spine.Kept.{Kept}
+use Rattle.ll_engine.specs.declared.choices.ChoicePoint.{ChoicePoint}
 use Rattle.ll_engine.proofs.machine.Basing.{based_some}
 use Rattle.ll_engine.proofs.turns.Splitting.{reversed_tries, sight_depth}
 use Rattle.ll_engine.proofs.split.frozen.Goals as goal
@@ -31,7 +31,7 @@ onto-requires-clause-base c =
 pub onto-requires-clause-order : goal.onto-requires-clause-order
 onto-requires-clause-order c =
     let b = (based_some c.args.machine.now (c.args.kept ∷ []) c.args.ancestor.now c.in-Some.ancestor c.in-Some.is c.requires.based).0.before in
-    (All-head (λ (k : Kept). IsBefore c.in-Some.ancestor.base k.mark) c.args.kept [] b).store
+    (All-head (λ (k : ChoicePoint). IsBefore c.in-Some.ancestor.base k.mark) c.args.kept [] b).store
 
 pub returns : goal.returns
 returns c =

@@ -1,7 +1,7 @@
 use Rattle.std.proofs.lemmas.Result.{IfOk-from_err}
 use Rattle.ll_bank.specs.Term.{close}
 use Rattle.ll_bank.specs.Nodes.{term_tree}
-use Rattle.ll_close.specs.Closing.{env_of}
+use Rattle.ll_bank.specs.Closing.{env_of}
 use Rattle.ll_store.specs.Tables.{table_of}
 use Rattle.ll_engine.proofs.inferences.UnifyLemmas.{unifies}
 use Rattle.ll_engine.proofs.take.unify_leaf.Goals as goal

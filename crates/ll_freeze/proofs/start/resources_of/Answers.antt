@@ -1,7 +1,7 @@
 use Rattle.std.proofs.Common.{ℕ, ◌+◌, ◌-◌, ◌<◌, sym, ap, ◌∙◌, [], ◌∷◌, ◌++◌, List, map, arith}
 use Rattle.std.proofs.Math.ListN.{get_or}
 use Rattle.std.proofs.lemmas.List.{map_more, take_all}
-use Rattle.ll_lists.proofs.CallerLemmas.{fewer_left}
+use Rattle.ll_list_laws.proofs.CallerLemmas.{fewer_left}
 use Rattle.ll_bank.specs.declared.FormAt.{FormAt}
 use Rattle.ll_laws.specs.declared.Clause.{Clause}
 use Rattle.ll_laws.specs.declared.Kind.{Kind}

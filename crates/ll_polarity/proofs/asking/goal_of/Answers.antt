@@ -23,21 +23,22 @@ form-requires-clause-ready c = record { inside = c.requires.goal; named = whole_
 
 pub form-requires-clause-high : goal.form-requires-clause-high
 form-requires-clause-high c =
-    let raw = raw_at c.args.texts.now c.args.forms.now c.args.at.0 in
+    let raw = raw_at c.args.text.now.names.now c.args.text.now.forms.now c.args.at.0 in
     let s = ap (λ b. length b.scope) c.in_ok-binders.ensures in omega (arith, s, (small_query raw c.requires.whole).light)
 
 pub form-requires-clause-room : goal.form-requires-clause-room
 form-requires-clause-room c =
-    let raw = raw_at c.args.texts.now c.args.forms.now c.args.at.0 in
-    room_whole c.args.texts.now (place_in c.args.places.now.places) (outermost None c.in_ok-binders.binders.scope) c.args.met.now.names c.args.met.now.variables
+    let raw = raw_at c.args.text.now.names.now c.args.text.now.forms.now c.args.at.0 in
+    room_whole c.args.text.now.names.now (place_in c.args.text.now.modules.now.places) (outermost None c.in_ok-binders.binders.scope) c.args.met.now.names
+    c.args.met.now.variables
     raw c.requires.first
     (omega (arith, c.requires.few, (small_query raw c.requires.whole).light))
 
 pub returns-clause-shows : goal.returns-clause-shows
 returns-clause-shows c = λ ms heads first h.
-    let texts = c.args.texts.now in
-    let raw = raw_at texts c.args.forms.now c.args.at.0 in
-    let places = place_in c.args.places.now.places in
+    let texts = c.args.text.now.names.now in
+    let raw = raw_at texts c.args.text.now.forms.now c.args.at.0 in
+    let places = place_in c.args.text.now.modules.now.places in
     let met : Met = record { names = c.args.met.now.names; variables = [] } in
     c.in_ok-goal.ensures.shows.tree
     ∙
@@ -47,9 +48,9 @@ returns-clause-shows c = λ ms heads first h.
 
 pub returns-clause-met : goal.returns-clause-met
 returns-clause-met c = λ ms.
-    let texts = c.args.texts.now in
-    let raw = raw_at texts c.args.forms.now c.args.at.0 in
-    let places = place_in c.args.places.now.places in
+    let texts = c.args.text.now.names.now in
+    let raw = raw_at texts c.args.text.now.forms.now c.args.at.0 in
+    let places = place_in c.args.text.now.modules.now.places in
     let met : Met = record { names = c.args.met.now.names; variables = [] } in
     c.in_ok-goal.ensures.met
     ∙

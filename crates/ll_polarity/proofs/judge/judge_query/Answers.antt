@@ -2,8 +2,6 @@ use Rattle.std.proofs.Common.{sym, subst}
 use Rattle.std.proofs.lemmas.Result.{IfOk-from_err}
 use Rattle.ll_parser.specs.Reads.{IsWhole}
 use Rattle.ll_parser.specs.Text.{queries}
-use Rattle.ll_polarity.specs.Faults.{query_faults}
-use Rattle.ll_polarity.specs.Pending.{IsHead}
 use Rattle.ll_polarity.proofs.naming.Named.{whole_query_named}
 use Rattle.ll_polarity.proofs.judge.judge_query.Goals as goal
 

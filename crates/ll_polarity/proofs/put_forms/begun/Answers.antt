@@ -38,7 +38,7 @@ goes_in-requires-clause-name c =
 
 pub goes_in-requires-clause-depth : goal.goes_in-requires-clause-depth
 goes_in-requires-clause-depth c =
-    low_depth c.args.place.now.depth (length c.args.binders.now.scope) (unwrap_or c.args.place.now.quantified 0)
+    low_depth c.args.fronts.now.place.depth (length c.args.binders.now.scope) (unwrap_or c.args.fronts.now.place.quantified 0)
     (weight (raw_at c.args.text.now.names.now c.args.text.now.forms.now c.args.at.0))
     (weight (raw_at c.args.text.now.names.now c.args.text.now.forms.now c.in-Forall.body.0)) c.requires.stands.depth c.requires.high
     (ap weight (c.in-Forall.ensures.tree c.args.text.now.names.now))
@@ -51,7 +51,7 @@ goes_in-requires-in-Exists-clause-name c =
 
 pub goes_in-requires-in-Exists-clause-depth : goal.goes_in-requires-in-Exists-clause-depth
 goes_in-requires-in-Exists-clause-depth c =
-    low_depth c.args.place.now.depth (length c.args.binders.now.scope) (unwrap_or c.args.place.now.quantified 0)
+    low_depth c.args.fronts.now.place.depth (length c.args.binders.now.scope) (unwrap_or c.args.fronts.now.place.quantified 0)
     (weight (raw_at c.args.text.now.names.now c.args.text.now.forms.now c.args.at.0))
     (weight (raw_at c.args.text.now.names.now c.args.text.now.forms.now c.in-Exists.body.0)) c.requires.stands.depth c.requires.high
     (ap weight (c.in-Exists.ensures.tree c.args.text.now.names.now))
@@ -66,9 +66,10 @@ loads-requires-clause-goal c = c.in-Load.ensures.parts.1
 
 pub returns-in-True : goal.returns-in-True
 returns-in-True c =
-    let texts = c.args.text.now.names.now in let a = around c.args.place.now c.args.binders.now.scope in let met = met_of texts c.args.met.now in
+    let texts = c.args.text.now.names.now in let a = around c.args.fronts.now.place c.args.binders.now.scope in let met = met_of texts c.args.met.now in
     record {
-      step = begun_gives c.gives.result (ground c.args.text.now) c.gives.new.bank a met met c.args.frames.now.items One (c.in-True.ensures.tree texts) refl
+      step = begun_gives c.gives.result (ground c.args.text.now) c.gives.new.bank a met met c.args.fronts.now.frames.items One (c.in-True.ensures.tree texts)
+          refl
           (two_below 0) c.gives.ensures.step;
       stands = always c.gives.result _ c.requires.stands;
       scope = always c.gives.result _ (one_more (length c.args.binders.now.scope));
@@ -77,9 +78,9 @@ returns-in-True c =
 
 pub returns-in-Erase : goal.returns-in-Erase
 returns-in-Erase c =
-    let texts = c.args.text.now.names.now in let a = around c.args.place.now c.args.binders.now.scope in let met = met_of texts c.args.met.now in
+    let texts = c.args.text.now.names.now in let a = around c.args.fronts.now.place c.args.binders.now.scope in let met = met_of texts c.args.met.now in
     record {
-      step = begun_gives c.gives-in-Erase.result (ground c.args.text.now) c.gives-in-Erase.new.bank a met met c.args.frames.now.items Top
+      step = begun_gives c.gives-in-Erase.result (ground c.args.text.now) c.gives-in-Erase.new.bank a met met c.args.fronts.now.frames.items Top
           (c.in-Erase.ensures.tree texts) refl
           (two_below 0) c.gives-in-Erase.ensures.step;
       stands = always c.gives-in-Erase.result _ c.requires.stands;
@@ -89,9 +90,9 @@ returns-in-Erase c =
 
 pub returns-in-Braces : goal.returns-in-Braces
 returns-in-Braces c =
-    let texts = c.args.text.now.names.now in let a = around c.args.place.now c.args.binders.now.scope in let met = met_of texts c.args.met.now in
+    let texts = c.args.text.now.names.now in let a = around c.args.fronts.now.place c.args.binders.now.scope in let met = met_of texts c.args.met.now in
     record {
-      step = begun_read c.waits.result (ground c.args.text.now) c.args.bank.now a a met met c.args.frames.now.items c.waits.new.frames.items
+      step = begun_read c.waits.result (ground c.args.text.now) c.args.bank.now a a met met c.args.fronts.now.frames.items c.waits.new.frames.items
           (frame.Braces) c.in-Braces.goal (c.in-Braces.ensures.tree texts) refl tt
           (part_ready texts c.args.text.now.forms.now c.args.at.0 c.in-Braces.goal.0 c.in-Braces.ensures.parts c.requires.ready.inside
           (subst IsNamed (c.in-Braces.ensures.tree texts) c.requires.ready.named)) (part_less (weight (raw_at texts c.args.text.now.forms.now
@@ -104,18 +105,19 @@ returns-in-Braces c =
 
 pub returns-in-Forall : goal.returns-in-Forall
 returns-in-Forall c =
-    let texts = c.args.text.now.names.now in let a = around c.args.place.now c.args.binders.now.scope in let met = met_of texts c.args.met.now in
+    let texts = c.args.text.now.names.now in let a = around c.args.fronts.now.place c.args.binders.now.scope in let met = met_of texts c.args.met.now in
     record {
-      step = begun_read c.goes_in.result (ground c.args.text.now) c.args.bank.now a (around c.goes_in.new.place c.goes_in.new.binders.scope) met met
-          c.args.frames.now.items c.goes_in.new.frames.items
+      step = begun_read c.goes_in.result (ground c.args.text.now) c.args.bank.now a (around c.goes_in.new.fronts.place c.goes_in.new.binders.scope) met met
+          c.args.fronts.now.frames.items c.goes_in.new.fronts.frames.items
           (frame.Forall c.in-Forall.name.name) c.in-Forall.body (c.in-Forall.ensures.tree texts) refl tt
           (part_ready texts c.args.text.now.forms.now c.args.at.0 c.in-Forall.body.0 c.in-Forall.ensures.parts c.requires.ready.inside
           (subst IsNamed (c.in-Forall.ensures.tree texts) c.requires.ready.named).1) (part_less (weight (raw_at texts c.args.text.now.forms.now
           c.in-Forall.body.0)))
-          c.goes_in.ensures.step c.goes_in.ensures.frames (around_entered c.goes_in.result c.args.place.now c.goes_in.new.place c.args.binders.now
+          c.goes_in.ensures.step c.goes_in.ensures.frames (around_entered c.goes_in.result c.args.fronts.now.place c.goes_in.new.fronts.place c.args.binders.now
           c.goes_in.new.binders texts
           c.in-Forall.name.name c.goes_in.ensures.place c.goes_in.ensures.binders c.requires.stands.same);
-      stands = stands_entered c.goes_in.result texts c.args.place.now c.goes_in.new.place c.args.binders.now c.goes_in.new.binders c.in-Forall.name.name
+      stands = stands_entered c.goes_in.result texts c.args.fronts.now.place c.goes_in.new.fronts.place c.args.binders.now c.goes_in.new.binders
+          c.in-Forall.name.name
           (weight (raw_at texts c.args.text.now.forms.now c.args.at.0)) (weight (raw_at texts c.args.text.now.forms.now c.in-Forall.body.0))
           c.requires.stands c.goes_in.ensures.place
           c.goes_in.ensures.binders c.requires.high (ap weight (c.in-Forall.ensures.tree texts));
@@ -125,18 +127,18 @@ returns-in-Forall c =
 
 pub returns-in-Exists : goal.returns-in-Exists
 returns-in-Exists c =
-    let texts = c.args.text.now.names.now in let a = around c.args.place.now c.args.binders.now.scope in let met = met_of texts c.args.met.now in
+    let texts = c.args.text.now.names.now in let a = around c.args.fronts.now.place c.args.binders.now.scope in let met = met_of texts c.args.met.now in
     record {
-      step = begun_read c.goes_in-in-Exists.result (ground c.args.text.now) c.args.bank.now a (around c.goes_in-in-Exists.new.place
-          c.goes_in-in-Exists.new.binders.scope) met met c.args.frames.now.items c.goes_in-in-Exists.new.frames.items
+      step = begun_read c.goes_in-in-Exists.result (ground c.args.text.now) c.args.bank.now a (around c.goes_in-in-Exists.new.fronts.place
+          c.goes_in-in-Exists.new.binders.scope) met met c.args.fronts.now.frames.items c.goes_in-in-Exists.new.fronts.frames.items
           (frame.Exists c.in-Exists.name.name) c.in-Exists.body (c.in-Exists.ensures.tree texts) refl tt
           (part_ready texts c.args.text.now.forms.now c.args.at.0 c.in-Exists.body.0 c.in-Exists.ensures.parts c.requires.ready.inside
           (subst IsNamed (c.in-Exists.ensures.tree texts) c.requires.ready.named).1) (part_less (weight (raw_at texts c.args.text.now.forms.now
           c.in-Exists.body.0)))
-          c.goes_in-in-Exists.ensures.step c.goes_in-in-Exists.ensures.frames (around_entered c.goes_in-in-Exists.result c.args.place.now
-          c.goes_in-in-Exists.new.place c.args.binders.now c.goes_in-in-Exists.new.binders texts
+          c.goes_in-in-Exists.ensures.step c.goes_in-in-Exists.ensures.frames (around_entered c.goes_in-in-Exists.result c.args.fronts.now.place
+          c.goes_in-in-Exists.new.fronts.place c.args.binders.now c.goes_in-in-Exists.new.binders texts
           c.in-Exists.name.name c.goes_in-in-Exists.ensures.place c.goes_in-in-Exists.ensures.binders c.requires.stands.same);
-      stands = stands_entered c.goes_in-in-Exists.result texts c.args.place.now c.goes_in-in-Exists.new.place c.args.binders.now
+      stands = stands_entered c.goes_in-in-Exists.result texts c.args.fronts.now.place c.goes_in-in-Exists.new.fronts.place c.args.binders.now
           c.goes_in-in-Exists.new.binders c.in-Exists.name.name
           (weight (raw_at texts c.args.text.now.forms.now c.args.at.0)) (weight (raw_at texts c.args.text.now.forms.now c.in-Exists.body.0))
           c.requires.stands c.goes_in-in-Exists.ensures.place
@@ -156,7 +158,7 @@ loads-requires-clause-load c =
 
 pub returns-in-Load : goal.returns-in-Load
 returns-in-Load c =
-    let texts = c.args.text.now.names.now in let a = around c.args.place.now c.args.binders.now.scope in let met = met_of texts c.args.met.now in
+    let texts = c.args.text.now.names.now in let a = around c.args.fronts.now.place c.args.binders.now.scope in let met = met_of texts c.args.met.now in
     record {
       step = c.loads.ensures.step;
       stands = always c.loads.result _ c.requires.stands;
@@ -166,9 +168,10 @@ returns-in-Load c =
 
 pub returns-in-Binary : goal.returns-in-Binary
 returns-in-Binary c =
-    let texts = c.args.text.now.names.now in let a = around c.args.place.now c.args.binders.now.scope in let met = met_of texts c.args.met.now in
+    let texts = c.args.text.now.names.now in let a = around c.args.fronts.now.place c.args.binders.now.scope in let met = met_of texts c.args.met.now in
     record {
-      step = begun_read c.waits-in-Binary.result (ground c.args.text.now) c.args.bank.now a a met met c.args.frames.now.items c.waits-in-Binary.new.frames.items
+      step = begun_read c.waits-in-Binary.result (ground c.args.text.now) c.args.bank.now a a met met c.args.fronts.now.frames.items
+          c.waits-in-Binary.new.frames.items
           (frame.Left c.in-Binary.op c.in-Binary.right) c.in-Binary.left (c.in-Binary.ensures.tree texts) refl
           (part_ready texts c.args.text.now.forms.now c.args.at.0 c.in-Binary.right.0 c.in-Binary.ensures.parts.1 c.requires.ready.inside
           (subst IsNamed (c.in-Binary.ensures.tree texts) c.requires.ready.named).1)
@@ -186,7 +189,7 @@ number_goal-requires-clause-number c = subst IsNumberGoal (sym (c.in-Is.ensures.
 
 pub returns-in-Is : goal.returns-in-Is
 returns-in-Is c = record {
-  step = c.number_goal.ensures.step c.args.frames.now.items;
+  step = c.number_goal.ensures.step c.args.fronts.now.frames.items;
   stands = always c.number_goal.result _ c.requires.stands;
   scope = always c.number_goal.result _ (one_more (length c.args.binders.now.scope));
   keeps = c.number_goal.ensures.keeps;
@@ -197,7 +200,7 @@ number_goal-requires-in-Less-clause-number c = subst IsNumberGoal (sym (c.in-Les
 
 pub returns-in-Less : goal.returns-in-Less
 returns-in-Less c = record {
-  step = c.number_goal-in-Less.ensures.step c.args.frames.now.items;
+  step = c.number_goal-in-Less.ensures.step c.args.fronts.now.frames.items;
   stands = always c.number_goal-in-Less.result _ c.requires.stands;
   scope = always c.number_goal-in-Less.result _ (one_more (length c.args.binders.now.scope));
   keeps = c.number_goal-in-Less.ensures.keeps;
@@ -208,7 +211,7 @@ number_goal-requires-in-Most-clause-number c = subst IsNumberGoal (sym (c.in-Mos
 
 pub returns-in-Most : goal.returns-in-Most
 returns-in-Most c = record {
-  step = c.number_goal-in-Most.ensures.step c.args.frames.now.items;
+  step = c.number_goal-in-Most.ensures.step c.args.fronts.now.frames.items;
   stands = always c.number_goal-in-Most.result _ c.requires.stands;
   scope = always c.number_goal-in-Most.result _ (one_more (length c.args.binders.now.scope));
   keeps = c.number_goal-in-Most.ensures.keeps;

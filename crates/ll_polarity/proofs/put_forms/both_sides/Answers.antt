@@ -9,12 +9,13 @@ use Rattle.ll_polarity.specs.Standing.{met_of, around, HasRoom}
 use Rattle.ll_polarity.specs.Frames.{left_built}
 use Rattle.ll_polarity.specs.Grounds.{ground}
 use Rattle.ll_polarity.proofs.putting.Calling.{longer_built, room_before}
+use Rattle.ll_polarity.specs.Spots.{texts_of, forms_of}
 use Rattle.ll_polarity.proofs.put_forms.both_sides.Goals as goal
 
 pub term-requires-clause-room : goal.term-requires-clause-room
 term-requires-clause-room c =
-    let g = ground c.args.text.now in
-    let a = around c.args.place c.args.binders.now.scope in
+    let g = ground c.args.spot.now.text.now in
+    let a = around c.args.spot.now.place c.args.spot.now.binders.now.scope in
     room_before (longer_built a (left_built g a (met_of g.texts c.args.met.now) c.args.left).met (raw_at g.texts g.forms c.args.right.0)) c.requires.room
 
 pub returns-clause-left : goal.returns-clause-left
@@ -53,20 +54,20 @@ term-requires-2-clause-ready c = c.requires.right
 -- the right side stands behind what was met in the left one
 pub term-requires-2-clause-room : goal.term-requires-2-clause-room
 term-requires-2-clause-room c =
-    let a = around c.args.place c.args.binders.now.scope in
-    let raw = raw_at c.args.text.now.names.now c.args.text.now.forms.now c.args.right.0 in
+    let a = around c.args.spot.now.place c.args.spot.now.binders.now.scope in
+    let raw = raw_at (texts_of c.args.spot.now) (forms_of c.args.spot.now) c.args.right.0 in
     subst (λ (m : Met). HasRoom (built_term a m raw).met) (sym c.in_ok-left.ensures.met) c.requires.room
 
 pub returns-clause-right : goal.returns-clause-right
 returns-clause-right c =
-    let a = around c.args.place c.args.binders.now.scope in
-    let raw = raw_at c.args.text.now.names.now c.args.text.now.forms.now c.args.right.0 in
+    let a = around c.args.spot.now.place c.args.spot.now.binders.now.scope in
+    let raw = raw_at (texts_of c.args.spot.now) (forms_of c.args.spot.now) c.args.right.0 in
     subst (λ (m : Met). ShowsTerm c.term-2.new.bank c.in_ok-right.right.0 (built_term a m raw).it) c.in_ok-left.ensures.met c.in_ok-right.ensures.shows
 
 pub returns-clause-met : goal.returns-clause-met
 returns-clause-met c =
-    let a = around c.args.place c.args.binders.now.scope in
-    let raw = raw_at c.args.text.now.names.now c.args.text.now.forms.now c.args.right.0 in
+    let a = around c.args.spot.now.place c.args.spot.now.binders.now.scope in
+    let raw = raw_at (texts_of c.args.spot.now) (forms_of c.args.spot.now) c.args.right.0 in
     c.in_ok-right.ensures.met ∙ ap (λ (m : Met). (built_term a m raw).met) c.in_ok-left.ensures.met
 
 pub returns-clause-keeps : goal.returns-clause-keeps

@@ -8,7 +8,7 @@ use Rattle.ll_polarity.proofs.put_forms.form.Goals as goal
 
 pub steps-init : goal.steps-init
 steps-init c = record {
-  coming = rw c.new-frames.ensures.items (record {
+  coming = rw c.new.ensures.items (record {
     means = refl;
     standing = refl;
     fits = tt;
@@ -17,13 +17,13 @@ steps-init c = record {
         Extends-refl c.args.bank.now;
   });
   texts = c.requires.stands.same;
-  low = rw c.new-frames.ensures.items (omega arith);
+  low = rw c.new.ensures.items (omega arith);
 }
 
 pub begun-requires-clause-stands : goal.begun-requires-clause-stands
 begun-requires-clause-stands c =
     let f = at_step c.in-Read.is c.steps.invariant.coming c.steps.invariant.low in
-    (stands_now c.steps.binders c.steps.place f c.requires.stands.distinct c.steps.invariant.texts c.requires.stands.depth c.requires.high).0
+    (stands_now c.steps.binders c.steps.fronts.place f c.requires.stands.distinct c.steps.invariant.texts c.requires.stands.depth c.requires.high).0
 
 pub begun-requires-clause-ready : goal.begun-requires-clause-ready
 begun-requires-clause-ready c =
@@ -33,7 +33,7 @@ begun-requires-clause-ready c =
 pub begun-requires-clause-high : goal.begun-requires-clause-high
 begun-requires-clause-high c =
     let f = at_step c.in-Read.is c.steps.invariant.coming c.steps.invariant.low in
-    (stands_now c.steps.binders c.steps.place f c.requires.stands.distinct c.steps.invariant.texts c.requires.stands.depth c.requires.high).1
+    (stands_now c.steps.binders c.steps.fronts.place f c.requires.stands.distinct c.steps.invariant.texts c.requires.stands.depth c.requires.high).1
 
 pub begun-requires-clause-room : goal.begun-requires-clause-room
 begun-requires-clause-room c =
@@ -107,17 +107,17 @@ returns-in_err-step-in-Some-clause-keeps c = Extends-trans c.steps.invariant.com
 pub returns-in-None-clause-shows : goal.returns-in-None-clause-shows
 returns-in-None-clause-shows c =
     let f = at_step c.in-Give.is c.steps.invariant.coming c.steps.invariant.low in
-    (coming_ends f.coming (nil_from_length c.steps.frames.items (omega (arith, c.in-None.ensures.cases.0)))).0
+    (coming_ends f.coming (nil_from_length c.steps.fronts.frames.items (omega (arith, c.in-None.ensures.cases.0)))).0
 
 pub returns-in-None-clause-met : goal.returns-in-None-clause-met
 returns-in-None-clause-met c =
     let f = at_step c.in-Give.is c.steps.invariant.coming c.steps.invariant.low in
-    (coming_ends f.coming (nil_from_length c.steps.frames.items (omega (arith, c.in-None.ensures.cases.0)))).1
+    (coming_ends f.coming (nil_from_length c.steps.fronts.frames.items (omega (arith, c.in-None.ensures.cases.0)))).1
 
 pub returns-in-None-clause-scope : goal.returns-in-None-clause-scope
 returns-in-None-clause-scope c =
     let f = at_step c.in-Give.is c.steps.invariant.coming c.steps.invariant.low in
-    ap (λ a. a.scope) (coming_ends f.coming (nil_from_length c.steps.frames.items (omega (arith, c.in-None.ensures.cases.0)))).2
+    ap (λ a. a.scope) (coming_ends f.coming (nil_from_length c.steps.fronts.frames.items (omega (arith, c.in-None.ensures.cases.0)))).2
 
 pub returns-in-None-clause-texts : goal.returns-in-None-clause-texts
 returns-in-None-clause-texts c = c.steps.invariant.texts

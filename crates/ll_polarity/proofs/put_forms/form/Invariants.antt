@@ -11,14 +11,14 @@ use Rattle.ll_polarity.proofs.put_forms.form.Given as goal
 abbrev pub invariant-steps : goal.invariant-steps
 invariant-steps l =
     let g = ground l.text in
-    let a = outermost l.fn.quantified l.fn.binders.scope in
-    let raw = raw_at g.texts g.forms l.fn.at.0 in
+    let a = outermost l.fn.formula.quantified l.fn.binders.scope in
+    let raw = raw_at g.texts g.forms l.fn.formula.at.0 in
     record {
-      coming : IsComing g (built_form g.modules a (met_of g.texts l.fn.met) raw) a l.fn.bank l.bank l.frames.items l.step (met_of g.texts l.met)
-          (around l.place l.binders.scope);
+      coming : IsComing g (built_form g.modules a (met_of g.texts l.fn.met) raw) a l.fn.bank l.bank l.fronts.frames.items l.step (met_of g.texts l.met)
+          (around l.fronts.place l.binders.scope);
       texts : l.binders.texts ≡ g.texts;
-      low : frames_left g l.frames.items + step_left g l.step ≤ 5 * weight raw;
+      low : frames_left g l.fronts.frames.items + step_left g l.step ≤ 5 * weight raw;
     }
 
 abbrev pub decreases-steps : goal.decreases-steps
-decreases-steps l = frames_left (ground l.text) l.frames.items + step_left (ground l.text) l.step
+decreases-steps l = frames_left (ground l.text) l.fronts.frames.items + step_left (ground l.text) l.step

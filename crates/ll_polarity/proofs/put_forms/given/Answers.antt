@@ -24,44 +24,47 @@ returns-in_ok-push-in-Left-clause-keeps c = Extends-refl c.args.bank.now
 
 pub returns-in_ok-form-in-Braces-clause-step : goal.returns-in_ok-form-in-Braces-clause-step
 returns-in_ok-form-in-Braces-clause-step c = λ g a met.
-    subst (λ (f : Frame). FrameFits g c.args.bank.now f → around c.args.place.now c.args.binders.now.scope ≡ within g a f
+    subst (λ (f : Frame). FrameFits g c.args.bank.now f → around c.args.fronts.now.place c.args.binders.now.scope ≡ within g a f
     → Advances g c.form.new.self a (wraps g c.args.bank.now a f (record { it = form_tree c.args.bank.now c.args.form.0; met = met })) (frame_left g f + 2)
-    c.args.frames.now.items c.args.frames.now.items (step.Give c.in_ok-form-in-Braces.field-0) met (around c.args.place.now c.args.binders.now.scope))
+    c.args.fronts.now.frames.items c.args.fronts.now.frames.items (step.Give c.in_ok-form-in-Braces.field-0) met
+    (around c.args.fronts.now.place c.args.binders.now.scope))
     (sym c.in-Braces.is)
-    (λ fits e. advance_give g c.form.new.self a _ 3 c.args.frames.now.items c.args.frames.now.items met (around c.args.place.now c.args.binders.now.scope)
+    (λ fits e. advance_give g c.form.new.self a _ 3 c.args.fronts.now.frames.items c.args.fronts.now.frames.items met
+    (around c.args.fronts.now.place c.args.binders.now.scope)
     c.in_ok-form-in-Braces.field-0 _ c.in_ok-form-in-Braces.ensures.shows refl refl e (omega arith))
 
 pub returns-in_ok-form-in-Forall-clause-step : goal.returns-in_ok-form-in-Forall-clause-step
 returns-in_ok-form-in-Forall-clause-step c = λ g a met.
-    subst (λ (f : Frame). FrameFits g c.args.bank.now f → around c.args.place.now c.args.binders.now.scope ≡ within g a f
+    subst (λ (f : Frame). FrameFits g c.args.bank.now f → around c.args.fronts.now.place c.args.binders.now.scope ≡ within g a f
     → Advances g c.form-in-Forall.new.self a (wraps g c.args.bank.now a f (record { it = form_tree c.args.bank.now c.args.form.0; met = met }))
-    (frame_left g f + 2) c.args.frames.now.items c.args.frames.now.items (step.Give c.in_ok-form-in-Forall.field-0) met
+    (frame_left g f + 2) c.args.fronts.now.frames.items c.args.fronts.now.frames.items (step.Give c.in_ok-form-in-Forall.field-0) met
     (around c.left.new.place c.left.new.binders.scope))
     (sym c.in-Forall.is)
-    (λ fits e. advance_give g c.form-in-Forall.new.self a _ 3 c.args.frames.now.items c.args.frames.now.items met
+    (λ fits e. advance_give g c.form-in-Forall.new.self a _ 3 c.args.fronts.now.frames.items c.args.fronts.now.frames.items met
     (around c.left.new.place c.left.new.binders.scope) c.in_ok-form-in-Forall.field-0 _ c.in_ok-form-in-Forall.ensures.shows refl refl
-    (back_out c.args.place.now c.left.new.place c.args.binders.now.scope c.left.new.binders.scope a (text_of g.texts c.in-Forall.field-0)
+    (back_out c.args.fronts.now.place c.left.new.place c.args.binders.now.scope c.left.new.binders.scope a (text_of g.texts c.in-Forall.field-0)
     c.left.ensures.place e c.left.ensures.binders) (omega arith))
 
 pub returns-in_ok-form-in-Exists-clause-step : goal.returns-in_ok-form-in-Exists-clause-step
 returns-in_ok-form-in-Exists-clause-step c = λ g a met.
-    subst (λ (f : Frame). FrameFits g c.args.bank.now f → around c.args.place.now c.args.binders.now.scope ≡ within g a f
+    subst (λ (f : Frame). FrameFits g c.args.bank.now f → around c.args.fronts.now.place c.args.binders.now.scope ≡ within g a f
     → Advances g c.form-in-Exists.new.self a (wraps g c.args.bank.now a f (record { it = form_tree c.args.bank.now c.args.form.0; met = met }))
-    (frame_left g f + 2) c.args.frames.now.items c.args.frames.now.items (step.Give c.in_ok-form-in-Exists.field-0) met
+    (frame_left g f + 2) c.args.fronts.now.frames.items c.args.fronts.now.frames.items (step.Give c.in_ok-form-in-Exists.field-0) met
     (around c.left-in-Exists.new.place c.left-in-Exists.new.binders.scope))
     (sym c.in-Exists.is)
-    (λ fits e. advance_give g c.form-in-Exists.new.self a _ 3 c.args.frames.now.items c.args.frames.now.items met
+    (λ fits e. advance_give g c.form-in-Exists.new.self a _ 3 c.args.fronts.now.frames.items c.args.fronts.now.frames.items met
     (around c.left-in-Exists.new.place c.left-in-Exists.new.binders.scope) c.in_ok-form-in-Exists.field-0 _ c.in_ok-form-in-Exists.ensures.shows refl refl
-    (back_out c.args.place.now c.left-in-Exists.new.place c.args.binders.now.scope c.left-in-Exists.new.binders.scope a
+    (back_out c.args.fronts.now.place c.left-in-Exists.new.place c.args.binders.now.scope c.left-in-Exists.new.binders.scope a
     (text_of g.texts c.in-Exists.field-0) c.left-in-Exists.ensures.place e c.left-in-Exists.ensures.binders) (omega arith))
 
 pub returns-in_ok-push-in-Left-clause-step : goal.returns-in_ok-push-in-Left-clause-step
 returns-in_ok-push-in-Left-clause-step c = λ g a met.
-    subst (λ (f : Frame). FrameFits g c.args.bank.now f → around c.args.place.now c.args.binders.now.scope ≡ within g a f
+    subst (λ (f : Frame). FrameFits g c.args.bank.now f → around c.args.fronts.now.place c.args.binders.now.scope ≡ within g a f
     → Advances g c.args.bank.now a (wraps g c.args.bank.now a f (record { it = form_tree c.args.bank.now c.args.form.0; met = met })) (frame_left g f + 2)
-    c.args.frames.now.items c.push.new.self.items (step.Read c.in-Left.right) met (around c.args.place.now c.args.binders.now.scope))
+    c.args.fronts.now.frames.items c.push.new.self.items (step.Read c.in-Left.right) met (around c.args.fronts.now.place c.args.binders.now.scope))
     (sym c.in-Left.is)
-    (λ fits e. advance_read g c.args.bank.now a _ _ c.args.frames.now.items c.push.new.self.items met (around c.args.place.now c.args.binders.now.scope)
+    (λ fits e. advance_read g c.args.bank.now a _ _ c.args.fronts.now.frames.items c.push.new.self.items met
+    (around c.args.fronts.now.place c.args.binders.now.scope)
     (frame.Right c.in-Left.op c.args.form) c.in-Left.right c.in_ok-push-in-Left.ensures.items
     (ap (λ x. let u = built_form g.modules x met (raw_at g.texts g.forms c.in-Left.right.0) in
     let y : Read Form = record { it = joined c.in-Left.op (form_tree c.args.bank.now c.args.form.0) u.it; met = u.met } in y) e) e c.requires.form fits
@@ -69,22 +72,24 @@ returns-in_ok-push-in-Left-clause-step c = λ g a met.
 
 pub returns-in_ok-joined-in-Right-clause-step : goal.returns-in_ok-joined-in-Right-clause-step
 returns-in_ok-joined-in-Right-clause-step c = λ g a met.
-    subst (λ (f : Frame). FrameFits g c.args.bank.now f → around c.args.place.now c.args.binders.now.scope ≡ within g a f
+    subst (λ (f : Frame). FrameFits g c.args.bank.now f → around c.args.fronts.now.place c.args.binders.now.scope ≡ within g a f
     → Advances g c.joined.new.bank a (wraps g c.args.bank.now a f (record { it = form_tree c.args.bank.now c.args.form.0; met = met })) (frame_left g f + 2)
-    c.args.frames.now.items c.args.frames.now.items (step.Give c.in_ok-joined-in-Right.field-0) met (around c.args.place.now c.args.binders.now.scope))
+    c.args.fronts.now.frames.items c.args.fronts.now.frames.items (step.Give c.in_ok-joined-in-Right.field-0) met
+    (around c.args.fronts.now.place c.args.binders.now.scope))
     (sym c.in-Right.is)
-    (λ fits e. advance_give g c.joined.new.bank a _ 3 c.args.frames.now.items c.args.frames.now.items met (around c.args.place.now c.args.binders.now.scope)
+    (λ fits e. advance_give g c.joined.new.bank a _ 3 c.args.fronts.now.frames.items c.args.fronts.now.frames.items met
+    (around c.args.fronts.now.place c.args.binders.now.scope)
     c.in_ok-joined-in-Right.field-0 _ c.in_ok-joined-in-Right.ensures.shows refl refl e (omega arith))
 
 pub returns-in_ok-form-in-Load-clause-step : goal.returns-in_ok-form-in-Load-clause-step
 returns-in_ok-form-in-Load-clause-step c = λ g a met.
-    subst (λ (f : Frame). FrameFits g c.args.bank.now f → around c.args.place.now c.args.binders.now.scope ≡ within g a f
+    subst (λ (f : Frame). FrameFits g c.args.bank.now f → around c.args.fronts.now.place c.args.binders.now.scope ≡ within g a f
     → Advances g c.form-in-Load.new.self a (wraps g c.args.bank.now a f (record { it = form_tree c.args.bank.now c.args.form.0; met = met }))
-    (frame_left g f + 2) c.args.frames.now.items c.args.frames.now.items (step.Give c.in_ok-form-in-Load.field-0) met
-    (around c.args.place.now c.args.binders.now.scope))
+    (frame_left g f + 2) c.args.fronts.now.frames.items c.args.fronts.now.frames.items (step.Give c.in_ok-form-in-Load.field-0) met
+    (around c.args.fronts.now.place c.args.binders.now.scope))
     (sym c.in-Load.is)
-    (λ fits e. advance_give g c.form-in-Load.new.self a _ 3 c.args.frames.now.items c.args.frames.now.items met
-    (around c.args.place.now c.args.binders.now.scope) c.in_ok-form-in-Load.field-0 _ c.in_ok-form-in-Load.ensures.shows
+    (λ fits e. advance_give g c.form-in-Load.new.self a _ 3 c.args.fronts.now.frames.items c.args.fronts.now.frames.items met
+    (around c.args.fronts.now.place c.args.binders.now.scope) c.in_ok-form-in-Load.field-0 _ c.in_ok-form-in-Load.ensures.shows
     (ap (λ ts. let x : Read Form = record { it = Use c.in-Load.module (term_trees c.args.bank.now ts) (form_tree c.args.bank.now c.args.form.0); met = met }
     in x) c.deref.ensures.value) refl e (omega arith))
 

@@ -11,6 +11,7 @@ use Rattle.ll_polarity.specs.Built.{built_terms, arguments, raws_past}
 use Rattle.ll_polarity.specs.Standing.{met_of, around}
 use Rattle.ll_polarity.specs.Calls.{Site}
 use Rattle.ll_polarity.proofs.putting.Calling.{named_argument, args_room, args_more, args_end, less_more}
+use Rattle.ll_polarity.specs.Spots.{texts_of, forms_of}
 use Rattle.ll_polarity.proofs.put_terms.arguments_of.Goals as goal
 
 pub arguments-init : goal.arguments-init
@@ -19,43 +20,52 @@ arguments-init c =
 
 pub term-requires-clause-ready : goal.term-requires-clause-ready
 term-requires-clause-ready c =
-    let e = c.in-Some.ensures c.args.names.now in
-    record { inside = e.0; named = named_argument c.args.names.now c.args.forms.now c.args.at.0 c.len.result c.in-Some.arg _ c.requires.ready.named e.1 }
+    let e = c.in-Some.ensures (texts_of c.args.spot.now) in
+    record {
+      inside = e.0;
+      named = named_argument (texts_of c.args.spot.now) (forms_of c.args.spot.now) c.args.at.0 c.len.result c.in-Some.arg _
+          c.requires.ready.named e.1;
+    }
 
 pub term-requires-clause-room : goal.term-requires-clause-room
 term-requires-clause-room c =
-    let a = around c.args.place c.args.binders.now.scope in
-    let s : Site = record { texts = c.args.names.now; forms = c.args.forms.now; around = a } in
-    let target : Read (List Term) = built_terms a (met_of c.args.names.now c.args.met.now) (arguments (raw_at c.args.names.now c.args.forms.now c.args.at.0)) in
+    let a = around c.args.spot.now.place c.args.spot.now.binders.now.scope in
+    let s : Site = record { texts = (texts_of c.args.spot.now); forms = (forms_of c.args.spot.now); around = a } in
+    let target : Read (List Term) = built_terms a (met_of (texts_of c.args.spot.now) c.args.met.now)
+    (arguments (raw_at (texts_of c.args.spot.now) (forms_of c.args.spot.now) c.args.at.0)) in
     let l : c.len.result ≡ length c.arguments.args.items = omega (arith, c.len.ensures, c.arguments.args.ok.0) in
-    let raw = raw_at c.args.names.now c.args.forms.now c.args.at.0 in
-    let e = subst (λ (k : ℕ). raws_past k (arguments raw) ≡ more (raw_at c.args.names.now c.args.forms.now c.in-Some.arg.0) (raws_past (suc k) (arguments raw)))
-    l (c.in-Some.ensures c.args.names.now).1 in
-    args_room s target c.args.bank.now c.args.at.0 c.arguments.bank c.arguments.args.items (met_of c.args.names.now c.arguments.met) c.in-Some.arg _
+    let raw = raw_at (texts_of c.args.spot.now) (forms_of c.args.spot.now) c.args.at.0 in
+    let e = subst (λ (k : ℕ). raws_past k (arguments raw) ≡ more (raw_at (texts_of c.args.spot.now) (forms_of c.args.spot.now) c.in-Some.arg.0)
+    (raws_past (suc k) (arguments raw)))
+    l (c.in-Some.ensures (texts_of c.args.spot.now)).1 in
+    args_room s target c.args.bank.now c.args.at.0 c.arguments.bank c.arguments.args.items (met_of (texts_of c.args.spot.now) c.arguments.met) c.in-Some.arg _
     c.arguments.invariant e c.requires.room
 
 pub arguments-smaller : goal.arguments-smaller
 arguments-smaller c =
     let l : c.len.result ≡ length c.arguments.args.items = omega (arith, c.len.ensures, c.arguments.args.ok.0) in
-    let raw = raw_at c.args.names.now c.args.forms.now c.args.at.0 in
-    let e = subst (λ (k : ℕ). raws_past k (arguments raw) ≡ more (raw_at c.args.names.now c.args.forms.now c.in-Some.arg.0) (raws_past (suc k) (arguments raw)))
-    l (c.in-Some.ensures c.args.names.now).1 in
+    let raw = raw_at (texts_of c.args.spot.now) (forms_of c.args.spot.now) c.args.at.0 in
+    let e = subst (λ (k : ℕ). raws_past k (arguments raw) ≡ more (raw_at (texts_of c.args.spot.now) (forms_of c.args.spot.now) c.in-Some.arg.0)
+    (raws_past (suc k) (arguments raw)))
+    l (c.in-Some.ensures (texts_of c.args.spot.now)).1 in
     let n : length c.push.new.self.items ≡ suc (length c.arguments.args.items) =
     ap length c.in_ok-push.ensures.items ∙ (length-append c.arguments.args.items (c.in_ok-put.put ∷ []) ∙ omega arith) in
     subst (λ (k : ℕ). weights (raws_past k (arguments raw)) < weights (raws_past (length c.arguments.args.items) (arguments raw))) (sym n)
-    (less_more (arguments raw) (length c.arguments.args.items) (raw_at c.args.names.now c.args.forms.now c.in-Some.arg.0) e)
+    (less_more (arguments raw) (length c.arguments.args.items) (raw_at (texts_of c.args.spot.now) (forms_of c.args.spot.now) c.in-Some.arg.0) e)
 
 pub arguments-preserved : goal.arguments-preserved
 arguments-preserved c =
-    let a = around c.args.place c.args.binders.now.scope in
-    let s : Site = record { texts = c.args.names.now; forms = c.args.forms.now; around = a } in
-    let target : Read (List Term) = built_terms a (met_of c.args.names.now c.args.met.now) (arguments (raw_at c.args.names.now c.args.forms.now c.args.at.0)) in
+    let a = around c.args.spot.now.place c.args.spot.now.binders.now.scope in
+    let s : Site = record { texts = (texts_of c.args.spot.now); forms = (forms_of c.args.spot.now); around = a } in
+    let target : Read (List Term) = built_terms a (met_of (texts_of c.args.spot.now) c.args.met.now)
+    (arguments (raw_at (texts_of c.args.spot.now) (forms_of c.args.spot.now) c.args.at.0)) in
     let l : c.len.result ≡ length c.arguments.args.items = omega (arith, c.len.ensures, c.arguments.args.ok.0) in
-    let raw = raw_at c.args.names.now c.args.forms.now c.args.at.0 in
-    let e = subst (λ (k : ℕ). raws_past k (arguments raw) ≡ more (raw_at c.args.names.now c.args.forms.now c.in-Some.arg.0) (raws_past (suc k) (arguments raw)))
-    l (c.in-Some.ensures c.args.names.now).1 in
+    let raw = raw_at (texts_of c.args.spot.now) (forms_of c.args.spot.now) c.args.at.0 in
+    let e = subst (λ (k : ℕ). raws_past k (arguments raw) ≡ more (raw_at (texts_of c.args.spot.now) (forms_of c.args.spot.now) c.in-Some.arg.0)
+    (raws_past (suc k) (arguments raw)))
+    l (c.in-Some.ensures (texts_of c.args.spot.now)).1 in
     args_more s target c.args.bank.now c.args.at.0 c.arguments.bank c.term.new.bank c.arguments.args.items c.push.new.self.items
-    (met_of c.args.names.now c.arguments.met) (met_of c.args.names.now c.term.new.met) c.in-Some.arg c.in_ok-put.put
+    (met_of (texts_of c.args.spot.now) c.arguments.met) (met_of (texts_of c.args.spot.now) c.term.new.met) c.in-Some.arg c.in_ok-put.put
     c.arguments.invariant e c.in_ok-put.ensures.shows c.in_ok-put.ensures.met c.in_ok-put.ensures.keeps c.in_ok-push.ensures.items
 
 pub returns-in_err-push-clause-inside : goal.returns-in_err-push-clause-inside
@@ -96,20 +106,24 @@ returns-clause-keeps c = c.arguments.invariant.keeps
 
 pub returns-clause-show : goal.returns-clause-show
 returns-clause-show c =
-    let a = around c.args.place c.args.binders.now.scope in
-    let s : Site = record { texts = c.args.names.now; forms = c.args.forms.now; around = a } in
-    let target : Read (List Term) = built_terms a (met_of c.args.names.now c.args.met.now) (arguments (raw_at c.args.names.now c.args.forms.now c.args.at.0)) in
+    let a = around c.args.spot.now.place c.args.spot.now.binders.now.scope in
+    let s : Site = record { texts = (texts_of c.args.spot.now); forms = (forms_of c.args.spot.now); around = a } in
+    let target : Read (List Term) = built_terms a (met_of (texts_of c.args.spot.now) c.args.met.now)
+    (arguments (raw_at (texts_of c.args.spot.now) (forms_of c.args.spot.now) c.args.at.0)) in
     let l : c.len.result ≡ length c.arguments.args.items = omega (arith, c.len.ensures, c.arguments.args.ok.0) in
-    let raw = raw_at c.args.names.now c.args.forms.now c.args.at.0 in
-    (args_end s target c.args.bank.now c.args.at.0 c.arguments.bank c.arguments.args.items (met_of c.args.names.now c.arguments.met) c.arguments.invariant
-    (subst (λ (k : ℕ). raws_past k (arguments raw) ≡ none) l (c.in_default.ensures c.args.names.now))).0
+    let raw = raw_at (texts_of c.args.spot.now) (forms_of c.args.spot.now) c.args.at.0 in
+    (args_end s target c.args.bank.now c.args.at.0 c.arguments.bank c.arguments.args.items (met_of (texts_of c.args.spot.now) c.arguments.met)
+    c.arguments.invariant
+    (subst (λ (k : ℕ). raws_past k (arguments raw) ≡ none) l (c.in_default.ensures (texts_of c.args.spot.now)))).0
 
 pub returns-clause-met : goal.returns-clause-met
 returns-clause-met c =
-    let a = around c.args.place c.args.binders.now.scope in
-    let s : Site = record { texts = c.args.names.now; forms = c.args.forms.now; around = a } in
-    let target : Read (List Term) = built_terms a (met_of c.args.names.now c.args.met.now) (arguments (raw_at c.args.names.now c.args.forms.now c.args.at.0)) in
+    let a = around c.args.spot.now.place c.args.spot.now.binders.now.scope in
+    let s : Site = record { texts = (texts_of c.args.spot.now); forms = (forms_of c.args.spot.now); around = a } in
+    let target : Read (List Term) = built_terms a (met_of (texts_of c.args.spot.now) c.args.met.now)
+    (arguments (raw_at (texts_of c.args.spot.now) (forms_of c.args.spot.now) c.args.at.0)) in
     let l : c.len.result ≡ length c.arguments.args.items = omega (arith, c.len.ensures, c.arguments.args.ok.0) in
-    let raw = raw_at c.args.names.now c.args.forms.now c.args.at.0 in
-    (args_end s target c.args.bank.now c.args.at.0 c.arguments.bank c.arguments.args.items (met_of c.args.names.now c.arguments.met) c.arguments.invariant
-    (subst (λ (k : ℕ). raws_past k (arguments raw) ≡ none) l (c.in_default.ensures c.args.names.now))).1
+    let raw = raw_at (texts_of c.args.spot.now) (forms_of c.args.spot.now) c.args.at.0 in
+    (args_end s target c.args.bank.now c.args.at.0 c.arguments.bank c.arguments.args.items (met_of (texts_of c.args.spot.now) c.arguments.met)
+    c.arguments.invariant
+    (subst (λ (k : ℕ). raws_past k (arguments raw) ≡ none) l (c.in_default.ensures (texts_of c.args.spot.now)))).1

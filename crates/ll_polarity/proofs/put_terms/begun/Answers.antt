@@ -8,14 +8,16 @@ use Rattle.ll_polarity.specs.Built.{built_term}
 use Rattle.ll_polarity.specs.Standing.{met_of, around, HasRoom}
 use Rattle.ll_polarity.proofs.naming.Named.{number-within}
 use Rattle.ll_polarity.proofs.putting.Calling.{room_head, begun_head}
+use Rattle.ll_polarity.specs.Spots.{texts_of, forms_of}
 use Rattle.ll_polarity.proofs.put_terms.begun.Goals as goal
 
 pub front_of-requires-clause-room : goal.front_of-requires-clause-room
 front_of-requires-clause-room c =
-    room_head (around c.args.place c.args.binders.now.scope) (met_of c.args.names.now c.args.met.now)
-    (identifier c.args.names.now c.in-Head.name) (raws_in (raw_trees c.args.names.now c.args.forms.now) (places c.in-Head.field-1.now))
-    (subst (λ r. HasRoom (built_term (around c.args.place c.args.binders.now.scope) (met_of c.args.names.now c.args.met.now) r).met)
-    (c.in-Head.ensures.tree c.args.names.now) c.requires.room)
+    room_head (around c.args.spot.now.place c.args.spot.now.binders.now.scope) (met_of (texts_of c.args.spot.now) c.args.met.now)
+    (identifier (texts_of c.args.spot.now) c.in-Head.name) (raws_in (raw_trees (texts_of c.args.spot.now) (forms_of c.args.spot.now))
+    (places c.in-Head.field-1.now))
+    (subst (λ r. HasRoom (built_term (around c.args.spot.now.place c.args.spot.now.binders.now.scope) (met_of (texts_of c.args.spot.now) c.args.met.now) r).met)
+    (c.in-Head.ensures.tree (texts_of c.args.spot.now)) c.requires.room)
 
 pub returns-in_err-front-in-Head-clause-keeps : goal.returns-in_err-front-in-Head-clause-keeps
 returns-in_err-front-in-Head-clause-keeps c = Extends-refl c.args.bank.now
@@ -70,10 +72,10 @@ front_of-requires-clause-stands c = c.requires.stands
 
 pub front_of-requires-clause-name : goal.front_of-requires-clause-name
 front_of-requires-clause-name c =
-    number-within c.args.names.now c.in-Head.name (subst IsNamed (c.in-Head.ensures.tree c.args.names.now) c.requires.ready.named).0
+    number-within (texts_of c.args.spot.now) c.in-Head.name (subst IsNamed (c.in-Head.ensures.tree (texts_of c.args.spot.now)) c.requires.ready.named).0
 
 pub front_of-requires-clause-text : goal.front_of-requires-clause-text
-front_of-requires-clause-text c = (subst IsNamed (c.in-Head.ensures.tree c.args.names.now) c.requires.ready.named).0
+front_of-requires-clause-text c = (subst IsNamed (c.in-Head.ensures.tree (texts_of c.args.spot.now)) c.requires.ready.named).0
 
 pub variable-requires : goal.variable-requires
 variable-requires c = omega (arith, c.requires.stands.depth, c.requires.stands.room)
@@ -92,11 +94,12 @@ returns-in_ok-term-in-Int-clause-keeps c = c.int.ensures.keeps
 
 pub returns-in_ok-front-in-Head-clause-begun : goal.returns-in_ok-front-in-Head-clause-begun
 returns-in_ok-front-in-Head-clause-begun c =
-    let a = around c.args.place c.args.binders.now.scope in
-    begun_head (record { texts = c.args.names.now; forms = c.args.forms.now; around = a }) c.args.bank.now
-    (record { front = c.in_ok-front-in-Head.front; at = c.args.at; args = c.new-args.result }) (met_of c.args.names.now c.args.met.now)
-    (met_of c.args.names.now c.front_of.new.met) (identifier c.args.names.now c.in-Head.name)
-    (raws_in (raw_trees c.args.names.now c.args.forms.now) (places c.in-Head.field-1.now)) (c.in-Head.ensures.tree c.args.names.now) c.new-args.ensures.items
+    let a = around c.args.spot.now.place c.args.spot.now.binders.now.scope in
+    begun_head (record { texts = (texts_of c.args.spot.now); forms = (forms_of c.args.spot.now); around = a }) c.args.bank.now
+    (record { front = c.in_ok-front-in-Head.front; at = c.args.at; args = c.new-args.result }) (met_of (texts_of c.args.spot.now) c.args.met.now)
+    (met_of (texts_of c.args.spot.now) c.front_of.new.met) (identifier (texts_of c.args.spot.now) c.in-Head.name)
+    (raws_in (raw_trees (texts_of c.args.spot.now) (forms_of c.args.spot.now)) (places c.in-Head.field-1.now))
+    (c.in-Head.ensures.tree (texts_of c.args.spot.now)) c.new-args.ensures.items
     c.in_ok-front-in-Head.ensures.front c.in_ok-front-in-Head.ensures.met
 
 pub returns-in_ok-front-in-Head-clause-fits : goal.returns-in_ok-front-in-Head-clause-fits

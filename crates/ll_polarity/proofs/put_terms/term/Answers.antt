@@ -5,6 +5,7 @@ use Rattle.ll_bank.proofs.CallerLemmas.{Extends-refl, Extends-trans}
 use Rattle.ll_polarity.specs.declared.put_terms.Turn.{Turn}
 use Rattle.ll_polarity.proofs.putting.Calling.{calls_left, turn_left, at_turn, room_on_the_way, way_begun, way_resumed, way_given, way_ends}
 use Rattle.ll_polarity.proofs.putting.Calling.{less_begun, less_resumed, less_given}
+use Rattle.ll_polarity.specs.Spots.{texts_of, forms_of}
 use Rattle.ll_polarity.proofs.put_terms.term.Goals as goal
 
 pub turns-init : goal.turns-init
@@ -17,10 +18,11 @@ begun-requires-clause-room c =
 
 pub turns-smaller-in_ok-turn-in-Read : goal.turns-smaller-in_ok-turn-in-Read
 turns-smaller-in_ok-turn-in-Read c =
-    let less = less_begun c.args.names.now c.args.forms.now c.in-Read.at c.in_ok-turn-in-Read.turn c.in_ok-turn-in-Read.ensures.next in
-    subst (λ (t : Turn). calls_left c.args.names.now c.args.forms.now c.turns.calls.items
-    + turn_left c.args.names.now c.args.forms.now c.in_ok-turn-in-Read.turn < calls_left c.args.names.now c.args.forms.now c.turns.calls.items
-    + turn_left c.args.names.now c.args.forms.now t) (sym c.in-Read.is)
+    let less = less_begun (texts_of c.args.spot.now) (forms_of c.args.spot.now) c.in-Read.at c.in_ok-turn-in-Read.turn c.in_ok-turn-in-Read.ensures.next in
+    subst (λ (t : Turn). calls_left (texts_of c.args.spot.now) (forms_of c.args.spot.now) c.turns.calls.items
+    + turn_left (texts_of c.args.spot.now) (forms_of c.args.spot.now) c.in_ok-turn-in-Read.turn < calls_left (texts_of c.args.spot.now)
+    (forms_of c.args.spot.now) c.turns.calls.items
+    + turn_left (texts_of c.args.spot.now) (forms_of c.args.spot.now) t) (sym c.in-Read.is)
     (omega (arith, less))
 
 pub turns-preserved-in_ok-turn-in-Read : goal.turns-preserved-in_ok-turn-in-Read
@@ -30,10 +32,12 @@ turns-preserved-in_ok-turn-in-Read c =
 
 pub turns-smaller-in_ok-turn-in-Resume : goal.turns-smaller-in_ok-turn-in-Resume
 turns-smaller-in_ok-turn-in-Resume c =
-    subst (λ (t : Turn). calls_left c.args.names.now c.args.forms.now c.resumed.new.calls.items
-    + turn_left c.args.names.now c.args.forms.now c.in_ok-turn-in-Resume.turn < calls_left c.args.names.now c.args.forms.now c.turns.calls.items
-    + turn_left c.args.names.now c.args.forms.now t) (sym c.in-Resume.is)
-    (less_resumed c.args.names.now c.args.forms.now c.turns.bank c.resumed.new.bank c.turns.calls.items c.resumed.new.calls.items c.in-Resume.call
+    subst (λ (t : Turn). calls_left (texts_of c.args.spot.now) (forms_of c.args.spot.now) c.resumed.new.calls.items
+    + turn_left (texts_of c.args.spot.now) (forms_of c.args.spot.now) c.in_ok-turn-in-Resume.turn < calls_left (texts_of c.args.spot.now)
+    (forms_of c.args.spot.now) c.turns.calls.items
+    + turn_left (texts_of c.args.spot.now) (forms_of c.args.spot.now) t) (sym c.in-Resume.is)
+    (less_resumed (texts_of c.args.spot.now) (forms_of c.args.spot.now) c.turns.bank c.resumed.new.bank c.turns.calls.items c.resumed.new.calls.items
+    c.in-Resume.call
     c.in_ok-turn-in-Resume.turn c.in_ok-turn-in-Resume.ensures.resumed)
 
 pub turns-preserved-in_ok-turn-in-Resume : goal.turns-preserved-in_ok-turn-in-Resume
@@ -43,10 +47,12 @@ turns-preserved-in_ok-turn-in-Resume c =
 
 pub turns-smaller : goal.turns-smaller
 turns-smaller c =
-    subst (λ (t : Turn). calls_left c.args.names.now c.args.forms.now c.pop.new.self.items
-    + turn_left c.args.names.now c.args.forms.now c.in_ok-turn-in-Some.turn < calls_left c.args.names.now c.args.forms.now c.turns.calls.items
-    + turn_left c.args.names.now c.args.forms.now t) (sym c.in-Give.is)
-    (less_given c.args.names.now c.args.forms.now c.turns.calls.items c.pop.new.self.items c.in-Some.call c.in-Give.term c.in_ok-turn-in-Some.turn
+    subst (λ (t : Turn). calls_left (texts_of c.args.spot.now) (forms_of c.args.spot.now) c.pop.new.self.items
+    + turn_left (texts_of c.args.spot.now) (forms_of c.args.spot.now) c.in_ok-turn-in-Some.turn < calls_left (texts_of c.args.spot.now)
+    (forms_of c.args.spot.now) c.turns.calls.items
+    + turn_left (texts_of c.args.spot.now) (forms_of c.args.spot.now) t) (sym c.in-Give.is)
+    (less_given (texts_of c.args.spot.now) (forms_of c.args.spot.now) c.turns.calls.items c.pop.new.self.items c.in-Some.call c.in-Give.term
+    c.in_ok-turn-in-Some.turn
     c.in-Some.ensures.items c.in_ok-turn-in-Some.ensures)
 
 pub turns-preserved : goal.turns-preserved

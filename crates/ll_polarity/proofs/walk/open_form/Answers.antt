@@ -118,10 +118,12 @@ returns-in_ok-open_body-in-Exists-clause-texts c =
 
 pub returns-in-Load-clause-opened : goal.returns-in-Load-clause-opened
 returns-in-Load-clause-opened c =
-    ok-each c.open_load.result _ _ (opened-load c.args.source.now.names.now c.args.source.now.forms.now c.args.source.now.headings.now.params c.args.side
+    ok-each c.open_load.result _ _ (λ e. opened-load c.args.source.now.names.now c.args.source.now.forms.now c.args.source.now.headings.now.params c.args.side
     c.args.binders.now.scope c.args.at c.in-Load.name c.in-Load.args c.in-Load.goal c.load_fault-fault.result c.text-text.result.now
     c.place-place.result c.args.parts.now c.open_load.new.parts c.requires.ready c.in-Load.ensures c.text-text.ensures
-    (c.place-place.ensures c.args.source.now.names.now) c.load_fault-fault.ensures) c.open_load.ensures
+    (c.place-place.ensures c.args.source.now.names.now) c.load_fault-fault.ensures
+    (e ∙ ap (λ (own : List Fault). map Found (option_to_list c.load_fault-fault.result) ++ (map Term c.in-Load.args.now
+    ++ (map Found own ++ Form c.args.side c.in-Load.goal ∷ c.args.parts.now))) c.misplaced_load-own.ensures)) c.open_load.ensures
 
 pub returns-in-Load-clause-texts : goal.returns-in-Load-clause-texts
 returns-in-Load-clause-texts c = ok-always c.open_load.result _ c.requires.texts

@@ -1,6 +1,6 @@
 use Rattle.std.proofs.Common.{refl, rules, w64}
 use Rattle.std.specs.Prelude.{FitsSigned}
-use Rattle.ll_lists.proofs.CallerLemmas.{OnOk-weaker as on_ok}
+use Rattle.ll_list_laws.proofs.CallerLemmas.{OnOk-weaker as on_ok}
 use Rattle.ll_printer.proofs.Parts.{word-expression, expression-number, expression-head-is}
 use Rattle.ll_printer.proofs.Signs.{other-text}
 use Rattle.ll_printer.proofs.expressions.push_expression.Goals as goal

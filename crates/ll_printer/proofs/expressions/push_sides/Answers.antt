@@ -2,7 +2,7 @@ use Rattle.std.proofs.lemmas.Result.{IfOk-from_err}
 use Rattle.ll_parser.specs.Nodes.{raw_at, identifier}
 use Rattle.ll_printer.proofs.Parts.{sides-pushed, left-encloses-is, right-encloses-is}
 use Rattle.ll_printer.proofs.expressions.push_sides.Goals as goal
-use Rattle.ll_lists.proofs.CallerLemmas.{OnOk-weaker as on_ok}
+use Rattle.ll_list_laws.proofs.CallerLemmas.{OnOk-weaker as on_ok}
 
 pub returns : goal.returns
 returns c =

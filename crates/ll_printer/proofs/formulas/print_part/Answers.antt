@@ -1,6 +1,6 @@
 use Rattle.std.proofs.Common.{arith, rules, w64, refl}
 use Rattle.std.specs.Prelude.{FitsSigned}
-use Rattle.ll_lists.proofs.CallerLemmas.{OnOk-weaker as on_ok, OnErr-always as on_err}
+use Rattle.ll_list_laws.proofs.CallerLemmas.{OnOk-weaker as on_ok, OnErr-always as on_err}
 use Rattle.ll_printer.proofs.Parts.{moves-left, moves-written, moves-number}
 use Rattle.ll_printer.proofs.formulas.print_part.Goals as goal
 

@@ -1,5 +1,5 @@
 use Rattle.std.proofs.Common.{sym, ◌∙◌}
-use Rattle.ll_lists.proofs.CallerLemmas.{OnOk-weaker as on_ok}
+use Rattle.ll_list_laws.proofs.CallerLemmas.{OnOk-weaker as on_ok}
 use Rattle.ll_printer.proofs.Parts.{leaves-bracketed, leaves-plain}
 use Rattle.ll_printer.proofs.formulas.push_formula.Goals as goal
 

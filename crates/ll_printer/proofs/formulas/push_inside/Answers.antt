@@ -1,5 +1,5 @@
 use Rattle.std.proofs.Common.{refl}
-use Rattle.ll_lists.proofs.CallerLemmas.{OnOk-weaker as on_ok}
+use Rattle.ll_list_laws.proofs.CallerLemmas.{OnOk-weaker as on_ok}
 use Rattle.ll_printer.specs.declared.formulas.Word.TheVariants as word
 use Rattle.ll_printer.proofs.Parts.{word-inside, inside-braces, inside-bound, inside-binary, inside-number, inside-load, inside-head}
 use Rattle.ll_printer.proofs.formulas.push_inside.Goals as goal

@@ -1,6 +1,6 @@
 use Rattle.std.proofs.Common.{refl, rules, w64}
 use Rattle.std.specs.Prelude.{FitsSigned}
-use Rattle.ll_lists.proofs.CallerLemmas.{OnOk-weaker as on_ok}
+use Rattle.ll_list_laws.proofs.CallerLemmas.{OnOk-weaker as on_ok}
 use Rattle.ll_printer.proofs.Parts.{word-term, term-number, term-head}
 use Rattle.ll_printer.proofs.Signs.{other-text}
 use Rattle.ll_printer.proofs.formulas.push_term.Goals as goal

@@ -1,5 +1,5 @@
 use Rattle.std.proofs.Common.{sym, ◌∙◌}
-use Rattle.ll_lists.proofs.CallerLemmas.{OnErr-always as on_err}
+use Rattle.ll_list_laws.proofs.CallerLemmas.{OnErr-always as on_err}
 use Rattle.ll_printer.proofs.Printing.{argument_opens, opens_refused}
 use Rattle.ll_printer.proofs.pieces.print_argument.Goals as goal
 

@@ -1,6 +1,6 @@
 use Rattle.std.proofs.Common.{◌+◌, ◌-◌, ◌++◌, length, take, drop, refl, ap, sym, ◌∙◌, arith, length-drop}
 use Rattle.std.proofs.lemmas.List.{take_all}
-use Rattle.ll_lists.proofs.CallerLemmas.{OnErr-always as on_err}
+use Rattle.ll_list_laws.proofs.CallerLemmas.{OnErr-always as on_err}
 use Rattle.ll_printer.specs.Stack.{argument_pieces}
 use Rattle.ll_printer.proofs.Printing.{arguments_on, arguments_stop, arguments_opens, arguments_opens_refused, arguments_short_refused}
 use Rattle.ll_printer.proofs.pieces.print_arguments.Goals as goal

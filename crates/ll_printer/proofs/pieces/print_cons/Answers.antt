@@ -1,4 +1,4 @@
-use Rattle.ll_lists.proofs.CallerLemmas.{OnErr-always as on_err}
+use Rattle.ll_list_laws.proofs.CallerLemmas.{OnErr-always as on_err}
 use Rattle.ll_printer.proofs.Printing.{cons_opens, cons_begins}
 use Rattle.ll_printer.proofs.pieces.print_cons.Goals as goal
 

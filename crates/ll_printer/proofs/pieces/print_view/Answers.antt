@@ -1,6 +1,6 @@
 use Rattle.std.proofs.Common.{sym, subst, ◌∙◌, map}
 use Rattle.std.proofs.lemmas.Result.{IfOk-weaker, on_err_weaker}
-use Rattle.ll_lists.proofs.CallerLemmas.{OnErr-always as on_err}
+use Rattle.ll_list_laws.proofs.CallerLemmas.{OnErr-always as on_err}
 use Rattle.ll_bank.specs.declared.At.{At}
 use Rattle.ll_laws.specs.Output.{head_text}
 use Rattle.ll_printer.specs.Pieces.{BeginsText}

@@ -1,6 +1,6 @@
 use Rattle.std.proofs.Common.{◌++◌, false, ap, ◌∙◌}
 use Rattle.std.proofs.lemmas.Result.{IfOk-from_err}
-use Rattle.ll_lists.proofs.CallerLemmas.{OnErr-always as on_err}
+use Rattle.ll_list_laws.proofs.CallerLemmas.{OnErr-always as on_err}
 use Rattle.ll_parser.specs.Nodes.{raw_at, shown_clause}
 use Rattle.ll_parser.specs.Printed.{clauses, formula_text, line_end, clause_text}
 use Rattle.ll_printer.specs.Parts.{IsWriting}

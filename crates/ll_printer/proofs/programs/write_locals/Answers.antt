@@ -1,5 +1,5 @@
 use Rattle.ll_printer.proofs.Lines.{locals-none, locals-end, locals-cut}
-use Rattle.ll_lists.proofs.CallerLemmas.{OnErr-always as on_err, OnOk-weaker as on_ok, OnErr-weaker as on_refused}
+use Rattle.ll_list_laws.proofs.CallerLemmas.{OnErr-always as on_err, OnOk-weaker as on_ok, OnErr-weaker as on_refused}
 use Rattle.ll_printer.proofs.Printing.{begins_same}
 use Rattle.ll_parser.specs.Printed.{locals_text}
 use Rattle.ll_parser.specs.Nodes.{identifier}

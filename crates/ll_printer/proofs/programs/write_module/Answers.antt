@@ -5,7 +5,7 @@ use Rattle.std.proofs.lemmas.Result.{IfOk-from_err}
 use Rattle.ll_printer.proofs.Lines.{module-word, module-name, module-params, module-locals, name-refused, params-refused, locals-refused, last-refused}
 use Rattle.ll_printer.proofs.Lines.{last-written}
 use Rattle.ll_printer.proofs.programs.write_module.Goals as goal
-use Rattle.ll_lists.proofs.CallerLemmas.{OnErr-always as on_err, OnErr-weaker as on_refused, OnOk-weaker as on_ok}
+use Rattle.ll_list_laws.proofs.CallerLemmas.{OnErr-always as on_err, OnErr-weaker as on_refused, OnOk-weaker as on_ok}
 
 pub returns-in_err-write_name-clause-begun : goal.returns-in_err-write_name-clause-begun
 returns-in_err-write_name-clause-begun c =

@@ -1,7 +1,7 @@
 use Rattle.ll_prooftext.proofs.spelling.Kept.{below, grows_on}
 use Rattle.std.proofs.Common.{length, subst}
 use Rattle.std.proofs.lemmas.Result.{err_from_is_err_and, IfOk-from_err}
-use Rattle.ll_lists.proofs.CallerLemmas.{IfOk-each as if_ok}
+use Rattle.ll_list_laws.proofs.CallerLemmas.{IfOk-each as if_ok}
 use Rattle.ll_bank.specs.Nodes.{term_trees}
 use Rattle.ll_bank.specs.declared.At.{At}
 use Rattle.ll_prooftext.specs.Reading.{Cell, Nothing, More, Row, Then}

@@ -1,6 +1,6 @@
 use Rattle.std.proofs.Common.{length, ◌++◌}
 use Rattle.std.proofs.lemmas.Result.{err_from_is_err_and}
-use Rattle.ll_lists.proofs.CallerLemmas.{IfOk-each as if_ok}
+use Rattle.ll_list_laws.proofs.CallerLemmas.{IfOk-each as if_ok}
 use Rattle.ll_bank.specs.Nodes.{term_trees}
 use Rattle.ll_laws.specs.declared.Rule.{Rule}
 use Rattle.ll_prooftext.specs.RowWords.{spelling, IsNodeRow}

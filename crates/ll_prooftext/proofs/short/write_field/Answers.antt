@@ -2,7 +2,7 @@ use Rattle.std.proofs.lemmas.Result.{IfOk-from_err}
 use Rattle.std.proofs.Common.{◌++◌, ap, sym, subst, ◌∙◌, append_assoc, codes, decimal}
 use Rattle.std.specs.Prelude.{unwrap_or}
 use Rattle.std.proofs.lemmas.List.{length-map}
-use Rattle.ll_lists.proofs.CallerLemmas.{OnOk-weaker as on_ok}
+use Rattle.ll_list_laws.proofs.CallerLemmas.{OnOk-weaker as on_ok}
 use Rattle.ll_bank.specs.declared.At.{At}
 use Rattle.ll_bank.specs.Nodes.{term_tree, term_trees}
 use Rattle.ll_laws.specs.Output.{term_text}

@@ -4,7 +4,7 @@ use Rattle.std.specs.List.{list_any}
 use Rattle.std.specs.Ordering.{nat_cmp}
 use Rattle.std.specs.BTreeSet.{contains}
 use Rattle.ll_bank.specs.Nodes.{places}
-use Rattle.ll_terms.proofs.CallerLemmas.{inserted, more_any, places_more}
+use Rattle.ll_bank.proofs.CallerLemmas.{inserted, more_any, places_more}
 use Rattle.ll_sequent.proofs.constants.insert_all.Goals as goal
 
 pub loop-place-preserved : goal.loop-place-preserved

@@ -3,7 +3,7 @@ use Rattle.std.specs.BTreeSet.{contains}
 use Rattle.std.proofs.lemmas.Result.{IfOk-from_err}
 use Rattle.ll_bank.specs.Nodes.{places}
 use Rattle.ll_bank.proofs.CallerLemmas.{below_places}
-use Rattle.ll_terms.proofs.CallerLemmas.{ceiling_falls, removed_other, removed_less}
+use Rattle.ll_bank.proofs.CallerLemmas.{ceiling_falls, removed_other, removed_less}
 use Rattle.ll_sequent.proofs.ConstantLemmas.{looking_begins, looking_on, looking_stops}
 use Rattle.ll_sequent.proofs.constants.is_in_terms.Goals as goal
 

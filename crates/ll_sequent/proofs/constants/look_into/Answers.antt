@@ -4,7 +4,7 @@ use Rattle.std.specs.Prelude.{◌||◌}
 use Rattle.std.specs.Ordering.{nat_cmp}
 use Rattle.std.specs.BTreeSet.{contains}
 use Rattle.std.proofs.lemmas.List.Elements.{All-cons, All-nil}
-use Rattle.ll_lists.proofs.CallerLemmas.{or_false}
+use Rattle.ll_list_laws.proofs.CallerLemmas.{or_false}
 use Rattle.ll_bank.specs.declared.At.{At}
 use Rattle.ll_bank.specs.Nodes.{term_tree, form_tree}
 use Rattle.ll_bank.specs.Term.{has_eigen}

@@ -1,11 +1,11 @@
 use Rattle.std.proofs.Common.{ℕ, Bool, ◌||◌}
 use Rattle.std.proofs.lemmas.Result.{IfOk-from_err}
-use Rattle.ll_lists.proofs.CallerLemmas.{IfOk-each}
+use Rattle.ll_list_laws.proofs.CallerLemmas.{IfOk-each}
 use Rattle.std.specs.Ordering.{nat_cmp}
 use Rattle.std.specs.BTreeSet.{contains}
 use Rattle.ll_bank.specs.Nodes.{form_tree}
 use Rattle.ll_bank.specs.Form.{form_has_eigen}
-use Rattle.ll_terms.proofs.CallerLemmas.{none_in}
+use Rattle.ll_bank.proofs.CallerLemmas.{none_in}
 use Rattle.ll_sequent.specs.Constants.{is_in_each, forms_of}
 use Rattle.ll_sequent.proofs.ConstantLemmas.{gathers_both, found_in}
 use Rattle.ll_sequent.proofs.constants.stands.Goals as goal

@@ -5,7 +5,7 @@ use Rattle.ll_bank.specs.Form.{close_form, form_applies_heads}
 use Rattle.ll_bank.specs.Nodes.{form_tree, term_tree, term_trees, ShowsTerm, ShowsForm}
 use Rattle.ll_bank.proofs.CallerLemmas.{AllInTerms-extends, Extends-trans}
 use Rattle.ll_laws.specs.Leaf.{ways}
-use Rattle.ll_close.specs.Closing.{env_of}
+use Rattle.ll_bank.specs.Closing.{env_of}
 use Rattle.ll_sequent.proofs.WayLemmas.{way_start, way_side, way_lolli, way_imp, way_forall, way_short, way_end, way_past_atom, way_more_terms, way_other}
 use Rattle.ll_sequent.proofs.WayLemmas.{lolli_heads, imp_heads, atom_heads, env_passed, values_passed, side_low, part_low, passed_all, passed_not_all}
 use Rattle.ll_sequent.proofs.WayLemmas.{all_taken, passed_taken, passed_less}

@@ -1,7 +1,7 @@
 use Rattle.std.proofs.Common.{◌≡◌, true, false, refl, arith, rules}
 use Rattle.std.proofs.lemmas.Result.{IfOk-from_err}
 use Rattle.std.specs.Prelude.{◌||◌, not}
-use Rattle.ll_lists.proofs.CallerLemmas.{IfOk-each}
+use Rattle.ll_list_laws.proofs.CallerLemmas.{IfOk-each}
 use Rattle.ll_sequent.specs.declared.sequents.Step.TheVariants.{Refused}
 use Rattle.ll_sequent.specs.Named.{has_resource}
 use Rattle.ll_sequent.proofs.RuleLemmas.{imp_known, imp_steps}

@@ -1,6 +1,6 @@
 use Rattle.std.proofs.Common.{refl}
 use Rattle.std.proofs.lemmas.Result.{IfOk-from_err}
-use Rattle.ll_lists.proofs.CallerLemmas.{IfOk-each}
+use Rattle.ll_list_laws.proofs.CallerLemmas.{IfOk-each}
 use Rattle.ll_bank.specs.Nodes.{term_tree}
 use Rattle.ll_bank.proofs.CallerLemmas.{Extends-refl}
 use Rattle.ll_sequent.specs.declared.sequents.Step.TheVariants.{Refused}
@@ -14,7 +14,7 @@ instantiate-requires-clause-heads c =
 
 pub returns-in_ok-goal-in-Exists-clause-is : goal.returns-in_ok-goal-in-Exists-clause-is
 returns-in_ok-goal-in-Exists-clause-is c =
-    IfOk-each c.leave_one.result _ _ (λ step leaving. exists_steps c.args.bank.now c.instantiate.new.bank c.args.sequent
+    IfOk-each c.leave_one.result _ _ (λ step leaving. exists_steps c.args.bank.now c.instantiate.new.self c.args.sequent
     (record { free = c.args.sequent.free; bounded = c.args.sequent.bounded; goal = c.in_ok-goal-in-Exists.goal })
     c.in-Exists.body (term_tree c.args.bank.now c.args.value.0) step c.in-Exists.ensures.shown c.requires.closed
     c.in_ok-goal-in-Exists.ensures.keeps c.in_ok-goal-in-Exists.ensures.shows refl refl leaving) c.leave_one.ensures

@@ -1,6 +1,6 @@
 use Rattle.std.proofs.Common.{ℕ, ◌<◌, refl, ap, sym, subst, ◌∙◌, length, List, arith}
 use Rattle.std.proofs.lemmas.Result.{IfOk-from_err}
-use Rattle.ll_lists.proofs.CallerLemmas.{IfOk-each}
+use Rattle.ll_list_laws.proofs.CallerLemmas.{IfOk-each}
 use Rattle.ll_bank.specs.declared.Head.TheVariants.{Eigen}
 use Rattle.ll_bank.specs.Term.{Con}
 use Rattle.ll_bank.specs.Form.{instantiate, form_applies_heads}
@@ -40,14 +40,14 @@ returns-in_ok-goal-in-Forall-clause-is c =
     let inside : HasForm c.args.bank.now c.in-Forall.body.0 =
     part_low c.in-Forall.body.0 c.args.sequent.goal.0 (length c.args.bank.now.forms) c.in-Forall.ensures.shown.parts c.requires.goal in
     let same = form_tree-extends c.in_ok-value-in-Forall.ensures.keeps c.in-Forall.body.0 inside in
-    let shows : ShowsForm c.instantiate.new.bank c.in_ok-goal-in-Forall.goal.0
+    let shows : ShowsForm c.instantiate.new.self c.in_ok-goal-in-Forall.goal.0
     (instantiate (form_tree c.args.bank.now c.in-Forall.body.0) (Con (Eigen c.args.constant))) =
     record {
       inside = c.in_ok-goal-in-Forall.ensures.shows.inside;
       tree = c.in_ok-goal-in-Forall.ensures.shows.tree ∙ (λ i. instantiate (same i) (c.in_ok-value-in-Forall.ensures.shows.tree i));
     } in
     IfOk-each c.leave_one.result _ _ (λ step leaving.
-    forall_steps c.args.bank.now c.args.free.now c.args.sequent c.args.constant c.in-Forall.body c.in-Forall.ensures.shown c.instantiate.new.bank
+    forall_steps c.args.bank.now c.args.free.now c.args.sequent c.args.constant c.in-Forall.body c.in-Forall.ensures.shown c.instantiate.new.self
     (record { free = c.args.sequent.free; bounded = c.args.sequent.bounded; goal = c.in_ok-goal-in-Forall.goal }) step
     (ap (stands_in c.args.constant c.args.bank.now c.in-Forall.body c.args.free.now) (sym c.deref.ensures.value)
     ∙ (sym c.in_ok-stands-in-Forall.ensures ∙ c.if-branch.false))

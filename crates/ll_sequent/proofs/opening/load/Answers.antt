@@ -1,7 +1,7 @@
 use Rattle.std.proofs.Common.{ℕ, ◌<◌, length, map, refl, ap, sym, subst, ◌∙◌, arith}
 use Rattle.std.proofs.lemmas.Bool.{ltb-true}
 use Rattle.std.proofs.lemmas.Result.{IfOk-from_err}
-use Rattle.ll_lists.proofs.CallerLemmas.{IfOk-each}
+use Rattle.ll_list_laws.proofs.CallerLemmas.{IfOk-each}
 use Rattle.ll_bank.specs.Form.{Use}
 use Rattle.ll_bank.specs.Nodes.{form_tree, term_trees, AllInTerms}
 use Rattle.ll_bank.proofs.CallerLemmas.{Extends-refl}

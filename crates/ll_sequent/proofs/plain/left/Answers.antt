@@ -1,5 +1,5 @@
 use Rattle.std.proofs.Common.{refl}
-use Rattle.ll_lists.proofs.CallerLemmas.{IfOk-each}
+use Rattle.ll_list_laws.proofs.CallerLemmas.{IfOk-each}
 use Rattle.ll_sequent.proofs.RuleLemmas.{left_makes}
 use Rattle.ll_sequent.proofs.plain.left.Goals as goal
 

@@ -1,7 +1,7 @@
 use Rattle.std.proofs.Common.{◌≡◌, true, false, refl, ap, ◌∙◌, arith}
 use Rattle.std.proofs.lemmas.Result.{IfOk-from_err}
 use Rattle.std.specs.Prelude.{filter}
-use Rattle.ll_lists.proofs.CallerLemmas.{IfOk-each}
+use Rattle.ll_list_laws.proofs.CallerLemmas.{IfOk-each}
 use Rattle.ll_laws.specs.Shows.{has}
 use Rattle.ll_sequent.specs.declared.sequents.Resource.{Resource}
 use Rattle.ll_sequent.specs.Named.{deals}

@@ -4,7 +4,7 @@ use Rattle.std.proofs.lemmas.List.{length-map}
 use Rattle.std.proofs.lemmas.Bool.{eqb-true, eqb-false}
 use Rattle.std.specs.Prelude.{filter, not}
 use Rattle.std.specs.List.{list_all}
-use Rattle.ll_lists.proofs.CallerLemmas.{empty_from_length as empty_list}
+use Rattle.ll_list_laws.proofs.CallerLemmas.{empty_from_length as empty_list}
 use Rattle.ll_laws.specs.Shows.{has}
 use Rattle.ll_sequent.specs.declared.sequents.Sequent.{Sequent}
 use Rattle.ll_laws.specs.ShownLines.{part_line}

@@ -1,6 +1,6 @@
 use Rattle.std.proofs.Common.{sym, subst, ◌∙◌}
 use Rattle.std.specs.Prelude.{Ok, Err}
-use Rattle.ll_lists.proofs.CallerLemmas.{OnOk-weaker as on-ok, OnErr-weaker as on-err}
+use Rattle.ll_list_laws.proofs.CallerLemmas.{OnOk-weaker as on-ok, OnErr-weaker as on-err}
 use Rattle.ll_parser.specs.Raw.{ProgramTree}
 use Rattle.ll_session.specs.Queries.{IsProgramOf}
 use Rattle.ll_session.specs.Replied.{Replies, RefusesLine, line_refused}

@@ -1,6 +1,6 @@
 use Rattle.std.proofs.Common.{arith, map, ◌++◌, sym, ap, ◌∙◌}
 use Rattle.std.proofs.lemmas.List.{append-nil, take_all}
-use Rattle.ll_lists.proofs.CallerLemmas.{OnErr-always}
+use Rattle.ll_list_laws.proofs.CallerLemmas.{OnErr-always}
 use Rattle.ll_store.specs.Packed.{change_of}
 use Rattle.ll_store.specs.Segments.{Renewed, renewed_of}
 use Rattle.ll_store.proofs.SegmentLemmas.{trail-step}

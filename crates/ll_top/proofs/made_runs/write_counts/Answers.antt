@@ -1,5 +1,5 @@
 use Rattle.std.proofs.Common.{◌≡◌, refl, subst, IfOk, Some}
-use Rattle.ll_lists.proofs.CallerLemmas.{OnErr-always as on_err}
+use Rattle.ll_list_laws.proofs.CallerLemmas.{OnErr-always as on_err}
 use Rattle.ll_top.specs.Endings.{status_of_found}
 use Rattle.ll_top.specs.MadeRuns.{last_line}
 use Rattle.ll_edge.proofs.CallerLemmas.{no_front}

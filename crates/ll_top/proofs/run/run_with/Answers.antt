@@ -1,7 +1,7 @@
 use Rattle.std.specs.Prelude.{Some}
 use Rattle.std.proofs.Common.{◌≡◌, subst, IfOk, le_trans}
 use Rattle.std.proofs.lemmas.Result.{IfOk-from_err, err_from_is_err_and}
-use Rattle.ll_lists.proofs.CallerLemmas.{OnErr-always as on_err}
+use Rattle.ll_list_laws.proofs.CallerLemmas.{OnErr-always as on_err}
 use Rattle.ll_top.specs.Endings.{status_of_found}
 use Rattle.ll_top.proofs.writing.RunLemmas.{on_ok_map, on_err_map}
 use Rattle.ll_top.proofs.calls.EndLemmas.{end-status, text-ended, text-cut}

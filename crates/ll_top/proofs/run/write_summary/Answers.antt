@@ -2,7 +2,7 @@ use Rattle.std.proofs.Common.{refl, ap, Some}
 use Rattle.ll_edge.proofs.CallerLemmas.{no_front, taken_front}
 use Rattle.ll_top.proofs.judging.ToldLemmas.{sink-still}
 use Rattle.ll_top.proofs.run.write_summary.Goals as goal
-use Rattle.ll_lists.proofs.CallerLemmas.{OnErr-always as on_err}
+use Rattle.ll_list_laws.proofs.CallerLemmas.{OnErr-always as on_err}
 
 pub returns-in_err-summary-clause-prefix : goal.returns-in_err-summary-clause-prefix
 returns-in_err-summary-clause-prefix g c = on_err _ (no_front _ _)

@@ -1,7 +1,7 @@
 use Rattle.std.specs.Prelude.{Some}
 use Rattle.std.proofs.Common.{refl, sym, subst, ◌∙◌}
 use Rattle.std.specs.Prelude.{Ok, Err}
-use Rattle.ll_lists.proofs.CallerLemmas.{OnOk-weaker as on-ok, OnErr-weaker as on-err}
+use Rattle.ll_list_laws.proofs.CallerLemmas.{OnOk-weaker as on-ok, OnErr-weaker as on-err}
 use Rattle.ll_parser.specs.Raw.{ProgramTree}
 use Rattle.ll_session.specs.Queries.{IsProgramOf, on_line}
 use Rattle.ll_session.specs.Replied.{Replies, RefusesLine, line_refused}

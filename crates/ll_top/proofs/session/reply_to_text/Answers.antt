@@ -2,7 +2,7 @@ use Rattle.ll_edge.specs.Counts.{Rose}
 use denote.Builtin.{unit}
 use Rattle.std.specs.Prelude.{Some, Err}
 use Rattle.std.proofs.Common.{refl}
-use Rattle.ll_lists.proofs.CallerLemmas.{OnOk-weaker as on-ok}
+use Rattle.ll_list_laws.proofs.CallerLemmas.{OnOk-weaker as on-ok}
 use Rattle.ll_parser.specs.Raw.{ProgramTree}
 use Rattle.ll_top.specs.texts.Judging.{IsFaultless}
 use Rattle.ll_top.specs.Shown.{WritesReplies}

@@ -9,9 +9,9 @@ use Rattle.ll_top.proofs.calls.SessionLemmas.{program-not-read, queries-not-read
 use Rattle.ll_top.proofs.calls.RightLemmas.{FollowingLaws, session-shown}
 use Rattle.ll_top.specs.Shown.{SessionShown}
 use Rattle.std.specs.Prelude.{Option, Some}
-use Rattle.ll_edge.specs.Log.{Fits}
+use Rattle.ll_edge.specs.Log.{ToldFits}
 use Rattle.ll_edge.specs.Texts.{Texts}
-use Rattle.ll_lists.proofs.CallerLemmas.{OnOk-weaker as on-ok}
+use Rattle.ll_list_laws.proofs.CallerLemmas.{OnOk-weaker as on-ok}
 use Rattle.ll_top.proofs.judging.ToldLemmas.{shelf-read, shelf-later, shelf-refused, sink-still}
 use Rattle.ll_top.proofs.session.reply_to_texts.Goals as goal
 
@@ -84,7 +84,7 @@ returns-clause-replied g c =
     let program = c.in_ok-program.program.items in
     let text = c.in_ok-text.text.items in
     let replied = rw (c.deref.ensures.value, c.deref-2.ensures.value) at c.reply_to_text.ensures.replied in
-    on-ok {Q = (told : Option Texts) → Fits told (g.F.Shelf.log c.args.shelf.now) (g.F.Shelf.log c.read-2.new.shelf)
+    on-ok {Q = (told : Option Texts) → ToldFits told (g.F.Shelf.log c.args.shelf.now) (g.F.Shelf.log c.read-2.new.shelf)
     → SessionShown told session (Some (g.O.Sink.taken c.args.sink.now)) (Some (g.O.Sink.taken c.reply_to_text.new.sink))}
     c.reply_to_text.result
     (λ written told fits. session-shown laws told session program text written.0 _ _

@@ -3,7 +3,7 @@ use Rattle.std.specs.Prelude.{Some}
 use Rattle.std.proofs.Common.{◌∙◌, le_trans, Err}
 use Rattle.std.proofs.lemmas.Result.{IfOk-from_err, err_from_is_err_and}
 use Rattle.std.specs.Prelude.{codes, decimal, ◌++◌}
-use Rattle.ll_lists.proofs.CallerLemmas.{OnErr-always as on_err}
+use Rattle.ll_list_laws.proofs.CallerLemmas.{OnErr-always as on_err}
 use Rattle.ll_laws.specs.Output.{line}
 use Rattle.ll_top.specs.Outcome.{whole_text}
 use Rattle.ll_edge.proofs.CallerLemmas.{both-written, first-cut, second-cut}

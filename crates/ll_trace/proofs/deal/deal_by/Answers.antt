@@ -8,7 +8,7 @@ use Rattle.ll_trace.specs.declared.deal.Share.{Share}
 use Rattle.ll_trace.specs.Shares.{GivesRule}
 use Rattle.ll_trace.proofs.Sharing.{DealLeft, deal-start, deal-more, deal-end}
 use Rattle.std.proofs.lemmas.List.{drop-drop}
-use Rattle.ll_lists.proofs.CallerLemmas.{empty_from_length as no_items}
+use Rattle.ll_list_laws.proofs.CallerLemmas.{empty_from_length as no_items}
 use Rattle.ll_trace.proofs.deal.deal_by.Goals as goal
 
 pub loop-node-init : goal.loop-node-init

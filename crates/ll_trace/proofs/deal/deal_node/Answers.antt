@@ -1,7 +1,7 @@
 use Rattle.std.proofs.Common.{◌≡◌, List, sym, ap, subst, map}
 use Rattle.std.proofs.lemmas.Result.{IfOk-from_err}
 use Rattle.std.specs.Prelude.{Some}
-use Rattle.ll_lists.proofs.CallerLemmas.{IfOk-each as if_ok-more}
+use Rattle.ll_list_laws.proofs.CallerLemmas.{IfOk-each as if_ok-more}
 use Rattle.ll_bank.specs.Nodes.{Nodes, term_trees}
 use Rattle.ll_laws.specs.declared.Part.{Part}
 use Rattle.ll_laws.specs.declared.Rule.{Rule}

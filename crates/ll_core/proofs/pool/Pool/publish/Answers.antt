@@ -29,7 +29,7 @@ stack_room s k n cap h e = omega arith
 same : (n : ℕ) → n ≤ n
 same n = omega arith
 
--- memory is wanting
+-- memory runs out
 refused : {N : Type 0} (before now after : PoolData N Event) (m m' : ℕ) → before ≡ now → m ≡ m' → before.total + m ≤ 4294967295 → after ≡ before
     → (now.total + m' ≤ 4294967295) × (after ≡ now)
 refused before now after m m' b e small is =

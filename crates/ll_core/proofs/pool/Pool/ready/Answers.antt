@@ -3,7 +3,7 @@ use Rattle.std.proofs.Common.{◌≡◌, ◌<◌, ◌-◌, ◌+◌, ap, sym, sub
 use Rattle.std.specs.Prelude.{slice_get}
 use Rattle.ll_laws.specs.Sound.{Shaped}
 use Rattle.ll_laws.specs.CoreEvents.{Readies, All}
-use Rattle.ll_lists.proofs.CallerLemmas.{none_not_some}
+use Rattle.ll_list_laws.proofs.CallerLemmas.{none_not_some}
 use Rattle.ll_core.specs.Slots.{stop_in}
 use Rattle.ll_core.proofs.ready.Taking.{readies_all, none_last, top_of, start_there, batch_there, number_fits, not_claimed, found_of, len_is, inside_len}
 use Rattle.ll_core.proofs.ready.Taking.{room_there, whole_kept, not_closed, is_taken_next, whole_taken}

@@ -2,12 +2,12 @@ use Rattle.std.proofs.Common.{false, sym, refl, ap, subst, ◌∙◌, arith, [],
 use Rattle.std.proofs.lemmas.List.{map-append}
 use Rattle.std.proofs.lemmas.Bool.{false≢true}
 use Rattle.std.proofs.lemmas.Result.{IfOk-from_err}
-use Rattle.ll_lists.proofs.CallerLemmas.{OnErr-always}
+use Rattle.ll_list_laws.proofs.CallerLemmas.{OnErr-always}
 use Rattle.ll_engine.specs.declared.engine.Step2.TheVariants.{Moved, Event, Done}
 use Rattle.ll_engine.specs.Moves.{end_event, running_of}
 use Rattle.ll_engine.specs.Owed.{owing}
-use Rattle.ll_engine.specs.Pointed.{spine_of, IsSound}
-use Rattle.ll_engine.specs.Seen.{Owing, Spine}
+use Rattle.ll_engine.specs.Pointed.{choices_of, IsSound}
+use Rattle.ll_engine.specs.Seen.{Owing, Choices}
 use Rattle.ll_engine.specs.Healthy.{Healthy}
 use Rattle.ll_engine.specs.Steps.{Steps}
 use Rattle.ll_engine.specs.declared.engine.Move.{Move}
@@ -33,8 +33,8 @@ returns-then-is_over-clause-spent g c = λ e. sym c.if-self.false ∙ (ap (λ v.
 pub returns-then-is_over-clause-step : goal.returns-then-is_over-clause-step
 returns-then-is_over-clause-step g c =
     let i = c.self.inside in (
-      subst (λ (x : Owing). Steps x Done x) (seen (spine_of i.spine) i.running i.made i.splits i.spent c.args.self.now c.self.view_is c.if-self.false)
-          (done (spine_of i.spine) i.running i.made i.splits c.if-not-self.true (sym c.is_over.ensures ∙ c.if-is_over.true) (omega arith)),
+      subst (λ (x : Owing). Steps x Done x) (seen (choices_of i.choices) i.running i.made i.splits i.spent c.args.self.now c.self.view_is c.if-self.false)
+          (done (choices_of i.choices) i.running i.made i.splits c.if-not-self.true (sym c.is_over.ensures ∙ c.if-is_over.true) (omega arith)),
       refl,
     )
 
@@ -54,8 +54,8 @@ pub invariant_of-self-in-Quiet : goal.invariant_of-self-in-Quiet
 invariant_of-self-in-Quiet g c =
     let i = c.self.inside in
     λ _. let both = c.self.invariant c.if-self.false in (
-      subst (λ (w : Move). IsSound (running_of w) c.turn.new.spine) c.in-Quiet.is c.in_ok-went.ensures.sound,
-      healthy_turn (spine_of i.spine) (spine_of c.turn.new.spine) i.running c.in-Quiet.running i.splits c.in_ok-went.went (ap running_of c.in-Quiet.is)
+      subst (λ (w : Move). IsSound (running_of w) c.turn.new.choices) c.in-Quiet.is c.in_ok-went.ensures.sound,
+      healthy_turn (choices_of i.choices) (choices_of c.turn.new.choices) i.running c.in-Quiet.running i.splits c.in_ok-went.went (ap running_of c.in-Quiet.is)
           c.in_ok-went.ensures.turned both.1,
     )
 
@@ -64,8 +64,8 @@ invariant_of-self-in-Ends g c =
     let i = c.self.inside in
     λ _. let both = c.self.invariant c.if-self.false in (
       c.in_ok-notice-in-Ends.ensures.sound,
-      subst (λ (z : Spine). Healthy i.splits false z) (sym c.in_ok-notice-in-Ends.ensures.same)
-          (healthy_turn (spine_of i.spine) (spine_of c.turn.new.spine) i.running _ i.splits c.in_ok-went.went (ap running_of c.in-Ends.is)
+      subst (λ (z : Choices). Healthy i.splits false z) (sym c.in_ok-notice-in-Ends.ensures.same)
+          (healthy_turn (choices_of i.choices) (choices_of c.turn.new.choices) i.running _ i.splits c.in_ok-went.went (ap running_of c.in-Ends.is)
           c.in_ok-went.ensures.turned both.1),
     )
 
@@ -77,33 +77,34 @@ returns-in_ok-push-in-Ends-clause-spent g c = λ e. sym c.if-self.false ∙ (ap 
 
 pub returns-in-Quiet-clause-step : goal.returns-in-Quiet-clause-step
 returns-in-Quiet-clause-step g c =
-    let i = c.self.inside in let z = spine_of c.turn.new.spine in (
+    let i = c.self.inside in let z = choices_of c.turn.new.choices in (
       subst (λ (x : Owing). Steps x Moved (owing z c.in-Quiet.running i.made i.splits false))
-          (seen (spine_of i.spine) i.running i.made i.splits i.spent c.args.self.now c.self.view_is c.if-self.false)
-          (quiet (spine_of i.spine) z i.running c.in-Quiet.running i.made i.splits c.in_ok-went.went c.in-Quiet.is c.in_ok-went.ensures.turned (omega arith)),
+          (seen (choices_of i.choices) i.running i.made i.splits i.spent c.args.self.now c.self.view_is c.if-self.false)
+          (quiet (choices_of i.choices) z i.running
+          c.in-Quiet.running i.made i.splits c.in_ok-went.went c.in-Quiet.is c.in_ok-went.ensures.turned (omega arith)),
       refl,
     )
 
 pub returns-in-Inferred-clause-step : goal.returns-in-Inferred-clause-step
 returns-in-Inferred-clause-step g c =
-    let i = c.self.inside in let z = spine_of c.turn.new.spine in let more = c.saturating_add-self-inside.result in (
+    let i = c.self.inside in let z = choices_of c.turn.new.choices in let more = c.saturating_add-self-inside.result in (
       subst (λ (x : Owing). Steps x Moved (owing z c.in-Inferred.running more i.splits false))
-          (seen (spine_of i.spine) i.running i.made i.splits i.spent c.args.self.now c.self.view_is c.if-self.false)
-          (inferred (spine_of i.spine) z i.running c.in-Inferred.running i.made more i.splits c.in_ok-went.went c.in-Inferred.is c.in_ok-went.ensures.turned
+          (seen (choices_of i.choices) i.running i.made i.splits i.spent c.args.self.now c.self.view_is c.if-self.false)
+          (inferred (choices_of i.choices) z i.running c.in-Inferred.running i.made more i.splits c.in_ok-went.went c.in-Inferred.is c.in_ok-went.ensures.turned
           c.saturating_add-self-inside.ensures),
       refl,
     )
 
 pub returns-in_ok-push-in-Ends-clause-step : goal.returns-in_ok-push-in-Ends-clause-step
 returns-in_ok-push-in-Ends-clause-step g c =
-    let i = c.self.inside in let z = spine_of c.turn.new.spine in let both = c.self.invariant c.if-self.false in
+    let i = c.self.inside in let z = choices_of c.turn.new.choices in let both = c.self.invariant c.if-self.false in
     let answers = c.in-Ends.answers in
-    let went : Steps (owing (spine_of i.spine) i.running i.made i.splits false) (Event (end_event answers z.now)) (owing z false i.made i.splits false) =
-    ends (spine_of i.spine) z i.running i.made i.splits c.in_ok-went.went answers c.in-Ends.is c.in_ok-went.ensures.turned both.1 (omega arith) in (
+    let went : Steps (owing (choices_of i.choices) i.running i.made i.splits false) (Event (end_event answers z.now)) (owing z false i.made i.splits false) =
+    ends (choices_of i.choices) z i.running i.made i.splits c.in_ok-went.went answers c.in-Ends.is c.in_ok-went.ensures.turned both.1 (omega arith) in (
       end_event answers z.now,
-      subst (λ (x : Owing). Steps x (Event (end_event answers z.now)) (owing (spine_of c.notice.new.self) false i.made i.splits false))
-          (seen (spine_of i.spine) i.running i.made i.splits i.spent c.args.self.now c.self.view_is c.if-self.false)
-          (subst (λ (y : Spine). Steps (owing (spine_of i.spine) i.running i.made i.splits false) (Event (end_event answers z.now))
+      subst (λ (x : Owing). Steps x (Event (end_event answers z.now)) (owing (choices_of c.notice.new.self) false i.made i.splits false))
+          (seen (choices_of i.choices) i.running i.made i.splits i.spent c.args.self.now c.self.view_is c.if-self.false)
+          (subst (λ (y : Choices). Steps (owing (choices_of i.choices) i.running i.made i.splits false) (Event (end_event answers z.now))
           (owing y false i.made i.splits false)) (sym c.in_ok-notice-in-Ends.ensures.same) went),
       ap (map g.E.Notice.stands_for) c.in_ok-push-in-Ends.ensures.items
           ∙ (map-append g.E.Notice.stands_for c.args.events.now.items (c.in_ok-notice-in-Ends.notice ∷ [])

@@ -1,6 +1,6 @@
 use Rattle.std.proofs.lemmas.Result.{IfOk-from_err}
 use Rattle.std.proofs.Common.{refl}
-use Rattle.ll_lists.proofs.CallerLemmas.{OnErr-always}
+use Rattle.ll_list_laws.proofs.CallerLemmas.{OnErr-always}
 use Rattle.ll_parser.proofs.stored.StoredLemmas.{still_kept, same_view, added, added_kept, parts_below}
 use Rattle.ll_parser.proofs.raws.Raws.add.Goals as goal
 

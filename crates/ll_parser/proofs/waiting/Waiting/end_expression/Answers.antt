@@ -2,7 +2,7 @@ use Rattle.std.proofs.lemmas.Result.{IfOk-from_err, IfOk-weaker}
 use Rattle.std.proofs.Common.{sym, ap, subst, ◌∙◌}
 use Rattle.ll_parser.specs.Flat.{operate, close_number, end_expression}
 use Rattle.ll_parser.specs.Symbols.{symbol_tok}
-use Rattle.ll_parser.specs.Waiting.{known, tree, waiting, Fits, IsNode, IsGoal, HasNoGoal}
+use Rattle.ll_parser.specs.Waiting.{known, tree, waiting, IsSound, IsNode, IsGoal, HasNoGoal}
 use Rattle.ll_parser.proofs.machines.Dropped.{same-gives}
 use Rattle.ll_parser.proofs.waiting.Waiting.end_expression.Goals as goal
 
@@ -31,7 +31,7 @@ after_operand-requires-clause-operand c =
 pub close_number-requires-clause-fits : goal.close_number-requires-clause-fits
 close_number-requires-clause-fits c =
     let n : HasNoGoal c.args.self.now c.goal.new.self = rw c.in-None.is at c.in_ok-goal.ensures.gives in
-    subst Fits (sym n.same) c.requires.fits
+    subst IsSound (sym n.same) c.requires.fits
 
 pub close_number-requires-clause-expression : goal.close_number-requires-clause-expression
 close_number-requires-clause-expression c =

@@ -1,5 +1,5 @@
 use Rattle.std.proofs.Common.{sym, subst, refl}
-use Rattle.ll_lists.proofs.CallerLemmas.{OnOk-weaker as on_ok}
+use Rattle.ll_list_laws.proofs.CallerLemmas.{OnOk-weaker as on_ok}
 use Rattle.ll_prooftext.specs.Tables.{Taken}
 use Rattle.ll_prooftext.proofs.table.Table.take.Goals as goal
 

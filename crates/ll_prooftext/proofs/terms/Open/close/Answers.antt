@@ -2,7 +2,7 @@ use Rattle.ll_bank.proofs.CallerLemmas.{HasTerm-extends}
 use Rattle.ll_prooftext.proofs.reading.Calls.{fewer}
 use Rattle.std.proofs.lemmas.Result.{IfOk-from_err}
 use Rattle.std.proofs.Common.{sym, ap, subst, ◌∙◌, refl, Some}
-use Rattle.ll_lists.proofs.CallerLemmas.{IfOk-each as if_ok}
+use Rattle.ll_list_laws.proofs.CallerLemmas.{IfOk-each as if_ok}
 use Rattle.ll_bank.specs.Nodes.{AllInTerms}
 use Rattle.ll_prooftext.proofs.spelling.Close.{closed_term, ends_whole, closes_none, closes_argument, closes_leaf, item_step, none_popped}
 use Rattle.ll_prooftext.proofs.spelling.Kept.{grows_none}

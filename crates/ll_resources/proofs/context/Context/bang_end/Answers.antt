@@ -1,10 +1,10 @@
 use Rattle.std.proofs.Common.{refl, ap, sym, subst, ◌∙◌}
 use Rattle.std.specs.Prelude.{Some}
 use Rattle.std.proofs.lemmas.Result.{IfOk-from_err}
-use Rattle.ll_lists.proofs.CallerLemmas.{OnErr-always}
+use Rattle.ll_list_laws.proofs.CallerLemmas.{OnErr-always}
 use Rattle.ll_resources.specs.History.{History}
 use Rattle.ll_resources.specs.Raw.{Raw, raw, shown, kept_under}
-use Rattle.ll_resources.specs.Resources.{Fits, settled, bang_end}
+use Rattle.ll_resources.specs.Resources.{SavedFits, settled, bang_end}
 use Rattle.ll_resources.proofs.RawLemmas.{number-inside, shown-bang-end}
 use Rattle.ll_resources.proofs.ChainLemmas.{well-back}
 use Rattle.ll_resources.proofs.ChangeLemmas.{well-now, sound-same, sound-alike, sound-noted, marks-alike, marks-noted, within-now, history-alike}
@@ -21,14 +21,15 @@ returns-in_err-reserve-clause-marks g c =
 
 pub bang_end-requires : goal.bang_end-requires
 bang_end-requires g c = number-inside c.args.saved (raw c.self.inside.state)
-    (subst (λ (h : History g.row.C.Denot). Fits c.args.saved h.present) (sym c.self.view_is) c.requires)
+    (subst (λ (h : History g.row.C.Denot). SavedFits c.args.saved h.present) (sym c.self.view_is) c.requires)
 
 pub invariant_of-self-2 : goal.invariant_of-self-2
 invariant_of-self-2 g c =
     sound-noted c.self.inside.changes.items _ _ _ c.self.inside.state c.bang_end.new.self c.reserve.ensures.items c.push_reserved.ensures.items
     c.in_ok-change.ensures.leads
     (well-back c.args.saved.number (kept_under c.args.saved.number (raw c.self.inside.state)).flag _ _
-    (number-inside c.args.saved (raw c.self.inside.state) (subst (λ (h : History g.row.C.Denot). Fits c.args.saved h.present) (sym c.self.view_is) c.requires))
+    (number-inside c.args.saved (raw c.self.inside.state)
+    (subst (λ (h : History g.row.C.Denot). SavedFits c.args.saved h.present) (sym c.self.view_is) c.requires))
     c.in_ok-change.ensures.ended (well-now c.self.inside.changes.items c.self.inside.state c.self.invariant)) c.self.invariant
 
 pub returns-clause-marks : goal.returns-clause-marks
@@ -40,7 +41,7 @@ pub returns-clause-settles : goal.returns-clause-settles
 returns-clause-settles g c =
     ap (λ (h : History g.row.C.Denot). settled (bang_end h.present.kept c.args.saved) h.present) (sym c.self.view_is)
     ∙ (shown-bang-end c.args.saved (raw c.self.inside.state) (within-now c.self.inside.changes.items c.self.inside.state c.self.invariant)
-    (subst (λ (h : History g.row.C.Denot). Fits c.args.saved h.present) (sym c.self.view_is) c.requires)
+    (subst (λ (h : History g.row.C.Denot). SavedFits c.args.saved h.present) (sym c.self.view_is) c.requires)
     ∙ ap (λ (r : Raw g.row.C.Denot). Some (shown r)) (sym c.in_ok-change.ensures.ended))
 
 pub invariant_of-self-in_err-change : goal.invariant_of-self-in_err-change

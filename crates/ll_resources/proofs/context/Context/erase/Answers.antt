@@ -1,6 +1,6 @@
 use Rattle.std.proofs.Common.{refl}
 use Rattle.std.proofs.lemmas.Result.{IfOk-from_err}
-use Rattle.ll_lists.proofs.CallerLemmas.{OnErr-always}
+use Rattle.ll_list_laws.proofs.CallerLemmas.{OnErr-always}
 use Rattle.ll_resources.specs.Raw.{raw}
 use Rattle.ll_resources.proofs.ChainLemmas.{well-erased}
 use Rattle.ll_resources.proofs.ChangeLemmas.{well-now, sound-same, sound-noted, marks-alike, marks-noted, history-alike}

@@ -1,6 +1,6 @@
 use Rattle.std.proofs.Common.{◌<◌, ◌^◌, refl, ap, sym, ◌∙◌, subst}
 use Rattle.std.proofs.lemmas.Result.{IfOk-from_err}
-use Rattle.ll_lists.proofs.CallerLemmas.{OnErr-always}
+use Rattle.ll_list_laws.proofs.CallerLemmas.{OnErr-always}
 use Rattle.ll_resources.specs.History.{History}
 use Rattle.ll_resources.specs.Raw.{raw}
 use Rattle.ll_resources.specs.Resources.{after_load_keyed}

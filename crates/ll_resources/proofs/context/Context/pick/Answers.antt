@@ -1,7 +1,7 @@
 use Rattle.std.proofs.Common.{refl, length, ap, ◌∙◌}
 use Rattle.std.specs.Prelude.{reverse}
 use Rattle.std.proofs.lemmas.Result.{IfOk-from_err}
-use Rattle.ll_lists.proofs.CallerLemmas.{OnErr-always}
+use Rattle.ll_list_laws.proofs.CallerLemmas.{OnErr-always}
 use Rattle.ll_resources.specs.History.{History}
 use Rattle.ll_resources.specs.Resources.{after_pick}
 use Rattle.ll_resources.specs.Raw.{Raw, raw, shown, raw_picked, mark_slot, first_place}

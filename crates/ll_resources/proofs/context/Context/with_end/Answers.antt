@@ -1,9 +1,9 @@
 use Rattle.std.proofs.Common.{◌≡◌, refl, ap, sym, subst, ◌∙◌, IfSome}
 use Rattle.std.specs.Prelude.{is_some, true, false, IsNone}
 use Rattle.std.proofs.lemmas.Result.{IfOk-from_err}
-use Rattle.ll_lists.proofs.CallerLemmas.{OnErr-always}
+use Rattle.ll_list_laws.proofs.CallerLemmas.{OnErr-always}
 use Rattle.ll_resources.specs.History.{History}
-use Rattle.ll_resources.specs.Resources.{settled, with_end, Fits}
+use Rattle.ll_resources.specs.Resources.{settled, with_end, SavedFits}
 use Rattle.ll_resources.specs.Raw.{raw, Agrees, Joins}
 use Rattle.ll_resources.specs.Changes.{Leads, history}
 use Rattle.ll_resources.specs.declared.state.State.{State}
@@ -23,11 +23,11 @@ returns-in_err-reserve-clause-marks g c =
 
 pub with_end-requires-clause-saved : goal.with_end-requires-clause-saved
 with_end-requires-clause-saved g c = number-inside c.args.saved (raw c.self.inside.state)
-    (subst (λ (h : History g.row.C.Denot). Fits c.args.saved h.present) (sym c.self.view_is) c.requires.saved)
+    (subst (λ (h : History g.row.C.Denot). SavedFits c.args.saved h.present) (sym c.self.view_is) c.requires.saved)
 
 pub with_end-requires-clause-half : goal.with_end-requires-clause-half
 with_end-requires-clause-half g c = number-inside c.args.half (raw c.self.inside.state)
-    (subst (λ (h : History g.row.C.Denot). Fits c.args.half h.present) (sym c.self.view_is) c.requires.half)
+    (subst (λ (h : History g.row.C.Denot). SavedFits c.args.half h.present) (sym c.self.view_is) c.requires.half)
 
 pub invariant_of-self-2 : goal.invariant_of-self-2
 invariant_of-self-2 g c =
@@ -51,8 +51,8 @@ returns-clause-settles g c =
     let a : Agrees c.args.half.number r true = subst (λ done. Agrees c.args.half.number r (is_some done)) c.in-Some.is c.in_ok-change.ensures.agrees in
     ap (λ (h : History g.row.C.Denot). settled (with_end h.present.kept c.args.saved c.args.half) h.present) (sym c.self.view_is)
     ∙ shown-joined c.args.saved c.args.half r (raw c.with_end.new.self) (within-now c.self.inside.changes.items c.self.inside.state c.self.invariant)
-    (subst (λ (h : History g.row.C.Denot). Fits c.args.saved h.present) (sym c.self.view_is) c.requires.saved)
-    (subst (λ (h : History g.row.C.Denot). Fits c.args.half h.present) (sym c.self.view_is) c.requires.half) a j
+    (subst (λ (h : History g.row.C.Denot). SavedFits c.args.saved h.present) (sym c.self.view_is) c.requires.saved)
+    (subst (λ (h : History g.row.C.Denot). SavedFits c.args.half h.present) (sym c.self.view_is) c.requires.half) a j
 
 pub returns-in_default-clause-settles : goal.returns-in_default-clause-settles
 returns-in_default-clause-settles g c =
@@ -61,8 +61,8 @@ returns-in_default-clause-settles g c =
     let same = subst (λ done. IsNone done → c.with_end.new.self ≡ c.self.inside.state) c.in_default.is c.in_ok-change.ensures.same in (
       ap (λ (h : History g.row.C.Denot). settled (with_end h.present.kept c.args.saved c.args.half) h.present) (sym c.self.view_is)
           ∙ shown-apart c.args.saved c.args.half r (within-now c.self.inside.changes.items c.self.inside.state c.self.invariant)
-          (subst (λ (h : History g.row.C.Denot). Fits c.args.saved h.present) (sym c.self.view_is) c.requires.saved)
-          (subst (λ (h : History g.row.C.Denot). Fits c.args.half h.present) (sym c.self.view_is) c.requires.half) a,
+          (subst (λ (h : History g.row.C.Denot). SavedFits c.args.saved h.present) (sym c.self.view_is) c.requires.saved)
+          (subst (λ (h : History g.row.C.Denot). SavedFits c.args.half h.present) (sym c.self.view_is) c.requires.half) a,
       ap (λ cs. history cs (raw c.with_end.new.self)) c.reserve.ensures.items
           ∙ (ap (λ (t : State g.row.C.Denot). history c.self.inside.changes.items (raw t)) (same refl) ∙ c.self.view_is),
     )

@@ -1,9 +1,9 @@
 use Rattle.std.proofs.Common.{refl, ap, sym, subst}
 use Rattle.std.proofs.lemmas.Result.{IfOk-from_err}
-use Rattle.ll_lists.proofs.CallerLemmas.{OnErr-always}
+use Rattle.ll_list_laws.proofs.CallerLemmas.{OnErr-always}
 use Rattle.ll_resources.specs.History.{History}
 use Rattle.ll_resources.specs.Raw.{raw, shown}
-use Rattle.ll_resources.specs.Resources.{Fits, saved_as}
+use Rattle.ll_resources.specs.Resources.{SavedFits, saved_as}
 use Rattle.ll_resources.proofs.RawLemmas.{number-inside, mid-keeps, mid-settles}
 use Rattle.ll_resources.proofs.ChainLemmas.{well-mid}
 use Rattle.ll_resources.proofs.ChangeLemmas.{well-now, sound-same, sound-alike, sound-noted, marks-alike, marks-noted, within-now, number-kept, seen-mid}
@@ -21,14 +21,15 @@ returns-in_err-reserve-clause-marks g c =
 
 pub with_mid-requires : goal.with_mid-requires
 with_mid-requires g c = number-inside c.args.saved (raw c.self.inside.state)
-    (subst (λ (h : History g.row.C.Denot). Fits c.args.saved h.present) (sym c.self.view_is) c.requires)
+    (subst (λ (h : History g.row.C.Denot). SavedFits c.args.saved h.present) (sym c.self.view_is) c.requires)
 
 pub invariant_of-self-2 : goal.invariant_of-self-2
 invariant_of-self-2 g c =
     sound-noted c.self.inside.changes.items _ _ _ c.self.inside.state c.with_mid.new.self c.reserve.ensures.items c.push_reserved.ensures.items
     c.in_ok-change.ensures.leads
     (well-mid c.args.saved.number _ _
-    (number-inside c.args.saved (raw c.self.inside.state) (subst (λ (h : History g.row.C.Denot). Fits c.args.saved h.present) (sym c.self.view_is) c.requires))
+    (number-inside c.args.saved (raw c.self.inside.state)
+    (subst (λ (h : History g.row.C.Denot). SavedFits c.args.saved h.present) (sym c.self.view_is) c.requires))
     c.in_ok-change.ensures.middle (well-now c.self.inside.changes.items c.self.inside.state c.self.invariant)) c.self.invariant
 
 pub returns-clause-marks : goal.returns-clause-marks

@@ -2,8 +2,8 @@ use Rattle.std.proofs.Common.{sym, Bool, ◌≡◌, length, get_or, ap, ◌∙�
 use Rattle.std.proofs.lemmas.Result.{IfOk-from_err}
 use Rattle.ll_resources.specs.Saves.{block_of}
 use Rattle.ll_resources.proofs.ChangeLemmas.{none_kept, back-remarked}
-use Rattle.ll_lists.proofs.CallerLemmas.{OnErr-always}
-use Rattle.ll_resources.specs.declared.saves.Kept.{Kept}
+use Rattle.ll_list_laws.proofs.CallerLemmas.{OnErr-always}
+use Rattle.ll_resources.specs.declared.saves.SavedMarks.{SavedMarks}
 use Rattle.ll_resources.specs.declared.state.State.{State}
 use Rattle.ll_resources.specs.declared.state.Change.TheVariants.{Remarked}
 use Rattle.ll_resources.specs.Raw.{raw, block_later, kept_under, is_younger}
@@ -60,7 +60,7 @@ returns-in_err-from-clause-refused g c =
 pub returns-clause-ended : goal.returns-clause-ended
 returns-clause-ended g c =
     let old = c.args.self.now in
-    let none : Kept = record { count = 0; next = 0; from = 0; to = 0; flag = false; skips = false } in
+    let none : SavedMarks = record { count = 0; next = 0; from = 0; to = 0; flag = false; skips = false } in
     let marks : c.note.new.self.marks.items ≡ old.saves.marks.items ++ old.live.items =
     c.in_ok-from.ensures.marks ∙ ap (λ ms. old.saves.marks.items ++ ms) (c.as_slice.ensures.value ∙ c.in_ok-reserve.ensures.items) in
     let live : c.put_marks.new.live.items ≡ block_later c.args.number (raw old) =

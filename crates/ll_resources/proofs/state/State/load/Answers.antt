@@ -6,7 +6,7 @@ use Rattle.ll_resources.specs.declared.state.Change.TheVariants.{Loaded}
 use Rattle.ll_resources.specs.Chains.{IsNewestOpen, Loads, IsChained}
 use Rattle.ll_resources.specs.Changes.{taken_back}
 use Rattle.ll_resources.proofs.ChangeLemmas.{back-loaded}
-use Rattle.ll_lists.proofs.CallerLemmas.{OnErr-always}
+use Rattle.ll_list_laws.proofs.CallerLemmas.{OnErr-always}
 use Rattle.ll_resources.specs.declared.state.State.{State}
 use Rattle.ll_resources.specs.Raw.{Raw, raw, top_in, with_top, chained}
 use Rattle.std.proofs.Math.Nat.{le_refl, le_trans}

@@ -1,8 +1,8 @@
 use Rattle.std.proofs.lemmas.Result.{IfOk-from_err}
 use Rattle.std.proofs.Common.{◌≡◌, ◌+◌, length, [], ◌∷◌, ◌++◌, false, refl, ap, ◌∙◌}
-use Rattle.ll_lists.proofs.CallerLemmas.{OnErr-always}
+use Rattle.ll_list_laws.proofs.CallerLemmas.{OnErr-always}
 use Rattle.ll_resources.specs.declared.state.State.{State}
-use Rattle.ll_resources.specs.declared.state.Change.TheVariants.{Kept}
+use Rattle.ll_resources.specs.declared.state.Change.TheVariants.{SavedMarks}
 use Rattle.ll_resources.specs.Raw.{raw, kept_now}
 use Rattle.ll_resources.specs.Changes.{taken_back}
 use Rattle.ll_resources.proofs.ChangeLemmas.{back-kept}
@@ -69,7 +69,7 @@ returns-clause-leads g c =
       skips = old.skips;
     } ∷ []) in
     record {
-      back = (λ i. taken_back Kept (record (raw old) { flag = false; marks = marks i; kept = kept i })) ∙ back-kept old.live.items (raw old);
+      back = (λ i. taken_back SavedMarks (record (raw old) { flag = false; marks = marks i; kept = kept i })) ∙ back-kept old.live.items (raw old);
       room = record { entries = le_refl _; live = le_refl _; keys = le_refl _ };
     }
 

@@ -6,7 +6,7 @@ use Rattle.std.proofs.lemmas.Result.{IfOk-from_err}
 use Rattle.ll_laws.specs.Attempt.{is_linear}
 use Rattle.ll_laws.specs.Settle.{Entry}
 use Rattle.ll_resources.specs.declared.state.Stored.{Stored}
-use Rattle.ll_resources.specs.declared.saves.Kept.{Kept}
+use Rattle.ll_resources.specs.declared.saves.SavedMarks.{SavedMarks}
 use Rattle.ll_resources.specs.Seen.{seen, seen_all}
 use Rattle.ll_resources.specs.Saves.{kept_marks}
 use Rattle.ll_resources.specs.Raw.{stored}
@@ -55,7 +55,7 @@ pub returns : goal.returns
 returns g c =
     let cs = c.args.clauses.now in
     let end : length cs - c.loop-i.i ≡ 0 = omega (arith, c.loop-i-test.false) in
-    let by : List (Option ℕ) → List (Entry g.row.C.Denot) → List Kept → Resources g.row.C.Denot =
+    let by : List (Option ℕ) → List (Entry g.row.C.Denot) → List SavedMarks → Resources g.row.C.Denot =
     λ keys es ks. record { entries = es; flag = false; next = length cs; kept = map (kept_marks c.new.result.marks.items) ks; keys = keys } in
     record {
       state = ap (λ es. by (map (λ (s : Stored g.row.C.Denot). s.key) (reverse c.loop-i.entries.items)) es c.new.result.kept.items)

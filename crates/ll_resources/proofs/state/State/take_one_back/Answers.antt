@@ -19,7 +19,7 @@ put_marks-requires g c =
 pub forget_last-requires : goal.forget_last-requires
 forget_last-requires g c =
     subst (λ (d : Change g.row.C.Denot). IsSound (room_of c.args.self.now)
-    (taken_back d (raw c.args.self.now))) c.in-Kept.is c.requires.sound
+    (taken_back d (raw c.args.self.now))) c.in-SavedMarks.is c.requires.sound
 
 pub push_reserved-requires : goal.push_reserved-requires
 push_reserved-requires g c =
@@ -82,8 +82,8 @@ returns-in-Picked-clause-room g c = record { entries = le_refl _; live = le-same
 pub returns-in-Erased-clause-room : goal.returns-in-Erased-clause-room
 returns-in-Erased-clause-room g c = record { entries = le_refl _; live = le_refl _; keys = le_refl _ }
 
-pub returns-in-Kept-clause-room : goal.returns-in-Kept-clause-room
-returns-in-Kept-clause-room g c = c.forget_last.ensures.room
+pub returns-in-SavedMarks-clause-room : goal.returns-in-SavedMarks-clause-room
+returns-in-SavedMarks-clause-room g c = c.forget_last.ensures.room
 
 pub returns-in-Remarked-clause-room : goal.returns-in-Remarked-clause-room
 returns-in-Remarked-clause-room g c = record { entries = le_refl _; live = c.put_marks.ensures.room; keys = le_refl _ }
@@ -93,6 +93,6 @@ returns-in-Picked-clause-state g c =
     (λ i. record (raw c.args.self.now) { live = c.set_mark.ensures.mark i })
     ∙ sym (ap (λ (d : Change g.row.C.Denot). taken_back d (raw c.args.self.now)) c.in-Picked.is)
 
-pub returns-in-Kept-clause-state : goal.returns-in-Kept-clause-state
-returns-in-Kept-clause-state g c =
-    c.forget_last.ensures.state ∙ sym (ap (λ (d : Change g.row.C.Denot). taken_back d (raw c.args.self.now)) c.in-Kept.is)
+pub returns-in-SavedMarks-clause-state : goal.returns-in-SavedMarks-clause-state
+returns-in-SavedMarks-clause-state g c =
+    c.forget_last.ensures.state ∙ sym (ap (λ (d : Change g.row.C.Denot). taken_back d (raw c.args.self.now)) c.in-SavedMarks.is)

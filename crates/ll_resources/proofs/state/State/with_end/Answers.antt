@@ -1,7 +1,7 @@
 use Rattle.std.proofs.Common.{rules, ◌≡◌, ◌++◌, ◌||◌, ◌&&◌, ◌∙◌, ap, arith, reverse, get_or, false}
 use Rattle.std.proofs.lemmas.Result.{IfOk-from_err}
-use Rattle.ll_lists.proofs.CallerLemmas.{OnErr-always}
-use Rattle.ll_resources.specs.declared.saves.Kept.{Kept}
+use Rattle.ll_list_laws.proofs.CallerLemmas.{OnErr-always}
+use Rattle.ll_resources.specs.declared.saves.SavedMarks.{SavedMarks}
 use Rattle.ll_resources.specs.declared.state.Change.TheVariants.{Remarked}
 use Rattle.ll_resources.specs.declared.state.State.{State}
 use Rattle.ll_laws.specs.Settle.{both_live}
@@ -36,7 +36,7 @@ returns-clause-joins g c =
     let old = c.args.self.now in
     let marks : c.note.new.self.marks.items ≡ old.saves.marks.items ++ old.live.items =
     c.in_ok-from.ensures.marks ∙ ap (λ ms. old.saves.marks.items ++ ms) c.as_slice-2.ensures.value in
-    let none : Kept = record { count = 0; next = 0; from = 0; to = 0; flag = false; skips = false } in
+    let none : SavedMarks = record { count = 0; next = 0; from = 0; to = 0; flag = false; skips = false } in
     let first : c.live.result.now ≡ block_later c.args.half (raw old) =
     c.live.ensures none ∙ (λ i. block_of (marks i) (get_or (c.in_ok-from.ensures.kept i) c.args.half none)) in
     let flag : c.if-flag.self ≡ ((kept_under c.args.number (raw old)).flag || ((kept_under c.args.half (raw old)).flag && old.flag)) = search rules in

@@ -4,9 +4,9 @@ use Rattle.std.proofs.lemmas.Result.{IfOk-from_err}
 use Rattle.ll_resources.specs.Saves.{block_of}
 use Rattle.ll_resources.specs.Raw.{Raw, raw, raw_kept, kept_now, block_later, is_younger}
 use Rattle.ll_resources.proofs.ChangeLemmas.{none_kept}
-use Rattle.ll_lists.proofs.CallerLemmas.{OnErr-always}
+use Rattle.ll_list_laws.proofs.CallerLemmas.{OnErr-always}
 use Rattle.ll_resources.specs.declared.state.State.{State}
-use Rattle.ll_resources.specs.declared.saves.Kept.{Kept}
+use Rattle.ll_resources.specs.declared.saves.SavedMarks.{SavedMarks}
 use Rattle.std.proofs.Math.Nat.{le_refl, le_trans}
 use Rattle.ll_resources.proofs.RoomLemmas.{le-reserved}
 use Rattle.ll_resources.proofs.state.State.with_mid.Goals.{then-self, else-self}
@@ -65,7 +65,7 @@ returns-clause-change g c = c.in_ok-change.ensures.change
 pub returns-clause-middle : goal.returns-clause-middle
 returns-clause-middle g c =
     let old = c.args.self.now in
-    let none : Kept = record { count = 0; next = 0; from = 0; to = 0; flag = false; skips = false } in
+    let none : SavedMarks = record { count = 0; next = 0; from = 0; to = 0; flag = false; skips = false } in
     let live : c.put_marks.new.live.items ≡ block_later c.args.number (raw old) =
     c.put_marks.ensures.marks
     ∙ (c.live.ensures none

@@ -1,7 +1,7 @@
 use Rattle.std.proofs.lemmas.Result.{IfOk-from_err}
 use Rattle.std.proofs.Common.{arith, ap, ◌∙◌, Some}
 use Rattle.ll_edge.proofs.CallerLemmas.{taken_front}
-use Rattle.ll_lists.proofs.CallerLemmas.{OnErr-always}
+use Rattle.ll_list_laws.proofs.CallerLemmas.{OnErr-always}
 use Rattle.ll_top.proofs.judging.PartsLemmas.{one-written, part-cut}
 use Rattle.ll_top.proofs.texts.fault.write_parts.Goals as goal
 

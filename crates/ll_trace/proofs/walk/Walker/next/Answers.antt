@@ -11,7 +11,7 @@ use Rattle.ll_trace.specs.declared.walk.Goal.TheVariants.{Plain, Free, Loading a
 use Rattle.ll_trace.specs.declared.walk.Walker.{Walker}
 use Rattle.ll_trace.specs.Bare.{bare}
 use Rattle.ll_trace.specs.Goals.{HasGoal, shown_goal}
-use Rattle.ll_trace.specs.Walker.{trees, Takes, Steps}
+use Rattle.ll_trace.specs.Walker.{trees, TellsGoal, Steps}
 use Rattle.ll_trace.proofs.TakeLemmas.{if_ok, takes_goals, steps_of, may_take}
 use Rattle.ll_trace.proofs.walk.Walker.next.Goals as goal
 
@@ -30,7 +30,7 @@ take_loading-requires-clause-may c =
 pub returns-in-Plain : goal.returns-in-Plain
 returns-in-Plain c =
     let popped : Walker = record c.args.self.now { goals = c.pop.new.self } in
-    if_ok (λ rule. Takes c.args.forms.now c.args.modules.now c.args.terms.now popped (bare (form_tree c.args.forms.now c.in-Plain.form.0)) c.args.step rule
+    if_ok (λ rule. TellsGoal c.args.forms.now c.args.modules.now c.args.terms.now popped (bare (form_tree c.args.forms.now c.in-Plain.form.0)) c.args.step rule
     c.take_form.new.self)
     (λ rule. Steps c.args.forms.now c.args.modules.now c.args.terms.now c.args.self.now c.args.step rule c.take_form.new.self)
     (λ rule s.
@@ -41,7 +41,7 @@ returns-in-Plain c =
 pub returns-in-Loading : goal.returns-in-Loading
 returns-in-Loading c =
     let popped : Walker = record c.args.self.now { goals = c.pop.new.self } in
-    if_ok (λ rule. Takes c.args.forms.now c.args.modules.now c.args.terms.now popped
+    if_ok (λ rule. TellsGoal c.args.forms.now c.args.modules.now c.args.terms.now popped
     (shown_goal c.args.forms.now (trees c.args.forms.now c.args.modules.now) (LoadingGoal c.in-Loading.loading)) c.args.step rule c.take_loading.new.self)
     (λ rule. Steps c.args.forms.now c.args.modules.now c.args.terms.now c.args.self.now c.args.step rule c.take_loading.new.self)
     (λ rule s.

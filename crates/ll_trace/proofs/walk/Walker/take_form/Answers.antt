@@ -13,7 +13,7 @@ use Rattle.ll_trace.specs.declared.walk.Goal.TheVariants.{Plain, Loading as Load
 use Rattle.ll_trace.specs.declared.walk.Loading.{Loading}
 use Rattle.ll_trace.specs.Bare.{bare}
 use Rattle.ll_trace.specs.Goals.{HasGoal}
-use Rattle.ll_trace.specs.Walker.{Takes, MayTake, TakesSide}
+use Rattle.ll_trace.specs.Walker.{TellsGoal, MayTake, TakesSide}
 use Rattle.ll_trace.proofs.TakeLemmas.{if_ok, takes_tree, takes_goals, takes_load, label_is, takes_open, takes_fill, takes_use}
 use Rattle.ll_trace.proofs.SideLemmas.{takes_side}
 use Rattle.ll_trace.proofs.walk.Walker.take_form.Goals as goal
@@ -67,7 +67,7 @@ returns-in-Plus c =
     let f = c.in-Plus.left in
     let g = c.in-Plus.right in
     if_ok (λ rule. TakesSide old f g c.args.step rule c.take_side.new.self)
-    (λ rule. Takes forms c.args.modules.now c.args.terms.now old (bare (form_tree forms c.args.form.0)) c.args.step rule c.take_side.new.self)
+    (λ rule. TellsGoal forms c.args.modules.now c.args.terms.now old (bare (form_tree forms c.args.form.0)) c.args.step rule c.take_side.new.self)
     (λ rule s.
     takes_tree forms c.args.modules.now c.args.terms.now old c.args.step c.requires.inside c.requires.used c.args.form.0
     (Plus (form_tree forms f.0) (form_tree forms g.0)) rule c.take_side.new.self
@@ -179,7 +179,7 @@ pub returns-in-Atom : goal.returns-in-Atom
 returns-in-Atom c =
     let forms = c.args.forms.now in
     let old = c.args.self.now in
-    if_ok _ (λ rule. Takes forms c.args.modules.now c.args.terms.now old (bare (form_tree forms c.args.form.0)) c.args.step rule c.take_atom.new.self)
+    if_ok _ (λ rule. TellsGoal forms c.args.modules.now c.args.terms.now old (bare (form_tree forms c.args.form.0)) c.args.step rule c.take_atom.new.self)
     (λ rule s.
     takes_tree forms c.args.modules.now c.args.terms.now old c.args.step c.requires.inside c.requires.used c.args.form.0 (Atom _) rule c.take_atom.new.self
     c.in-Atom.ensures.shown.tree

@@ -8,7 +8,7 @@ use Rattle.ll_laws.specs.Line.{ForallLine}
 use Rattle.ll_laws.specs.Shown.{clause_tree}
 use Rattle.ll_trace.specs.Bare.{bare}
 use Rattle.ll_trace.specs.Goals.{loading_goal}
-use Rattle.ll_trace.specs.Walker.{trees, Takes, MayTake}
+use Rattle.ll_trace.specs.Walker.{trees, TellsGoal, MayTake}
 use Rattle.ll_trace.proofs.TakeLemmas.{if_ok, takes_local, takes_clause, load_over, load_line}
 use Rattle.ll_trace.proofs.LoadLemmas.{load_end, load_next}
 use Rattle.ll_trace.proofs.walk.Walker.take_loading.Goals as goal
@@ -38,10 +38,10 @@ returns-in_default c =
     let end = load_end forms c.args.modules.now l.«module» l.next c.requires.known c.index-modules-loading.is c.deref.ensures.value
     c.in_default.ensures.lookup.3 in
     let over = load_over forms c.args.modules.now c.args.terms.now c.args.self.now c.args.step c.requires.inside c.requires.used l (omega (arith, f)) end in
-    if_ok (λ rule. Takes forms c.args.modules.now c.args.terms.now c.args.self.now (bare (form_tree forms l.goal.0)) c.args.step rule c.take_form.new.self)
-    (λ rule. Takes forms c.args.modules.now c.args.terms.now c.args.self.now (loading_goal forms (trees forms c.args.modules.now) l) c.args.step rule
+    if_ok (λ rule. TellsGoal forms c.args.modules.now c.args.terms.now c.args.self.now (bare (form_tree forms l.goal.0)) c.args.step rule c.take_form.new.self)
+    (λ rule. TellsGoal forms c.args.modules.now c.args.terms.now c.args.self.now (loading_goal forms (trees forms c.args.modules.now) l) c.args.step rule
     c.take_form.new.self)
-    (λ rule s. subst (λ (g : Form). Takes forms c.args.modules.now c.args.terms.now c.args.self.now g c.args.step rule c.take_form.new.self) (sym over) s)
+    (λ rule s. subst (λ (g : Form). TellsGoal forms c.args.modules.now c.args.terms.now c.args.self.now g c.args.step rule c.take_form.new.self) (sym over) s)
     c.take_form.result c.take_form.ensures
 
 pub returns-in-Linear : goal.returns-in-Linear

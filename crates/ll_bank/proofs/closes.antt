@@ -1,0 +1,6 @@
+pub mod Known
+pub mod Filling
+pub mod Stacks
+pub mod Values
+pub mod Parts
+pub mod Steps

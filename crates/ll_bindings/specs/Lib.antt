@@ -1,4 +1,0 @@
-pub mod Spines
-pub mod Stacks
-pub mod Bindings
-pub mod Frames

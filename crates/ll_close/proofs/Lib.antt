@@ -1,7 +1,0 @@
-pub mod Known
-pub mod Filling
-pub mod Stacks
-pub mod Values
-pub mod Parts
-pub mod Steps
-pub mod CallerLemmas

@@ -1,4 +1,0 @@
-use Rattle.ll_copy.proofs.carry.packed.Goals as goal
-
-pub returns-else-copy : goal.returns-else-copy
-returns-else-copy c = _

@@ -1,6 +1,0 @@
-use Rattle.std.proofs.Common.{arith}
-use Rattle.ll_copy.proofs.Copies.{same-places}
-use Rattle.ll_copy.proofs.read.are_same.Goals as goal
-
-pub returns : goal.returns
-returns c = λ e. same-places c.args.left.now c.args.right.now (omega arith) (λ k l. c.loop-index.invariant k (omega arith))

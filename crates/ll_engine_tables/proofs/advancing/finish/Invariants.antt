@@ -1,8 +1,0 @@
-use Rattle.std.proofs.Common.{◌≡◌}
-use Rattle.ll_engine_tables.proofs.advancing.finish.Given as goal
-
-abbrev pub invariant-events : goal.invariant-events
-invariant-events l = l.engine.problem ≡ l.initial.engine.problem
-
-abbrev pub decreases-events : goal.decreases-events
-decreases-events l = l.engine.work

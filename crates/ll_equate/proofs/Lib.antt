@@ -1,9 +1,0 @@
-pub mod Scans
-pub mod Alike
-pub mod Binding
-pub mod Pairs
-pub mod Solving
-pub mod FreshLemmas
-pub mod Settling
-pub mod CallerLemmas
-pub mod NovelLemmas

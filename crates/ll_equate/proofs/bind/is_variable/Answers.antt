@@ -1,7 +1,0 @@
-use Rattle.ll_bank.specs.Nodes.{term_tree, term_trees}
-use Rattle.ll_equate.proofs.Binding.{no-var-app}
-use Rattle.ll_equate.proofs.bind.is_variable.Goals as goal
-
-pub returns-in-App-clause-no_var : goal.returns-in-App-clause-no_var
-returns-in-App-clause-no_var c = λ e x q. no-var-app (term_tree c.args.bank.now c.args.at.0) c.in-App.field-0 (term_trees c.args.bank.now c.in-App.field-1.now)
-    c.in-App.ensures.shown.0 x q

@@ -1,6 +1,0 @@
-use Rattle.std.proofs.Common.{◌-◌}
-use Rattle.ll_equate.proofs.FreshLemmas.{none-false}
-use Rattle.ll_equate.proofs.fresh.Fresh.none.Goals as goal
-
-pub returns : goal.returns
-returns c = λ x h. none-false 64 (x - 0) h.1

@@ -1,5 +1,0 @@
-pub mod Scanned
-pub mod Fresh
-pub mod Pairs
-pub mod Solving
-pub mod Novel

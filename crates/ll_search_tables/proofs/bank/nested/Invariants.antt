@@ -1,5 +1,0 @@
-use Rattle.ll_bank.specs.Nodes.{HasForm}
-use Rattle.ll_search_tables.proofs.bank.nested.Given as goal
-
-abbrev pub invariant-loop : goal.invariant-loop
-invariant-loop l = HasForm l.bank l.at.0

@@ -1,6 +1,0 @@
-use Rattle.std.proofs.Common.{rules}
-use Rattle.ll_search_tables.proofs.FitLemmas.{can-pick_front}
-use Rattle.ll_search_tables.proofs.resources.make_call.Goals as goal
-
-pub pick-requires : goal.pick-requires
-pick-requires g c = can-pick_front c.args.context.now.present _ c.entry-front.ensures (search rules)

@@ -1,4 +1,0 @@
-pub mod Walk
-pub mod Signs
-pub mod Opened
-pub mod Pairs

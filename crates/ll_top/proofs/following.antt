@@ -1,0 +1,9 @@
+pub mod Relabelled
+pub mod Converse
+pub mod Unlabelled
+pub mod Instances
+pub mod Numbered
+pub mod Steps
+pub mod Kept
+pub mod Covering
+pub mod Rows

@@ -1,0 +1,16 @@
+pub mod Terms
+pub mod Forms
+pub mod States
+pub mod Answers
+pub mod Spelling
+pub mod Carried
+pub mod Replayed
+pub mod Dealing
+pub mod Dealt
+pub mod Grammar
+pub mod Reading
+pub mod Lightness
+pub mod Formulas
+pub mod Binding
+pub mod Texts
+pub mod Problems

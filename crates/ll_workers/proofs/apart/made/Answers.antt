@@ -1,4 +1,0 @@
-use Rattle.ll_workers.proofs.apart.made.Goals as goal
-
-pub returns : goal.returns
-returns c = c.in_ok-problem.ensures.valid c.in_ok-tree.tree c.in_ok-tree.ensures.whole c.in_ok-part.ensures.faultless c.in_ok-part.ensures.part

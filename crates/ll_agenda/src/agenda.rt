@@ -82,7 +82,7 @@ impl<T: Copy> Agenda<T> {
     }
 
     /// Whether no frame was pushed behind that of this top. The frame can then be let go of, by `cut` to one frame less, once its
-    /// item is taken off: the top of the list behind it keeps its list.
+    /// item is taken off: the top of the list behind it keeps its list. The program does not call it.
     pub fn is_last(&self, top: Top) -> bool
         ensures { IsTrue result ↔ IsLast self.now top }
     {

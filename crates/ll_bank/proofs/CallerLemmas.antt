@@ -158,6 +158,8 @@ pub use Rattle.ll_bank.proofs.NameLaws.{length-with_name}
 pub use Rattle.ll_bank.proofs.NameLaws.{number_of-with_name}
 -- a number keeps its text as another text is added
 pub use Rattle.ll_bank.proofs.NameLaws.{slice_get-with_name}
+-- texts that differ do so either way round
+pub use Rattle.ll_bank.proofs.NameLaws.{differ_flipped}
 -- ---- walks over the terms under some terms
 
 -- one more than the greatest number of a list, or 0

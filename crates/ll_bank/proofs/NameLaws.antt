@@ -111,8 +111,8 @@ number_of-pushed texts text none =
     ∙ (number_of-with_name texts text ∙ ap (λ n. let o : Option ℕ = Some n in o) (position_none (bytes_eq text) texts none))
 
 -- texts that differ do so either way round
-flipped : (s t : List ℕ) → bytes_eq s t ≡ false → bytes_eq t s ≡ false
-flipped s t e = false_from_ne_true (bytes_eq t s) (λ same. true≢false (sym ((bytes_eq-Decides s t).1 (sym ((bytes_eq-Decides t s).0 same))) ∙ e))
+pub differ_flipped : (s t : List ℕ) → bytes_eq s t ≡ false → bytes_eq t s ≡ false
+differ_flipped s t e = false_from_ne_true (bytes_eq t s) (λ same. true≢false (sym ((bytes_eq-Decides s t).1 (sym ((bytes_eq-Decides t s).0 same))) ∙ e))
 
 -- so texts that differ still do
 pub IsDistinct-pushed : (texts : List (List ℕ)) (text : List ℕ) → IsDistinct bytes_eq texts → number_of texts text ≡ None
@@ -128,7 +128,7 @@ IsDistinct-pushed texts text distinct none = behind_all texts distinct (absent t
     behind_all : (ts : List (List ℕ)) → IsDistinct bytes_eq ts → list_any (bytes_eq text) ts ≡ false → IsDistinct bytes_eq (ts ++ text ∷ [])
     behind_all [] d e = (tt, tt)
     behind_all (t ∷ ts) d e =
-        let n = or_parts (bytes_eq text t) (list_any (bytes_eq text) ts) e in (behind_others t ts (flipped text t n.0) d.0, behind_all ts d.1 n.1)
+        let n = or_parts (bytes_eq text t) (list_any (bytes_eq text) ts) e in (behind_others t ts (differ_flipped text t n.0) d.0, behind_all ts d.1 n.1)
 
 -- a text put behind the second part goes behind both
 pub pushed_behind : (front rest new texts : List (List ℕ)) (text : List ℕ) → front ++ rest ≡ texts → new ≡ rest ++ text ∷ [] → front ++ new ≡ texts ++ text ∷ []

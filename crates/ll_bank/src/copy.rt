@@ -15,7 +15,7 @@ use std::collections::BTreeMap;
 impl Bank {
     /// Puts an equal term into the other bank. A term that is shared is copied once.
     ///
-    /// After a refusal the other bank may have more terms.
+    /// After a refusal the other bank may have more terms. The program does not call it.
     pub fn copy_into(&self, at: At, other: &mut Bank) -> Result<At, OutOfMemory>
         requires { HasTerm self.now at.0 }
         ensures shows { IfOk result (λ copy. ShowsTerm other.new copy.0 (term_tree self.now at.0)) }

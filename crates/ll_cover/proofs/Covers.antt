@@ -24,7 +24,7 @@ use Rattle.ll_cover.specs.Covering.{IsCoveredBy, IsPassing, NamesFirst}
 
 -- ---- answers among events
 
-answers-append : (es fs : List Event) → answers_in (es ++ fs) ≡ answers_in es ++ answers_in fs
+pub answers-append : (es fs : List Event) → answers_in (es ++ fs) ≡ answers_in es ++ answers_in fs
 answers-append [] fs = refl
 answers-append (Reached ∷ es) fs = answers-append es fs
 answers-append (Answer a ∷ es) fs = ap (λ as'. a ∷ as') (answers-append es fs)

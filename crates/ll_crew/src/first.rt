@@ -13,7 +13,6 @@ ghost use Rattle.ll_crew.specs.declared.fault.CrewFault.{CrewFault};
 
 use crate::fault::CrewFault;
 use crate::job::Sharing;
-use crate::pool::index_of;
 use crate::team::Team;
 use crate::whole::crew_by;
 use ll_edge::Gate;
@@ -59,7 +58,7 @@ pub fn crew_first<'p, R: Threads + Wait + Sync, G: Gate, E: Enough>(
     ensures faults_kept { E.faults out.old ≤ E.faults out.new }
     ensures welcome_kept { (e : Event) → E.welcome out.old e ↔ E.welcome out.new e }
 {
-    let Ok(index) = index_of(alloc, problem) else {
+    let Ok(index) = Index::shared(alloc, problem) else {
         return Err(CrewFault::OutOfMemory);
     };
     let team = Team {

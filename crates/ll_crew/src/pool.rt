@@ -22,14 +22,6 @@ use ll_pool::{Seat, SharedPool};
 use std::alloc::Global;
 use std::sync::Arc;
 
-/// An index of the problem's clauses, to be shared.
-pub fn index_of(alloc: Global, problem: &Problem) -> Result<Arc<Index>, OutOfMemory>
-    ensures { IfOk result (λ index. IsIndexOf problem.now (arc_value index)) }
-{
-    let index = Index::build(alloc, problem)?;
-    shared(alloc, index)
-}
-
 // The root of the search of a problem, which nobody else has.
 fn root_of<'p, E: Notice>(
     alloc: Global,

@@ -20,7 +20,7 @@ use crate::giving::finish;
 use crate::job::{Job, Sharing};
 use crate::lead::Delivery;
 use crate::offer::Offer;
-use crate::pool::{close, crew_of, index_of};
+use crate::pool::{close, crew_of};
 use crate::team::Team;
 use ll_edge::Gate;
 use ll_index::Index;
@@ -116,7 +116,7 @@ pub fn crew<'p, R: Threads + Wait + Sync, G: Gate, O: Outlet>(
     ensures faults_kept { O.faults out.old ≤ O.faults out.new }
     ensures welcome_kept { (e : Event) → O.welcome out.old e ↔ O.welcome out.new e }
 {
-    let Ok(index) = index_of(alloc, problem) else {
+    let Ok(index) = Index::shared(alloc, problem) else {
         return Err(CrewFault::OutOfMemory);
     };
     let team = Team {

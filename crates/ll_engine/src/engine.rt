@@ -175,8 +175,8 @@ impl<'p> Engine<'p> {
         requires valid { IsValid problem.now }
         ensures { IfOk result (λ e. e ≡ fresh problem.entry.now) }
     {
-        let index = Index::build(alloc, problem)?;
-        Engine::start_with(alloc, problem, Arc::new(alloc, index)?)
+        let index = Index::shared(alloc, problem)?;
+        Engine::start_with(alloc, problem, index)
     }
 
     /// The same engine, with an index of the problem's clauses that was made before.

@@ -83,8 +83,7 @@ pub fn index_of(
     if let Some(index) = frozen.index()? {
         return Ok(index);
     }
-    let index = Index::build(alloc, problem)?;
-    Ok(Arc::new(alloc, index)?)
+    Index::shared(alloc, problem)
 }
 
 /// Makes the inference of an alternative in its state, if it is not the start; false where it gives nothing.

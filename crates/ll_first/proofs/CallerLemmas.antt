@@ -8,6 +8,8 @@ pub use Rattle.ll_first.proofs.Uptos.{upto_none}
 pub use Rattle.ll_first.proofs.Uptos.{upto_enough}
 -- it is a prefix of the events, and has just so many answers
 pub use Rattle.ll_first.proofs.Uptos.{upto_front}
+-- where a prefix begins with an event, the rest of it is a prefix of what follows
+pub use Rattle.ll_first.proofs.Uptos.{in_front}
 -- it ends with the event that makes the answers as many
 pub use Rattle.ll_first.proofs.Uptos.{upto_here}
 -- events with fewer answers stand in front of its end

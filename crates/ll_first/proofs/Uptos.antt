@@ -14,7 +14,7 @@ count_reached : (es : List Event) → count_by is_answer (Reached ∷ es) ≡ co
 count_reached es = let s : count_by is_answer (Reached ∷ es) ≡ 0 + count_by is_answer es = sum_by-cons _ Reached es in omega arith
 
 -- an event in front of a prefix
-in_front : (e : Event) (o : Option (List Event)) (front : List Event) → option_map (λ f. e ∷ f) o ≡ Some front
+pub in_front : (e : Event) (o : Option (List Event)) (front : List Event) → option_map (λ f. e ∷ f) o ≡ Some front
     → (rest : List Event) × (o ≡ Some rest) × (front ≡ e ∷ rest)
 in_front e None front h = absurd (cc)
 in_front e (Some rest) front h = let same : e ∷ rest ≡ front = cc in (rest, refl, sym same)

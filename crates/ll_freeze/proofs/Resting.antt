@@ -23,7 +23,7 @@ use Rattle.ll_freeze.specs.Resting.{under_loads, RestsOn}
 
 -- ---- entries that differ in their live marks alone
 
-abbrev Remarked : List (Entry Form) → List (Entry Form) → Type 0
+abbrev Remarked : (old new : List (Entry Form)) → Type 0
 Remarked [] [] = Unit {0}
 Remarked (e ∷ es) (d ∷ ds) = (d.label ≡ e.label) × (d.kind ≡ e.kind) × (d.clause ≡ e.clause) × Remarked es ds
 Remarked _ _ = ⊥

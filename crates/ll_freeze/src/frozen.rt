@@ -79,8 +79,8 @@ impl<'p> Frozen<'p> {
         requires valid { IsValid problem.now }
         ensures { IfOk result (λ f. f ≡ opening problem.entry.now f.base) }
     {
-        let index = Index::build(alloc, problem)?;
-        Frozen::start_with(alloc, problem, Arc::new(alloc, index)?)
+        let index = Index::shared(alloc, problem)?;
+        Frozen::start_with(alloc, problem, index)
     }
 
     /// The same start, with an index of the problem's clauses that was made before.

@@ -4,6 +4,7 @@ use Rattle.std.specs.Prelude.{if◌then◌else◌, slice_index, slice_get, Some,
 use Rattle.std.proofs.lemmas.Bool.{cases_lt}
 use Rattle.std.proofs.lemmas.List.{length-map, length-drop}
 use Rattle.std.proofs.lemmas.Option.{slice_get-map, slice_get_within}
+use Rattle.ll_list_laws.proofs.CallerLemmas.{slice_get-drop}
 use Rattle.ll_index.specs.declared.laws.First.{First}
 use Rattle.ll_index.specs.declared.laws.First.TheVariants.{Open}
 use Rattle.ll_index.specs.declared.key.Key.{Key}
@@ -74,11 +75,6 @@ module _ {K : Type 0} (eq : K → K → Bool) (same : (x y : K) → eq x y ≡ t
 
 -- ---- links
 
-get-drop : {A : Type 0} (n k : ℕ) (xs : List A) → slice_get (drop n xs) k ≡ slice_get xs (n + k)
-get-drop zero k xs = let e : k ≡ 0 + k = omega arith in ap (slice_get xs) e
-get-drop (suc n) k [] = refl
-get-drop (suc n) k (x ∷ xs) = let e : suc (n + k) ≡ suc n + k = omega arith in get-drop n k xs ∙ ap (slice_get (x ∷ xs)) e
-
 link-at : {K : Type 0} (eq : K → K → Bool) (i : ℕ) (ks : List K) (at : ℕ) (k : K) → slice_get ks at ≡ Some k
     → slice_index (links_from eq i ks) at ≡ first_from eq (suc (i + at)) (drop (suc at) ks) k
 link-at eq i [] at k h = cc
@@ -136,7 +132,7 @@ module _ (keys : List Key) (name arguments : ℕ) (first : First) where
       let i = r.first.inside in
       record {
         inside = omega arith;
-        here = λ x g. r.first.here (without_sign x) (get-drop (suc at) r.steps ps ∙ (ap (slice_get ps) z ∙ get-predicate n x g)) ∙ own;
+        here = λ x g. r.first.here (without_sign x) (slice_get-drop (suc at) r.steps ps ∙ (ap (slice_get ps) z ∙ get-predicate n x g)) ∙ own;
         before = λ j b g. elim (cases_lt j at) [
           | inl q ↦ p.before j q g
           | inr q ↦ elim (cases_lt at j) [
@@ -144,7 +140,8 @@ module _ (keys : List Key) (name arguments : ℕ) (first : First) where
                 let y : suc at + (j - suc at) ≡ j = omega arith in
                 let t : j - suc at < r.steps = omega arith in
                 r.first.before (j - suc at) t
-                (get-drop (suc at) (j - suc at) ps ∙ (ap (slice_get ps) y ∙ (get-predicate j (Named name arguments first) g ∙ ap (λ v. Some v) (sym own))))
+                (slice_get-drop (suc at) (j - suc at) ps
+                ∙ (ap (slice_get ps) y ∙ (get-predicate j (Named name arguments first) g ∙ ap (λ v. Some v) (sym own))))
             | inr q2 ↦
                 let y : j ≡ at = omega arith in
                 let v : Some k ≡ Some (Named name arguments first) = sym h ∙ (ap (slice_get keys) (sym y) ∙ g) in

@@ -8,6 +8,7 @@ use Rattle.std.proofs.lemmas.List.{get_or-set_same, get_or-set_other, get_or_def
 use Rattle.std.proofs.lemmas.List.Elements.{All-append, All-cons}
 use Rattle.std.proofs.lemmas.Option.{unwrap_or-slice_get}
 use Rattle.std.proofs.Math.Seq.{drop-cons}
+use Rattle.ll_list_laws.proofs.CallerLemmas.{not_eq_sym}
 use Rattle.ll_index.specs.declared.laws.First.{First}
 use Rattle.ll_index.specs.declared.laws.First.TheVariants.{Open, Int as IntSign, Head as NameSign}
 use Rattle.ll_index.specs.contracts.laws.FirstPartialEq.TheImpl.{eq-value as first_eq}
@@ -24,12 +25,9 @@ and-false : (b : Bool) → b && false ≡ false
 and-false true = refl
 and-false false = refl
 
-flip-false : (m k : ℕ) → nat_eq m k ≡ false → nat_eq k m ≡ false
-flip-false m k e = ne_eqb k m (λ w. let t : true ≡ false = sym (eq-eqb m k (sym w)) ∙ e in cc)
-
 -- another number of arguments, or another name
 key-other : (n k name m : ℕ) (f g : First) → nat_eq m k ≡ false → key_eq (Named n k f) (Named name m g) ≡ false
-key-other n k name m f g e = ap (λ b. nat_eq n name && (b && (first_eq).it f g)) (flip-false m k e) ∙ and-false (nat_eq n name)
+key-other n k name m f g e = ap (λ b. nat_eq n name && (b && (first_eq).it f g)) (not_eq_sym m k e) ∙ and-false (nat_eq n name)
 
 name-other : (n k name m : ℕ) (f g : First) → nat_eq n name ≡ false → key_eq (Named n k f) (Named name m g) ≡ false
 name-other n k name m f g e = ap (λ b. b && (nat_eq k m && (first_eq).it f g)) e

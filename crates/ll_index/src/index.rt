@@ -15,6 +15,7 @@ use ll_agenda::{Agenda, Top};
 use ll_bank::{Bank, OutOfMemory};
 use ll_laws::{Clause, Problem};
 use std::alloc::Global;
+use std::sync::Arc;
 
 /// The leaves of a program's clauses, in order, found by the predicate of their heads and the outermost sign of the first argument.
 ///
@@ -64,6 +65,7 @@ pub struct Cursor {
 
 impl Index {
     ghost use Rattle.std.specs.Prelude.{◌≡◌, ◌∷◌, ◌↔◌, ℕ, [], map, IfOk, IfSome, IsNone};
+    ghost use Rattle.std.specs.Arc.{arc_value};
     ghost use Rattle.ll_agenda.specs.Frames.{items_at, HasTop, BeginsWith};
     ghost use Rattle.ll_laws.specs.Shown.{clause_tree, HasClauses};
     ghost use Rattle.ll_index.specs.Index.{HasIndex, IsIndex, IsLeafOf, IsFoundAt, ListsMatches, chains_of, premises_of, left};
@@ -73,6 +75,14 @@ impl Index {
         ensures { IfOk result (HasIndex problem.now.clauses) }
     {
         Index::over(alloc, &problem.bank, &problem.clauses)
+    }
+
+    /// The same index, to be shared by the searches of problems with these clauses.
+    pub fn shared(alloc: Global, problem: &Problem) -> Result<Arc<Index>, OutOfMemory>
+        ensures { IfOk result (λ index. HasIndex problem.now.clauses (arc_value index)) }
+    {
+        let index = Index::build(alloc, problem)?;
+        Ok(Arc::new(alloc, index)?)
     }
 
     /// The index of program clauses that are places of a bank, in time and memory linear in the clauses and in the greatest number of a

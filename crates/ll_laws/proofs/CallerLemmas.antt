@@ -28,6 +28,10 @@ pub use Rattle.ll_laws.proofs.search.LeafWays.{Under}
 pub use Rattle.ll_laws.proofs.search.LeafWays.{under}
 -- the leaves of all clauses that wait
 pub use Rattle.ll_laws.proofs.search.LeafWays.{waiting_ways}
+-- one more clause that waits
+pub use Rattle.ll_laws.proofs.search.LeafWays.{ways-push}
+-- what is no clause has no leaves
+pub use Rattle.ll_laws.proofs.search.LeafWays.{other_ways}
 -- the count stays where a clause takes the place of one with as many leaves
 pub use Rattle.ll_laws.proofs.search.LeafWays.{count_in}
 -- the count stays where two clauses take the place of one with the leaves of both
@@ -172,6 +176,8 @@ pub use Rattle.ll_laws.proofs.consistency.ConsistentContexts.{alike-remark}
 pub use Rattle.ll_laws.proofs.consistency.ConsistentContexts.{alike-ends}
 -- settling looks at no goal and no clause
 pub use Rattle.ll_laws.proofs.search.SettleLaws.{front-map}
+-- settling takes no step
+pub use Rattle.ll_laws.proofs.search.SettleLaws.{settle_steps}
 -- ---- the search and its cost, inference by inference
 
 -- where settling fails, a search has no event

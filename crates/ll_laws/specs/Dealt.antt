@@ -1,5 +1,5 @@
 -- The derivation of an answer: the nodes of its branch, with every label dealt out.
-use Rattle.std.specs.Prelude.{ℕ, List, [], ◌∷◌, ◌++◌, map, length, take, drop, slice_index, slice_index_or, Option, Some, None}
+use Rattle.std.specs.Prelude.{◌≡◌, ℕ, List, [], ◌∷◌, ◌++◌, map, length, take, drop, slice_index, slice_index_or, Option, Some, None}
 use Rattle.ll_laws.specs.declared.Step.{Step}
 use Rattle.ll_laws.specs.declared.Step.TheVariants.{Plain, Right, Clause as ClauseStep}
 use Rattle.ll_bank.specs.Term.{Term, Var}
@@ -119,3 +119,7 @@ dealt_lines ts (Some x) = Some (record { asked = ts; nodes = lines x })
 -- the derivation of an answer of a problem
 unfoldable pub dealt : ProblemTree → Answered → Option DerivationLines
 dealt p a = dealt_lines (asked_terms p a) (dealt_tree p a)
+
+-- the derivation has as many nodes as the answer's branch has steps
+abbrev pub HasNodeForEachStep : Answered → DerivationLines → Type 0
+HasNodeForEachStep a d = length d.nodes ≡ length a.steps

@@ -10,7 +10,7 @@ use Rattle.ll_lexer.specs.declared.Token.{Token}
 use Rattle.ll_lexer.specs.declared.TokenKind.{TokenKind}
 use Rattle.ll_lexer.specs.Spelling.{is_digit, is_word_start, IsLongest, HasNone}
 use Rattle.ll_lexer.specs.Reading.{is_blank, place_at, IsGap, blank, comment, HasFlaw, past_64_bits, long_name, long_variable, IsSound, End, done, stopped}
-use Rattle.ll_lexer.specs.Reading.{Lexes, at_end, gap, token, flawed, no_token, token_at, LexedText, IsLexed, HasFault, IsTokenOf}
+use Rattle.ll_lexer.specs.Reading.{Lexes, at_end, gap, token, flawed, no_token, token_at, LexedText, IsLexed, IsTokenOf, IsLexedOnce, HasFaultOnce, IsLexedOrFaulty}
 use Rattle.ll_lexer.proofs.Longest.{begins, first-begins, nonempty}
 
 gap-unique : (bytes : List ℕ) (n m : ℕ) → IsGap bytes n → IsGap bytes m → n ≡ m
@@ -112,7 +112,7 @@ one-reading text i ts us d e (no_token h n g) (token k m l s y) = absurd (none-l
 one-reading text i ts us d e (no_token h n g) (flawed k m f l y) = absurd (none-longest (drop i text) k m n l)
 one-reading text i ts us d e (no_token h n g) (no_token x m o) = (refl, refl)
 
-pub one-list : (a b : LexedText) → a.text ≡ b.text → IsLexed a → IsLexed b → a ≡ b
+pub one-list : IsLexedOnce
 one-list a b e h g =
     let f : Lexes a.text 0 b.tokens (done b.end) = rw e g in
     let r = one-reading a.text 0 a.tokens b.tokens (done a.end) (done b.end) h f in
@@ -124,7 +124,7 @@ one-list a b e h g =
         → (let x : LexedText = record { text = t; tokens = xs; end = p } in x) ≡ (let y : LexedText = record { text = u; tokens = ys; end = q } in y)
     same-text t u xs ys p q e f g = rw (e, f, g) refl
 
-pub one-fault : (text : List ℕ) (f g : Fault) → HasFault text f → HasFault text g → f ≡ g
+pub one-fault : HasFaultOnce
 one-fault text f g a b =
     let r = one-reading text 0 a.0 b.0 (stopped f.kind f.at) (stopped g.kind g.at) a.1 b.1 in
     let k : f.kind ≡ g.kind = cc in
@@ -135,7 +135,7 @@ one-fault text f g a b =
         ≡ (let y : Fault = record { at = q; kind = j } in y)
     same-fault p q k j e h = rw (e, h) refl
 
-pub not-both : (a : LexedText) (f : Fault) → IsLexed a → HasFault a.text f → ⊥
+pub not-both : IsLexedOrFaulty
 not-both a f h g =
     let r = one-reading a.text 0 a.tokens g.0 (done a.end) (stopped f.kind f.at) h g.1 in absurd cc
 

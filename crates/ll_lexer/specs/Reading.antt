@@ -98,3 +98,17 @@ pub record IsTokenOf (text : List ℕ) (t : Token) : Type 0 where
   pub within : t.to ≤ length text
   pub spells : Spells t.kind (bytes_of text t)
   pub sound : IsSound t.kind (bytes_of text t)
+
+-- ---- a text is read in one way
+
+-- no text has two lists of tokens
+abbrev pub IsLexedOnce : Type 0
+IsLexedOnce = (a b : LexedText) → a.text ≡ b.text → IsLexed a → IsLexed b → a ≡ b
+
+-- no text has two faults
+abbrev pub HasFaultOnce : Type 0
+HasFaultOnce = (text : List ℕ) (f g : Fault) → HasFault text f → HasFault text g → f ≡ g
+
+-- no text that has a list of tokens has a fault
+abbrev pub IsLexedOrFaulty : Type 0
+IsLexedOrFaulty = (a : LexedText) (f : Fault) → IsLexed a → HasFault a.text f → ⊥

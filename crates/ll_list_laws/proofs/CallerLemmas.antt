@@ -3,7 +3,7 @@ use Rattle.std.proofs.Common.{◌≡◌, refl, Bool, true, false, ◌&&◌, sym,
 use Rattle.std.proofs.Common.{reverse, ◌++◌, ◌<◌, get_or, inl, inr, length-append, ◌+◌, ◌||◌, ◌∙◌, true≢false, cond, take, drop, ◌-◌}
 use Rattle.std.proofs.Math.ListN.{get_or-append}
 use Rattle.std.proofs.Math.Seq.{get_or-append_seam}
-use Rattle.std.proofs.lemmas.Bool.{eq-eqb, ne_eqb, eqb-false, ltb-true, lt-ltb, cases_lt}
+use Rattle.std.proofs.lemmas.Bool.{eq-eqb, ne_eqb, eqb-true, eqb-false, ltb-true, lt-ltb, cases_lt}
 use Rattle.std.proofs.lemmas.Bool.Decides.{nat_tests}
 use Rattle.std.proofs.lemmas.List.{reverse-append, length_push, get_or_push, append-nil, length-drop}
 use Rattle.std.proofs.lemmas.List.Elements.{All-head, All-tail, All-push}
@@ -84,6 +84,11 @@ eq-refl n = eq-eqb n n refl
 -- numbers that differ differ the other way round
 pub not_eq_sym : (m n : ℕ) → nat_eq m n ≡ false → nat_eq n m ≡ false
 not_eq_sym m n h = ne_eqb n m (λ e. eqb-false m n h (sym e))
+
+-- images are equal where the numbers are, if no two of these numbers have one image
+pub eq-moved : (r : ℕ → ℕ) (m n : ℕ) → (r m ≡ r n → m ≡ n) → nat_eq (r m) (r n) ≡ nat_eq m n
+eq-moved r m n one = same_from_both_ways (nat_eq (r m) (r n)) (nat_eq m n) (λ e. eq-eqb m n (one (eqb-true (r m) (r n) e)))
+    (λ e. eq-eqb (r m) (r n) (ap r (eqb-true m n e)))
 
 -- a number is not below one that is at most as great
 pub lt_false : (a b : ℕ) → b ≤ a → nat_lt a b ≡ false
@@ -229,6 +234,12 @@ run_passes p (b ∷ bs) = by-test (p b) refl (run_passes p bs)
     by-test false e ih = refl
 
 -- ---- whole lists
+
+-- the elements behind a front
+pub slice_get-drop : {A : Type 0} (n k : ℕ) (xs : List A) → slice_get (drop n xs) k ≡ slice_get xs (n + k)
+slice_get-drop zero k xs = let e : k ≡ 0 + k = omega arith in ap (slice_get xs) e
+slice_get-drop (suc n) k [] = refl
+slice_get-drop (suc n) k (x ∷ xs) = let e : suc (n + k) ≡ suc n + k = omega arith in slice_get-drop n k xs ∙ ap (slice_get (x ∷ xs)) e
 
 -- a front of a list is at most as long
 pub length-take_most : {A : Type 0} (k : ℕ) (xs : List A) → length (take k xs) ≤ length xs

@@ -46,6 +46,10 @@ pub use Rattle.ll_parser.proofs.printing.Printable.{IsFormula}
 pub use Rattle.ll_parser.proofs.printing.Printable.{Spelled}
 -- where tokens can stand in a text, so can those of either part
 pub use Rattle.ll_parser.proofs.printing.Printable.{spelled-split}
+-- a token of the lexer without a flaw can stand in a text
+pub use Rattle.ll_parser.proofs.spelling.Spelled.{kind-spelled}
+-- the place of a token is the lexer's
+pub use Rattle.ll_parser.proofs.machines.Running.{place-by}
 -- what is read as a formula can be printed
 pub use Rattle.ll_parser.proofs.printing.Printable.{formula-printable}
 -- ---- quantifiers

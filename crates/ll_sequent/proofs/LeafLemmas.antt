@@ -19,7 +19,7 @@ use Rattle.ll_bank.specs.Nodes.{Nodes, form_of, form_tree}
 use Rattle.ll_bank.specs.Opened.{form_size}
 use Rattle.ll_bank.proofs.CallerLemmas.{form_size-some}
 use Rattle.ll_laws.specs.Leaf.{Leaf, Premise, add_premise, ways, leaf_from}
-use Rattle.ll_laws.proofs.CallerLemmas.{waiting_ways}
+use Rattle.ll_laws.proofs.CallerLemmas.{waiting_ways, ways-push, other_ways}
 use Rattle.ll_sequent.specs.Opened.{waiting_size}
 
 -- ---- premises that were met
@@ -60,25 +60,6 @@ leaf_no bank e (UseView m us x) k ts a w l i f = refl
 leaf_no bank e (IsView t u) k ts a w l i f = refl
 leaf_no bank e (LessView t u) k ts a w l i f = refl
 leaf_no bank e (MostView t u) k ts a w l i f = refl
-
-ways_no : (bank : Nodes) (v : FormNode) → ((a : At) → v ≡ AtomView a → ⊥) → ((f g : FormAt) → v ≡ WithView f g → ⊥)
-    → ((f g : FormAt) → v ≡ LolliView f g → ⊥) → ((f g : FormAt) → v ≡ ImpView f g → ⊥) → ((f : FormAt) → v ≡ ForallView f → ⊥)
-    → length (ways (form_of bank v)) ≡ 0
-ways_no bank TopView a w l i f = refl
-ways_no bank OneView a w l i f = refl
-ways_no bank (AtomView x) a w l i f = absurd (a x refl)
-ways_no bank (WithView x y) a w l i f = absurd (w x y refl)
-ways_no bank (TensorView x y) a w l i f = refl
-ways_no bank (PlusView x y) a w l i f = refl
-ways_no bank (BangView x) a w l i f = refl
-ways_no bank (LolliView x y) a w l i f = absurd (l x y refl)
-ways_no bank (ImpView x y) a w l i f = absurd (i x y refl)
-ways_no bank (ForallView x) a w l i f = absurd (f x refl)
-ways_no bank (ExistsView x) a w l i f = refl
-ways_no bank (UseView m us x) a w l i f = refl
-ways_no bank (IsView t u) a w l i f = refl
-ways_no bank (LessView t u) a w l i f = refl
-ways_no bank (MostView t u) a w l i f = refl
 
 pub leaf_past_atom : (e : Env) (a : Term) (k : ℕ) (ts : List Term) → (k ≡ 0 → ⊥) → leaf_from e (Atom a) k ts ≡ None
 leaf_past_atom e a zero ts n = absurd (n refl)
@@ -178,17 +159,14 @@ waiting_alone bank none all f e w l =
     let h : P [] = λ k d l. absurd (omega arith) in
     subst P (sym (w ∙ ap (λ xs. xs ++ f ∷ []) e)) (All-push (λ (a : FormAt). a.0 < length bank.forms) [] f h l)
 
-ways_push : (bank : Nodes) (fs : List FormAt) (f : FormAt) → waiting_ways bank (fs ++ f ∷ []) ≡ waiting_ways bank fs + length (ways (form_tree bank f.0))
-ways_push bank fs f = let e = sum_by-append (λ (g : FormAt). length (ways (form_tree bank g.0))) fs (f ∷ []) in omega (arith, e)
-
 pub count_alone : (bank : Nodes) (none all : List FormAt) (f : FormAt) (k : ℕ) → none ≡ [] → all ≡ none ++ f ∷ []
     → k + waiting_ways bank all ≡ length (ways (form_tree bank f.0)) + k
 count_alone bank none all f k e w =
-    let a = ap (waiting_ways bank) (w ∙ ap (λ xs. xs ++ f ∷ []) e) in let b = ways_push bank [] f in omega (arith, a, b)
+    let a = ap (waiting_ways bank) (w ∙ ap (λ xs. xs ++ f ∷ []) e) in let b = ways-push bank [] f in omega (arith, a, b)
 
 module _ (bank : Nodes) (old rest : List FormAt) (f : FormAt) (k n left : ℕ) (o : old ≡ rest ++ f ∷ []) (h : k + waiting_ways bank old ≡ n + left) where
   count_last : k + (waiting_ways bank rest + length (ways (form_tree bank f.0))) ≡ n + left
-  count_last = let a = ap (waiting_ways bank) o ∙ ways_push bank rest f in omega (arith, a, h)
+  count_last = let a = ap (waiting_ways bank) o ∙ ways-push bank rest f in omega (arith, a, h)
 
   -- an atom is the leaf
   pub count_found : (a : Term) → form_tree bank f.0 ≡ Atom a → left ≡ 0 → k < n
@@ -206,4 +184,4 @@ module _ (bank : Nodes) (old rest : List FormAt) (f : FormAt) (k n left : ℕ) (
   pub count_other : (v : FormNode) → form_tree bank f.0 ≡ form_of bank v → ((a : At) → v ≡ AtomView a → ⊥) → ((f g : FormAt) → v ≡ WithView f g → ⊥)
       → ((f g : FormAt) → v ≡ LolliView f g → ⊥) → ((f g : FormAt) → v ≡ ImpView f g → ⊥) → ((f : FormAt) → v ≡ ForallView f → ⊥)
       → k + waiting_ways bank rest ≡ n + left
-  count_other v e a w l i f = let c = count_last in let s = ap (λ (t : Form). length (ways t)) e ∙ ways_no bank v a w l i f in omega (arith, c, s)
+  count_other v e a w l i f = let c = count_last in let s = ap (λ (t : Form). length (ways t)) e ∙ other_ways bank v a w l i f in omega (arith, c, s)

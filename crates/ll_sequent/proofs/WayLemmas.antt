@@ -284,10 +284,6 @@ side_low count k n q r side is l =
     let P : FormAt → Type 0 = λ f. f.0 < n in
     elim (cases_lt k count) [ inl a ↦ subst P (sym (is.0 a).0) l.0 | inr b ↦ subst P (sym (is.1 b).0) l.1 ]
 
--- a part of a formula that lies in a bank lies there
-pub part_low : (a b n : ℕ) → a < b → b < n → a < n
-part_low a b n h k = omega arith
-
 -- the values are as many as their terms
 pub passed_all : (bank : Nodes) (vals : List At) (n : ℕ) → n ≡ length vals → n ≡ length (term_trees bank vals)
 passed_all bank vals n e = e ∙ sym (length-map vals (λ (a : At). term_tree bank a.0))

@@ -8,7 +8,7 @@ use Rattle.ll_lexer.proofs.CallerLemmas.{few-tokens}
 use Rattle.ll_laws.specs.declared.Event.TheVariants.{Answer}
 use Rattle.ll_laws.specs.Answered.{Answered}
 use Rattle.ll_laws.specs.Problem.{ProblemTree, problem_events}
-use Rattle.ll_laws.specs.Dealt.{asked_terms, dealt}
+use Rattle.ll_laws.specs.Dealt.{asked_terms, dealt, HasNodeForEachStep}
 use Rattle.ll_laws.specs.Line.{DerivationLines}
 use Rattle.ll_laws.specs.Laws.{AnswersAreShown}
 use Rattle.ll_laws.specs.ProofText.{proof_text}
@@ -68,7 +68,7 @@ pub record Printed (p : ProblemTree) (a : Answered) (d : DerivationLines) : Type
   pub text : IsProofText (with_names p.names (text_names (proof_text p.names d))) (proof_text p.names d) d
   pub shows : DerivationShows p d
   pub asked : d.asked ≡ asked_terms p a
-  pub count : length d.nodes ≡ length a.steps
+  pub count : HasNodeForEachStep a d
 
 module _ (shown_law : AnswersAreShown) (spelled_law : AnswersAreSpelled) (read_law : SpelledIsRead) (texts : Texts) (run : RunWords) (p : ProblemTree)
     (asks : RunAsks (Some texts) run p) (a : Answered) (d : DerivationLines) where

@@ -4,6 +4,7 @@ use Rattle.std.proofs.Common.{arith}
 use Rattle.std.specs.Prelude.{Option, Some, None, option_map, slice_get}
 use Rattle.std.proofs.lemmas.List.{take-append-drop}
 use Rattle.ll_first.specs.Upto.{upto}
+use Rattle.ll_first.proofs.CallerLemmas.{in_front}
 use Rattle.ll_laws.specs.declared.Event.{Event}
 use Rattle.ll_laws.specs.declared.Event.TheVariants.{Answer, Reached}
 use Rattle.ll_laws.specs.Answered.{Answered}
@@ -77,23 +78,17 @@ whole-answers proofs p = sym (whole-lines proofs p) ∙ ap (λ l. l ++ last_line
 
 -- ---- the first answers
 
--- an event in front of a prefix
-in-front : (e : Event) (o : Option (List Event)) (front : List Event) → option_map (λ f. e ∷ f) o ≡ Some front
-    → (rest : List Event) × (o ≡ Some rest) × (front ≡ e ∷ rest)
-in-front e None front h = absurd (cc)
-in-front e (Some rest) front h = let same : e ∷ rest ≡ front = cc in (rest, refl, sym same)
-
 -- the shortest prefix with so many answers has the first ones
 pub upto-answers : (es : List Event) (k : ℕ) (front : List Event) → upto es k ≡ Some front
     → (answers_in front ≡ take k (answers_in es)) × (k ≤ length (answers_in es))
 upto-answers es zero front h = let same : [] ≡ front = cc in (ap answers_in (sym same), omega arith)
 upto-answers [] (suc k) front h = absurd (cc)
 upto-answers (Answer a ∷ es) (suc k) front h =
-    let m = in-front (Answer a) (upto es k) front h in
+    let m = in_front (Answer a) (upto es k) front h in
     let i = upto-answers es k m.0 m.1 in
     (ap answers_in m.2 ∙ ap (λ l. a ∷ l) i.0, omega (arith, i.1))
 upto-answers (Reached ∷ es) (suc k) front h =
-    let m = in-front Reached (upto es (suc k)) front h in
+    let m = in_front Reached (upto es (suc k)) front h in
     let i = upto-answers es (suc k) m.0 m.1 in
     (ap answers_in m.2 ∙ i.0, i.1)
 

@@ -19,6 +19,7 @@ use Rattle.ll_parser.specs.Raw.{Raw, ProgramTree}
 use Rattle.ll_parser.specs.Text.{queries}
 use Rattle.ll_parser.specs.Tokens.{Tok, tok_place, tok_by, tok_of, toks_of, IsSpelled}
 use Rattle.ll_parser.specs.Reads.{Reads, HasFault as HasTokenFault, bad_token, ends_early, too_many_open}
+use Rattle.ll_parser.proofs.CallerLemmas.{kind-spelled, place-by}
 use Rattle.ll_polarity.specs.Faults.{Heading, heading, query_faults, AreInOrder}
 use Rattle.ll_session.specs.Lines.{with_front, lines}
 use Rattle.ll_session.specs.Reading.{most_open, IsQueryFault, lexical, grammatical, of_scope}
@@ -63,23 +64,6 @@ same-line at (b ∷ bs) h = same-line (after at b) bs h.1 ∙ ap (λ v. (moved a
 
 -- ---- tokens
 
-tok-at : (k : TokenKind) (w : List ℕ) (at : Place) → tok_place (tok_by k w at) ≡ at
-tok-at kind.Name w at = refl
-tok-at _ w at = refl
-
--- a number without a flaw has 64 bits, a name or a variable at most 255 bytes
-fits : (z : ℤ) → ((FitsSigned w64 z → ⊥) → ⊥) → FitsSigned w64 z
-fits z h = elim (cases_lt (mag z) (2 ^ hbits w64)) [ inl l ↦ record { sfits = l } | inr g ↦ absurd (h (λ f. let l = f.sfits in omega arith)) ]
-
-short : (w : List ℕ) → (255 < length w → ⊥) → length w ≤ 255
-short w h = elim (cases_lt 255 (length w)) [ inl g ↦ absurd (h g) | inr g ↦ g ]
-
-spelled : (k : TokenKind) (w : List ℕ) (at : Place) → Spells k w → IsSound k w → IsSpelled (tok_by k w at)
-spelled kind.Name w at s f = (s, short w (λ g. f 3 (long_name g)))
-spelled kind.Variable w at s f = (s, short w (λ g. f 3 (long_variable g)))
-spelled kind.Number w at s f = fits (number_value w) (λ g. f 2 (past_64_bits g))
-spelled _ w at s f = tt
-
 -- all tokens stand on line 1
 abbrev OnFirst : List Tok → Type 0
 OnFirst [] = Unit {0}
@@ -110,11 +94,11 @@ module _ (text : List ℕ) (clean : IsClean text) where
       let t = token_at text i k n in
       let same : take n (drop i text) ≡ bytes_of text t = let m : n ≡ (i + n) - i = omega arith in ap (λ j. take j (drop i text)) m in
       record {
-        first = (ap (λ (p : Place). p.line) (tok-at k (bytes_of text t) (place_at text i)) ∙ place-line i, r.first);
+        first = (ap (λ (p : Place). p.line) (place-by k (bytes_of text t) (place_at text i)) ∙ place-line i, r.first);
         ends = r.ends;
         spell =
             All-cons IsSpelled (tok_of text t) (map (tok_of text) ts)
-            (spelled k (bytes_of text t) (place_at text i) (subst (Spells k) same longest.spells) (subst (IsSound k) same sound)) r.spell;
+            (kind-spelled k (bytes_of text t) (place_at text i) (subst (Spells k) same longest.spells) (subst (IsSound k) same sound)) r.spell;
       }
   one-line i _ _ (flawed k n kind a b) = record { first = tt; ends = place-line i; spell = none-spelled }
   one-line i _ _ (no_token a b c) = record { first = tt; ends = place-line i; spell = none-spelled }

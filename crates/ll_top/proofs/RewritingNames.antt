@@ -21,7 +21,7 @@ use Rattle.ll_laws.specs.Shows.{all_in, Found, Missing, Took, behind, take_label
 use Rattle.ll_laws.specs.Fault.{Checked, Fits, Fault, then_check, unless, is_empty, term_eq, parts_fit, parts_deal, Judged, Wrong, Right, judge_leaf}
 use Rattle.ll_laws.specs.Fault.{judge_clause, on_judged, on_module, fault, fault_parts}
 use Rattle.std.proofs.lemmas.Bool.{cases_lt}
-use Rattle.ll_list_laws.proofs.CallerLemmas.{and_true_both as both}
+use Rattle.ll_list_laws.proofs.CallerLemmas.{and_true_both as both, eq-moved}
 use Rattle.ll_laws.specs.Line.{DerivationLines}
 use Rattle.ll_laws.specs.Number.{operators_of, operator_spelled}
 use Rattle.ll_laws.specs.Problem.{ProblemTree, setting_of}
@@ -346,19 +346,7 @@ module _ (r : Numbers) where
 
   module _ (one : (m n : ℕ) → r m ≡ r n → m ≡ n) (ops : Operators) (same : (n : ℕ) → ops (r n) ≡ ops n) where
     name-apart : (m n : ℕ) → nat_eq (r m) (r n) ≡ nat_eq m n
-    name-apart m n = step (nat_eq m n) refl (nat_eq (r m) (r n)) refl
-      where
-        step : (b : Bool) → nat_eq m n ≡ b → (c : Bool) → nat_eq (r m) (r n) ≡ c → c ≡ b
-        step true e true f = refl
-        step false e false f = refl
-        step true e false f =
-            let same : m ≡ n = grind (arith, nat_tests, e) in
-            let w : r m ≡ r n = ap r same in
-            absurd (let y : ⊥ = grind (arith, nat_tests, f, w) in y)
-        step false e true f =
-            let w : r m ≡ r n = grind (arith, nat_tests, f) in
-            let same : m ≡ n = one m n w in
-            absurd (let y : ⊥ = grind (arith, nat_tests, e, same) in y)
+    name-apart m n = eq-moved r m n (one m n)
 
     head-apart : (h k : Head) → head_eq (moved_head r h) (moved_head r k) ≡ head_eq h k
     head-apart (Name m) (Name n) = name-apart m n

@@ -11,7 +11,7 @@ use Rattle.ll_laws.specs.Search.{is_answer, is_reached}
 use Rattle.ll_laws.specs.Problem.{ProblemTree, problem_events, problem_cost}
 use Rattle.ll_laws.specs.Line.{DerivationLines, IsWhole}
 use Rattle.ll_laws.specs.Verdict.{DerivationShows}
-use Rattle.ll_laws.specs.Dealt.{asked_terms, dealt}
+use Rattle.ll_laws.specs.Dealt.{asked_terms, dealt, HasNodeForEachStep}
 use Rattle.ll_laws.specs.Instance.{IsInstance}
 use Rattle.ll_top.specs.textbook.Follows.{IsFilling, Follows, reckons, IsAnswered}
 use Rattle.ll_laws.specs.Output.{answer_text, summary_text}
@@ -35,7 +35,7 @@ pub record ShowsAnswer (p : ProblemTree) (a : Answered) (d : DerivationLines) : 
   pub asked : d.asked ≡ asked_terms p a
   pub whole : IsWhole d
   pub shows : DerivationShows p d
-  pub count : length d.nodes ≡ length a.steps
+  pub count : HasNodeForEachStep a d
 
 -- what stands behind an answer: with proofs the text of a derivation that shows it, and else nothing
 abbrev pub StandsBehind : Bool → ProblemTree → Answered → List ℕ → Type 0

@@ -24,7 +24,7 @@ use crate::refused::{Names, end_refused};
 use crate::run::{Found, Wanted, run_with};
 use crate::texts::{Refusal, prepare, write_heading};
 use crate::{answers_are_what_follows, found_status};
-use ll_crew::{Team, index_of};
+use ll_crew::Team;
 use ll_deepen::{Series, is_decided};
 use ll_edge::{Gate, Shelf, Sink};
 use ll_index::Index;
@@ -119,7 +119,7 @@ fn run_deepened<R: Threads + Wait + Sync, O: Sink, G: Gate>(
     ensures ends { EndsOwn (DeepensTo proofs «series».now problem.old) status_of_found NoneFails
         (Rose (O.faults sink.old) (O.faults sink.new)) (Some (O.taken sink.old)) (Some (O.taken sink.new)) result }
 {
-    let index = index_of(team.alloc, problem)?;
+    let index = Index::shared(team.alloc, problem)?;
     let bound = decide(team, series, problem, &index)?;
     write_heading(sink, "bound ", bound)?;
     let wanted = Wanted {

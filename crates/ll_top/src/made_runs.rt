@@ -31,7 +31,7 @@ use crate::lines::Silent;
 use crate::refused::{Names, end_refused};
 use crate::run::{Found, write_summary};
 use crate::texts::{Refusal, problem_of};
-use ll_crew::{Team, crew_with, index_of};
+use ll_crew::{Team, crew_with};
 use ll_edge::{Gate, Sink};
 use ll_index::Index;
 use ll_laws::{Counts, Problem};
@@ -119,7 +119,7 @@ fn write_counts<R: Threads + Wait + Sync, O: Sink, G: Gate>(
     ensures prefix { OnErr result (AppendsFront (Some (O.taken sink.old)) (last_line problem.now)
         (Some (O.taken sink.new))) }
 {
-    let index = index_of(team.alloc, problem)?;
+    let index = Index::shared(team.alloc, problem)?;
     let counts = count_events(team, problem, &index)?;
     let mut line = Vec::new(team.alloc);
     write_summary(&counts, &mut line, sink)

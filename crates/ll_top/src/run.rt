@@ -19,7 +19,7 @@ ghost use Rattle.ll_top.specs.Proved.{events_told};
 use crate::lines::{Asked, Line, Lined, Writing};
 use crate::texts::{Refusal, write_parts};
 use itoa::Buffer;
-use ll_crew::{Team, crew_first_with, crew_with, index_of};
+use ll_crew::{Team, crew_first_with, crew_with};
 use ll_edge::{Gate, Sink, WriteFailed, write_all};
 use ll_first::First;
 use ll_index::Index;
@@ -81,7 +81,7 @@ pub fn run<R: Threads + Wait + Sync, O: Sink, G: Gate>(
     ensures prefix { OnErr result (AppendsFront (Some (O.taken sink.old)) (text_of_run limit proofs problem.now)
         (Some (O.taken sink.new))) }
 {
-    let index = index_of(team.alloc, problem)?;
+    let index = Index::shared(team.alloc, problem)?;
     let wanted = Wanted {
         problem,
         index: &index,

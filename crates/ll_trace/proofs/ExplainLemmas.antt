@@ -35,7 +35,7 @@ use Rattle.ll_laws.specs.Laws.{AnswersAreShown}
 use Rattle.ll_laws.specs.Valid.{IsValid}
 use Rattle.ll_laws.specs.declared.Event.TheVariants.{Answer}
 use Rattle.ll_laws.specs.Dealing.{deal}
-use Rattle.ll_laws.specs.Dealt.{values, asked_terms, branch_lines, dealt}
+use Rattle.ll_laws.specs.Dealt.{values, asked_terms, branch_lines, dealt, HasNodeForEachStep}
 use Rattle.ll_trace.specs.declared.walk.Goal.TheVariants.{Plain}
 use Rattle.ll_trace.specs.declared.walk.Walker.{Walker}
 use Rattle.ll_trace.specs.Bare.{bare, premises_at}
@@ -311,7 +311,7 @@ module _ {p : ProblemTree} {a : Answered} {forms bank : Nodes} {modules : List M
 pub record IsShown (p : ProblemTree) (a : Answered) (d : DerivationLines) : Type 0 where
   pub whole : IsWhole d
   pub shows : DerivationShows p d
-  pub count : length d.nodes ≡ length a.steps
+  pub count : HasNodeForEachStep a d
 
 pub is_shown : AnswersAreShown → (p : ProblemTree) (a : Answered) → IsValid p → Contains (problem_events p) (Answer a) → (d : DerivationLines)
     → dealt p a ≡ Some d → IsShown p a d

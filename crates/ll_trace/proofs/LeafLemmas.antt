@@ -54,26 +54,6 @@ count_step forms old rest pushed new f n goal o w all more same h =
       so_far = omega (arith, a, b, same, h);
     }
 
--- what is no clause has no leaves
-pub other_ways : (forms : Nodes) (view : FormNode) → ((a : At) → view ≡ AtomView a → ⊥) → ((f g : FormAt) → view ≡ WithView f g → ⊥)
-    → ((f g : FormAt) → view ≡ LolliView f g → ⊥) → ((f g : FormAt) → view ≡ ImpView f g → ⊥) → ((f : FormAt) → view ≡ ForallView f → ⊥)
-    → length (ways (form_of forms view)) ≡ 0
-other_ways forms (AtomView a) none _ _ _ _ = absurd (none a refl)
-other_ways forms (WithView f g) _ none _ _ _ = absurd (none f g refl)
-other_ways forms (LolliView f g) _ _ none _ _ = absurd (none f g refl)
-other_ways forms (ImpView f g) _ _ _ none _ = absurd (none f g refl)
-other_ways forms (ForallView f) _ _ _ _ none = absurd (none f refl)
-other_ways forms TopView _ _ _ _ _ = refl
-other_ways forms OneView _ _ _ _ _ = refl
-other_ways forms (TensorView f g) _ _ _ _ _ = refl
-other_ways forms (PlusView f g) _ _ _ _ _ = refl
-other_ways forms (BangView f) _ _ _ _ _ = refl
-other_ways forms (ExistsView f) _ _ _ _ _ = refl
-other_ways forms (UseView m args f) _ _ _ _ _ = refl
-other_ways forms (IsView t u) _ _ _ _ _ = refl
-other_ways forms (LessView t u) _ _ _ _ _ = refl
-other_ways forms (MostView t u) _ _ _ _ _ = refl
-
 -- less waits when some clauses, together smaller, take the place of the one that was taken off
 pub size_step : (forms : Nodes) (old rest pushed new : List FormAt) (f : FormAt) → old ≡ rest ++ f ∷ [] → new ≡ rest ++ pushed
     → waiting_size forms pushed < way_size (form_tree forms f.0) → waiting_size forms new < waiting_size forms old

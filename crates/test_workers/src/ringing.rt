@@ -1,6 +1,7 @@
 //! That a worker that heard a bell before it rang does not wait for it.
 use crate::apart::made;
-use ll_crew::{Bell, crew_of, index_of};
+use ll_crew::{Bell, crew_of};
+use ll_index::Index;
 use ll_laws::Event;
 use ll_make::MakeKind;
 use std::test::Fail;
@@ -10,7 +11,7 @@ use std::test::Fail;
 fn a_bell_that_rang_keeps_nobody(rt: HostRuntime) -> Result<(), Fail> {
     let alloc = rt.alloc();
     let problem = made(alloc, MakeKind::Choice, 2)?;
-    let index = index_of(alloc, &problem)?;
+    let index = Index::shared(alloc, &problem)?;
     let (pool, mut seat, others) = crew_of::<Event>(alloc, &problem, index, 1)?;
     let bell = Bell::new();
     let heard = bell.heard(&rt, &seat);

@@ -4,7 +4,7 @@ use Rattle.std.proofs.Common.{append-nil, Option, Some, None}
 use Rattle.std.specs.Prelude.{flat_map, slice_get, sum_by}
 use Rattle.std.specs.List.{list_all}
 use Rattle.std.proofs.lemmas.Bool.{and_parts}
-use Rattle.std.proofs.lemmas.List.{length-append}
+use Rattle.std.proofs.lemmas.List.{length-append, nil_from_length}
 use Rattle.std.proofs.lemmas.List.Concat.{flat_map-append}
 use Rattle.ll_list_laws.proofs.CallerLemmas.{some_is, false_from_not}
 use Rattle.ll_laws.specs.Pool.{Owed, Closed, Piece, PoolData, Alternative}
@@ -211,10 +211,6 @@ module _ {N Of E : Type 0} (of : N → Of) (alternatives : N → List (Owed E)) 
   some_at (x ∷ xs) zero low = (x, refl)
   some_at (x ∷ xs) (suc i) low = some_at xs i (omega arith)
 
-  empty : {X : Type 0} (xs : List X) → length xs ≡ 0 → xs ≡ []
-  empty [] e = refl
-  empty (x ∷ xs) e = absurd (omega arith)
-
   pub nothing_comes : (p q : PoolData N E) (problem : Of) (pair : Owed E) → Sound of alternatives p problem pair → Sound of alternatives q problem pair
       → Later p q → p.untried ≡ 0 → p.busy ≡ 0
       → (q.batches ≡ p.batches) × (length q.pieces ≡ length p.pieces) × (q.untried ≡ 0) × (q.busy ≡ 0)
@@ -223,7 +219,7 @@ module _ {N Of E : Type 0} (of : N → Of) (alternatives : N → List (Owed E)) 
       let n = nothing_new alternatives p q s.shape t.shape later untried busy (get_below p.batches 0 root.0 root.1) in
       let long = n.0 in
       let pieces = n.1 in
-      let more : later.more ≡ [] = empty later.more (let l = length-append p.batches later.more in
+      let more : later.more ≡ [] = nil_from_length later.more (let l = length-append p.batches later.more in
       let m : length q.batches ≡ length (p.batches ++ later.more) = ap length later.batches in omega arith) in
       let same : q.batches ≡ p.batches = later.batches ∙ (ap (λ l. p.batches ++ l) more ∙ append-nil p.batches) in
       let totals : sum_by length (owes_of alternatives q) ≡ sum_by length (owes_of alternatives p) = ap (λ bs. sum_by length (map alternatives bs)) same in

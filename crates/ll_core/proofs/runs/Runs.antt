@@ -35,7 +35,7 @@ module _ {N Of E : Type 0} (of : N → Of) (alternatives : N → List (Owed E)) 
   places_changed f same zero (x ∷ pieces) = ap (λ a. a ∷ map place pieces) (same x)
   places_changed f same (suc i) (x ∷ pieces) = ap (λ l. place x ∷ l) (places_changed f same i pieces)
 
-  abbrev Places : PoolData N E → List Alternative
+  abbrev Places : (p : PoolData N E) → List Alternative
   Places p = map place p.pieces
 
   module _ (p q : PoolData N E) where

@@ -88,13 +88,13 @@ infers old new g rest c f e o gives =
         subst (λ (p : ProblemTree). IsConsistent (setting_of p) (state_of new)) (sym o.problem)
         (steps_consistent (length old.problem.names) (setting old) (state_of old) (state_of new) c f.valid.modules f.consistent gives)
 
-    levels : length new.levels ≡ length old.levels
+    levels : length old.levels ≡ length new.levels
     levels =
-        sym (term_count new consistent)
-        ∙ (ap (λ (ats : List At). length ats) o.terms ∙ length_variables old.bank old.terms (length old.levels) f.variables)
+        sym (ap (λ (ats : List At). length ats) o.terms ∙ length_variables old.bank old.terms (length old.levels) f.variables)
+        ∙ term_count new consistent
 
     may : allowed old ≡ allowed new
-    may = λ i. record { modules = (setting_of (sym o.problem i)).modules; variables = sym levels i; eigens = sym o.eigens i; opens = true }
+    may = λ i. record { modules = (setting_of (sym o.problem i)).modules; variables = levels i; eigens = sym o.eigens i; opens = true }
 
     clauses : All (λ e. HasForm new.bank e.clause.0) old.resources.entries
     clauses =
@@ -127,13 +127,13 @@ infers old new g rest c f e o gives =
       rests = subst (λ (p : ProblemTree). RestsOn p.clauses (state_of new)) (sym o.problem)
           (step_rests (length old.problem.names) old.problem.modules old.problem.clauses f.valid.clauses (setting old) (state_of old) (state_of new) c gives
           f.rests);
-      count = o.count ∙ sym levels;
+      count = o.count ∙ levels;
       bound = o.inside;
       ordered = o.ordered;
       terms = subst (AllInTerms new.bank) (sym o.terms) (AllInTerms-extends o.bank old.terms f.terms);
       variables =
           ap (term_trees new.bank) o.terms
-          ∙ (term_trees-extends o.bank old.terms f.terms ∙ (f.variables ∙ ap (vars_from 0) (sym levels)));
+          ∙ (term_trees-extends o.bank old.terms f.terms ∙ (f.variables ∙ ap (vars_from 0) levels));
       clauses = subst (λ (r : Resources FormAt). All (λ e. HasForm new.bank e.clause.0) r.entries) (sym o.resources) clauses;
       sorted_clauses =
           subst (λ (r : Resources FormAt). All (λ e. IsFormula (allowed new) ClauseSide [] (form_tree new.bank e.clause.0)) r.entries) (sym o.resources)

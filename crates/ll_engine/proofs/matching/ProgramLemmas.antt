@@ -4,6 +4,7 @@ use Rattle.std.proofs.Common.{append_assoc, drop}
 use Rattle.std.specs.Prelude.{if◌then◌else◌, slice_get, Some, option_map, flat_map}
 use Rattle.std.proofs.lemmas.List.{length-map, length-drop}
 use Rattle.std.proofs.lemmas.Option.{slice_get-map, slice_get_within}
+use Rattle.ll_list_laws.proofs.CallerLemmas.{slice_get-drop}
 use Rattle.ll_bank.specs.declared.FormAt.{FormAt}
 use Rattle.ll_bank.specs.Term.{Term}
 use Rattle.ll_bank.specs.Form.{Form}
@@ -56,11 +57,6 @@ module _ (es : List (Entry Form)) (goal found : List Candidate) (l : Leaf) (ls r
 
 -- ---- the entry of a leaf
 
-get-drop : {A : Type 0} (n k : ℕ) (xs : List A) → slice_get (drop n xs) k ≡ slice_get xs (n + k)
-get-drop zero k xs = let e : k ≡ 0 + k = omega arith in ap (slice_get xs) e
-get-drop (suc n) k [] = refl
-get-drop (suc n) k (x ∷ xs) = let e : suc (n + k) ≡ suc n + k = omega arith in get-drop n k xs ∙ ap (slice_get (x ∷ xs)) e
-
 module _ (m : Parts) (loaded : ℕ) (of : AreOfProgram 0 m.problem.clauses (drop loaded (shown_context m))) where
   -- it is there
   pub leaf_entry : (x : Index) (l : Leaf) → IsIndexOf m.problem x → IsLeafOf x l → loaded + l.candidate.label < length m.resources.entries
@@ -77,6 +73,6 @@ module _ (m : Parts) (loaded : ℕ) (of : AreOfProgram 0 m.problem.clauses (drop
       → is_open_at (drop loaded (shown_context m)) label ≡ is_open e
   leaf_open label e h =
       let here : slice_get (drop loaded (shown_context m)) label ≡ Some (shown_entry m.bank m.bound e) =
-      get-drop loaded label (shown_context m) ∙ (slice_get-map (shown_entry m.bank m.bound) m.resources.entries (loaded + label)
+      slice_get-drop loaded label (shown_context m) ∙ (slice_get-map (shown_entry m.bank m.bound) m.resources.entries (loaded + label)
       ∙ ap (option_map (shown_entry m.bank m.bound)) h) in
       ap is_open_entry (program_entry 0 m.problem.clauses (drop loaded (shown_context m)) label label (shown_entry m.bank m.bound e) of (omega arith) here)

@@ -20,6 +20,7 @@ use Rattle.ll_laws.specs.Attempt.{tries, agenda_tries, attempt, attempt_agenda, 
 use Rattle.ll_laws.specs.Attempt.{take_value, stepped, entry_at, vars_from}
 use Rattle.ll_laws.specs.Number.{value_of, holds}
 use Rattle.ll_laws.specs.Search.{forks, forks_settled, forks_after, count_fork, gives_some, later, same_candidate, candidate_of}
+use Rattle.ll_laws.proofs.CallerLemmas.{settle_steps}
 use Rattle.ll_engine.specs.Owed.{Thins, thin_keep, thin_skip}
 use Rattle.ll_engine.specs.Healthy.{Distinct, Path, here, next}
 
@@ -67,14 +68,6 @@ cut beside t c cs (d ∷ ds) (thin_skip e h) =
     let k = cut beside t c cs ds h in record { mid = d ∷ k.mid; post = k.post; cut = ap (λ x. d ∷ x) k.cut; thins = k.thins }
 
 -- settling takes no step, and an inference takes the step of its candidate
-
-settle_steps_of : (s : State) (o : Option (Front Form Form)) (t : State) → front_of s o ≡ Some t → t.steps ≡ s.steps
-settle_steps_of s None t e = cc
-settle_steps_of s (Some f) t e = let e1 : with_front s f ≡ t = cc in sym (ap (λ x. x.steps) e1)
-
-pub settle_steps : (s t : State) → settle s ≡ Some t → t.steps ≡ s.steps
-unfolding settle
-settle_steps s t e = settle_steps_of s (settle_front s.agenda s.context s.flag) t e
 
 pub record Stepped (t u : State) (c : Candidate) : Type 0 where
   pub step : Step

@@ -12,7 +12,7 @@ use Rattle.ll_laws.specs.State.{State, settle}
 use Rattle.ll_laws.specs.Attempt.{tries, attempt, successors}
 use Rattle.ll_laws.specs.Search.{answer_of, events, cost, forks, same_candidate, gives_some, count_fork}
 use Rattle.ll_laws.specs.Problem.{ProblemTree, setting_of}
-use Rattle.ll_laws.proofs.CallerLemmas.{events_none, events_answer, events_reached, events_step, cost_none, cost_answer, cost_zero, cost_step}
+use Rattle.ll_laws.proofs.CallerLemmas.{events_none, events_answer, events_reached, events_step, cost_none, cost_answer, cost_zero, cost_step, settle_steps}
 use Rattle.ll_engine.specs.Seen.{Point, Choices}
 use Rattle.ll_laws.specs.Tried.{events_from, number_from, tried_events, tried_cost}
 use Rattle.ll_engine.specs.Owed.{owed, cost_left, one_if_some, open_points, work_by, work, work_left, Thins, put_point, if_running}
@@ -20,7 +20,7 @@ use Rattle.ll_engine.specs.Healthy.{Distinct, Path, next, IsPoint, ArePoints, Is
 use Rattle.ll_engine.specs.Turned.{is_empty, answers, Settles, Gave, Chose, Expands, RetriesAt, Retries, ForksKept, Turned}
 use Rattle.ll_engine.proofs.turns.Owing.{tried_events_flat, tried_cost_flat, tried_events_thins, tried_cost_thins, work_by_thins, gives_thins, owed_put}
 use Rattle.ll_engine.proofs.turns.Owing.{cost_put, work_put, open_put}
-use Rattle.ll_engine.proofs.turns.Forks.{not_before, cut, forks_of, settle_steps}
+use Rattle.ll_engine.proofs.turns.Forks.{not_before, cut, forks_of}
 
 -- what a state owes whose goal is taken apart
 

@@ -5,10 +5,15 @@ use Rattle.std.proofs.lemmas.Bool.{ltb-true, ltb-false}
 use Rattle.std.proofs.lemmas.List.Sums.{sum_by-append}
 use Rattle.ll_list_laws.proofs.CallerLemmas.{slice_get-append_left as get_left, slice_get-append_right as get_right}
 use Rattle.ll_list_laws.proofs.CallerLemmas.{slice_get-map_suc as get_suc, length-map_suc}
+use Rattle.ll_bank.specs.declared.At.{At}
 use Rattle.ll_bank.specs.declared.FormAt.{FormAt}
+use Rattle.ll_bank.specs.declared.FormNode.{FormNode}
+use Rattle.ll_bank.specs.declared.FormNode.TheVariants.{Top as TopView, One as OneView, Atom as AtomView, With as WithView, Tensor as TensorView}
+use Rattle.ll_bank.specs.declared.FormNode.TheVariants.{Plus as PlusView, Bang as BangView, Lolli as LolliView, Imp as ImpView, Forall as ForallView}
+use Rattle.ll_bank.specs.declared.FormNode.TheVariants.{Exists as ExistsView, Use as UseView, Is as IsView, Less as LessView, Most as MostView}
 use Rattle.ll_bank.specs.Term.{Term, Env}
 use Rattle.ll_bank.specs.Form.{Form, Atom, With, Lolli, Imp, Forall}
-use Rattle.ll_bank.specs.Nodes.{Nodes, form_tree}
+use Rattle.ll_bank.specs.Nodes.{Nodes, form_of, form_tree}
 use Rattle.ll_laws.specs.Leaf.{Premise, Leaf, add_premise, leaf_from, ways}
 
 pub record Under (p : Premise) (o : Option Leaf) (l : Leaf) : Type 0 where
@@ -47,7 +52,8 @@ leaf_ways e _ k us l h = cc
 abbrev pub waiting_ways : Nodes → List FormAt → ℕ
 waiting_ways bank fs = sum_by (λ (f : FormAt). length (ways (form_tree bank f.0))) fs
 
-ways-push : (bank : Nodes) (fs : List FormAt) (f : FormAt) → waiting_ways bank (fs ++ f ∷ []) ≡ waiting_ways bank fs + length (ways (form_tree bank f.0))
+-- one more clause
+pub ways-push : (bank : Nodes) (fs : List FormAt) (f : FormAt) → waiting_ways bank (fs ++ f ∷ []) ≡ waiting_ways bank fs + length (ways (form_tree bank f.0))
 ways-push bank fs f = let e = sum_by-append (λ (g : FormAt). length (ways (form_tree bank g.0))) fs (f ∷ []) in omega (arith, e)
 
 -- a clause in place of another with as many leaves
@@ -69,3 +75,23 @@ count_both bank old rest mid new f g r n goal o m w both h =
 
 pub ways_quantified : (r : Form) → length (ways (Forall r)) ≡ length (ways r)
 ways_quantified r = length-map_suc (ways r)
+
+-- what is no clause has no leaves
+pub other_ways : (forms : Nodes) (view : FormNode) → ((a : At) → view ≡ AtomView a → ⊥) → ((f g : FormAt) → view ≡ WithView f g → ⊥)
+    → ((f g : FormAt) → view ≡ LolliView f g → ⊥) → ((f g : FormAt) → view ≡ ImpView f g → ⊥) → ((f : FormAt) → view ≡ ForallView f → ⊥)
+    → length (ways (form_of forms view)) ≡ 0
+other_ways forms (AtomView a) none _ _ _ _ = absurd (none a refl)
+other_ways forms (WithView f g) _ none _ _ _ = absurd (none f g refl)
+other_ways forms (LolliView f g) _ _ none _ _ = absurd (none f g refl)
+other_ways forms (ImpView f g) _ _ _ none _ = absurd (none f g refl)
+other_ways forms (ForallView f) _ _ _ _ none = absurd (none f refl)
+other_ways forms TopView _ _ _ _ _ = refl
+other_ways forms OneView _ _ _ _ _ = refl
+other_ways forms (TensorView f g) _ _ _ _ _ = refl
+other_ways forms (PlusView f g) _ _ _ _ _ = refl
+other_ways forms (BangView f) _ _ _ _ _ = refl
+other_ways forms (ExistsView f) _ _ _ _ _ = refl
+other_ways forms (UseView m args f) _ _ _ _ _ = refl
+other_ways forms (IsView t u) _ _ _ _ _ = refl
+other_ways forms (LessView t u) _ _ _ _ _ = refl
+other_ways forms (MostView t u) _ _ _ _ _ = refl

@@ -1,5 +1,5 @@
 -- Settling looks at no goal and no clause, and is done once.
-use Rattle.std.proofs.Common.{◌≡◌, ℕ, refl, ap, subst, ◌∙◌, Bool, true, false, List, [], ◌∷◌, map}
+use Rattle.std.proofs.Common.{◌≡◌, ℕ, refl, ap, subst, ◌∙◌, Bool, true, false, List, [], ◌∷◌, map, sym}
 use Rattle.std.specs.Prelude.{◌&&◌, ◌||◌, not, if◌then◌else◌, Option, Some, None, option_map}
 use Rattle.ll_bank.specs.Term.{Term}
 use Rattle.ll_bank.specs.Form.{Form, sub_form}
@@ -108,3 +108,12 @@ settle_twice s t h = step (settle_front s.agenda s.context s.flag) refl h
     step (Some x) q h =
         let e : with_front s x ≡ t = cc in let k = front_settled s.agenda s.context s.flag x q in
         subst (λ u. front_of u (settle_front u.agenda u.context u.flag) ≡ Some u) e (ap (front_of (with_front s x)) k)
+
+-- settling takes no step
+pub settle_steps : (s t : State) → settle s ≡ Some t → t.steps ≡ s.steps
+unfolding settle
+settle_steps s t e = step (settle_front s.agenda s.context s.flag) e
+  where
+    step : (o : Option (Front Form Form)) → front_of s o ≡ Some t → t.steps ≡ s.steps
+    step None h = cc
+    step (Some f) h = let same : with_front s f ≡ t = cc in ap (λ x. x.steps) (sym same)

@@ -19,7 +19,7 @@ use Rattle.ll_parser.proofs.machines.Decides.{Decides}
 use Rattle.ll_parser.proofs.verdicts.Verdict.{taken-none, is-bad, is-too-many, taken-next, reads-all, is-early}
 
 -- the place of a token is the lexer's
-place-by : (k : TokenKind) (bytes : List ℕ) (at : Place) → tok_place (tok_by k bytes at) ≡ at
+pub place-by : (k : TokenKind) (bytes : List ℕ) (at : Place) → tok_place (tok_by k bytes at) ≡ at
 place-by kind.Name bytes at = refl
 place-by kind.Variable bytes at = refl
 place-by kind.Any bytes at = refl

@@ -31,7 +31,8 @@ fits z h = by_test (int_eq (int_wrap w64 z) z) refl
 short : (w : List ℕ) → (255 < length w → ⊥) → length w ≤ 255
 short w h = elim (cases_lt 255 (length w)) [ inl g ↦ absurd (h g) | inr g ↦ g ]
 
-kind-spelled : (k : TokenKind) (w : List ℕ) (at : Place) → Spells k w → IsSound k w → IsSpelled (tok_by k w at)
+-- a token of the lexer without a flaw can stand in a text
+pub kind-spelled : (k : TokenKind) (w : List ℕ) (at : Place) → Spells k w → IsSound k w → IsSpelled (tok_by k w at)
 kind-spelled kind.Name w at s f = (s, short w (λ g. f 3 (long_name g)))
 kind-spelled kind.Variable w at s f = (s, short w (λ g. f 3 (long_variable g)))
 kind-spelled kind.Number w at s f = fits (number_value w) (λ g. f 2 (past_64_bits g))

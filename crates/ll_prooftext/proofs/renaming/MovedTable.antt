@@ -6,6 +6,7 @@ use Rattle.std.specs.Str.{bytes_eq}
 use Rattle.std.proofs.lemmas.List.{map-append}
 use Rattle.std.proofs.lemmas.List.Concat.{flat_map-cons}
 use Rattle.std.proofs.lemmas.Bool.Decides.{nat_tests}
+use Rattle.ll_list_laws.proofs.CallerLemmas.{eq-moved}
 use Rattle.ll_bank.specs.declared.Head.{Head}
 use Rattle.ll_bank.specs.declared.Head.TheVariants.{Name, Eigen, Bound}
 use Rattle.ll_bank.specs.Term.{Term, Var, Int, Con, Ap, head_eq}
@@ -30,20 +31,8 @@ module _ (names others : List (List ℕ)) (r : Numbers) (distinct : IsDistinct b
   -- ---- terms are told apart as before
 
   name-apart : (m n : ℕ) → IsKeptName names others r m → IsKeptName names others r n → nat_eq (r m) (r n) ≡ nat_eq m n
-  name-apart m n p q = step (nat_eq m n) refl (nat_eq (r m) (r n)) refl
-    where
-      step : (b : Bool) → nat_eq m n ≡ b → (c : Bool) → nat_eq (r m) (r n) ≡ c → c ≡ b
-      step true e true f = refl
-      step false e false f = refl
-      step true e false f =
-          let same : m ≡ n = grind (arith, nat_tests, e) in
-          let w : r m ≡ r n = ap r same in
-          absurd (let y : ⊥ = grind (arith, nat_tests, f, w) in y)
-      step false e true f =
-          let w : r m ≡ r n = grind (arith, nat_tests, f) in
-          let t : name_text names m ≡ name_text names n = sym p.same ∙ (ap (name_text others) w ∙ q.same) in
-          let same : m ≡ n = same_name names distinct m n p.full t in
-          absurd (let y : ⊥ = grind (arith, nat_tests, e, same) in y)
+  name-apart m n p q =
+      eq-moved r m n (λ w. same_name names distinct m n p.full (sym p.same ∙ (ap (name_text others) w ∙ q.same)))
 
   head-apart : (h k : Head) → IsKeptHead names others r h → IsKeptHead names others r k → head_eq (moved_head r h) (moved_head r k) ≡ head_eq h k
   head-apart (Name m) (Name n) p q = name-apart m n p q

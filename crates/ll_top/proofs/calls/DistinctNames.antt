@@ -6,6 +6,7 @@ use Rattle.std.proofs.lemmas.Bool.{false_from_ne_true}
 use Rattle.std.proofs.lemmas.Slice.Eq.{bytes_eq-Decides}
 use Rattle.ll_bank.specs.Form.{Relation, Is, Less, Most}
 use Rattle.ll_bank.specs.Names.{with_name, with_names}
+use Rattle.ll_bank.proofs.CallerLemmas.{differ_flipped}
 use Rattle.ll_parser.specs.Raw.{Raw, truth, erasure, braces, universal, existential, load, binary, is_goal, less_goal, most_goal, head, anything, int, RawList}
 use Rattle.ll_parser.specs.Raw.{none, more, ProgramTree}
 use Rattle.ll_parser.specs.Raw as raw
@@ -18,10 +19,6 @@ abbrev pub Differ : List (List ℕ) → Type 0
 Differ names = IsDistinct bytes_eq names
 
 -- ---- names
-
--- a text that is not among others is not equal to one of them, nor one of them to it
-apart-from : (w t : List ℕ) → bytes_eq w t ≡ false → bytes_eq t w ≡ false
-apart-from w t h = false_from_ne_true (bytes_eq t w) (λ e. let same = (bytes_eq-Decides w t).1 (sym ((bytes_eq-Decides t w).0 e)) in cc)
 
 any-head : (w t : List ℕ) (ts : List (List ℕ)) → list_any (bytes_eq w) (t ∷ ts) ≡ false → (bytes_eq w t ≡ false) × (list_any (bytes_eq w) ts ≡ false)
 any-head w t ts h = by (bytes_eq w t) h
@@ -39,7 +36,7 @@ differ-push : (w : List ℕ) (names : List (List ℕ)) → list_any (bytes_eq w)
 unfolding IsDistinct
 differ-push w [] h d = (tt, tt)
 differ-push w (t ∷ ts) h d =
-    let n = any-head w t ts h in (all-push t w ts (apart-from w t n.0) d.0, differ-push w ts n.1 d.1)
+    let n = any-head w t ts h in (all-push t w ts (differ_flipped w t n.0) d.0, differ-push w ts n.1 d.1)
 
 differ-name : (names : List (List ℕ)) (w : List ℕ) → Differ names → Differ (with_name names w)
 differ-name names w d = by (list_any (bytes_eq w) names) refl

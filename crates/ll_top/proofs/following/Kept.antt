@@ -4,6 +4,7 @@ use Rattle.std.specs.Prelude.{Option, Some, None, if◌then◌else◌, nat_le, f
 use Rattle.std.proofs.lemmas.Bool.{le-leb, lt-leb}
 use Rattle.std.proofs.lemmas.List.Concat.{flat_map-cons}
 use Rattle.std.proofs.lemmas.List.Elements.{filter-append}
+use Rattle.ll_cover.proofs.CallerLemmas.{answers-append}
 use Rattle.ll_bank.specs.Form.{Form}
 use Rattle.ll_laws.specs.declared.Event.{Event}
 use Rattle.ll_laws.specs.declared.Event.TheVariants.{Reached, Answer}
@@ -17,13 +18,8 @@ use Rattle.ll_laws.specs.State.{State, settle}
 use Rattle.ll_laws.specs.Attempt.{successors}
 use Rattle.ll_laws.specs.Search.{events, events_settled, events_of, answer_of}
 use Rattle.ll_top.specs.textbook.Kept.{short_answers, AnswersAreKept, DerivationsAreKept}
-use Rattle.ll_laws.proofs.CallerLemmas.{Among}
-use Rattle.ll_top.proofs.following.Steps.{settle_steps, successor_steps}
-
-answers-append : (es fs : List Event) → answers_in (es ++ fs) ≡ answers_in es ++ answers_in fs
-answers-append [] fs = refl
-answers-append (Reached ∷ es) fs = answers-append es fs
-answers-append (Answer a ∷ es) fs = ap (λ as'. a ∷ as') (answers-append es fs)
+use Rattle.ll_laws.proofs.CallerLemmas.{Among, settle_steps}
+use Rattle.ll_top.proofs.following.Steps.{successor_steps}
 
 abbrev is_short : ℕ → Answered → Bool
 is_short b a = nat_le (length a.steps) b

@@ -16,7 +16,7 @@ use Rattle.ll_laws.specs.State.{State, settle, front_of, with_front}
 use Rattle.ll_laws.specs.Attempt.{attempt, attempt_agenda, attempt_goal, stepped, take_side, load_module, take_value, instantiated, successors, tries}
 use Rattle.ll_laws.specs.Attempt.{option_to_states}
 use Rattle.ll_laws.specs.Search.{events, events_settled, events_of, answer_of}
-use Rattle.ll_laws.proofs.CallerLemmas.{Among, from, taken_from}
+use Rattle.ll_laws.proofs.CallerLemmas.{Among, from, taken_from, settle_steps}
 
 -- one step more
 abbrev OneMore : State → State → Type 0
@@ -84,14 +84,6 @@ successor_steps m s u h =
     step None h = absurd h
     step (Some t) (inl q) = ap Some q
     step (Some t) (inr h) = absurd h
-
-pub settle_steps : (s t : State) → settle s ≡ Some t → t.steps ≡ s.steps
-unfolding settle
-settle_steps s t h = step (settle_front s.agenda s.context s.flag) h
-  where
-    step : (o : Option (Front Form Form)) → front_of s o ≡ Some t → t.steps ≡ s.steps
-    step None h = cc
-    step (Some x) h = let e : with_front s x ≡ t = cc in ap (λ z. z.steps) (sym e)
 
 answer_steps : (t : State) (a : Answered) → Among (Answer a) (answer_of t) → a.steps ≡ t.steps
 answer_steps t a h = step (not (has_live t.context) || t.flag) h

@@ -16,7 +16,7 @@ use Rattle.std.specs.Str.{bytes_eq}
 use Rattle.ll_bank.specs.Names.{with_names}
 use Rattle.ll_prooftext.specs.Mentions.{text_names}
 use Rattle.ll_lexer.specs.declared.Fault.{Fault}
-use Rattle.ll_lexer.specs.Reading.{LexedText, IsLexed, HasFault}
+use Rattle.ll_lexer.specs.Reading.{LexedText, IsLexed, HasFault, IsLexedOnce, HasFaultOnce, IsLexedOrFaulty}
 use Rattle.ll_parser.specs.Tokens.{Tok, toks_of}
 use Rattle.ll_parser.specs.Raw.{Raw, ProgramTree}
 use Rattle.ll_parser.specs.Text.{programs, queries}
@@ -61,9 +61,9 @@ use Rattle.ll_top.proofs.outcomes.OneText.{some-same}
 -- what is known of the reading of texts: each has one list of tokens or one fault; these have one tree or one fault by the grammar; and the
 -- text of a derivation is of one derivation or has one fault
 pub record Laws : Type 0 where
-  pub same : (a b : LexedText) → a.text ≡ b.text → IsLexed a → IsLexed b → a ≡ b
-  pub one : (text : List ℕ) (f g : Fault) → HasFault text f → HasFault text g → f ≡ g
-  pub not_both : (a : LexedText) (f : Fault) → IsLexed a → HasFault a.text f → ⊥
+  pub same : IsLexedOnce
+  pub one : HasFaultOnce
+  pub not_both : IsLexedOrFaulty
   pub one_grammar : (role : Role) (l : LexedText) (f g : Fault) → HasGrammarFault role l f → HasGrammarFault role l g → f ≡ g
   pub no_grammar : (role : Role) (l : LexedText) (f : Fault) → IsOfGrammar role l → HasGrammarFault role l f → ⊥
   pub one_tree : (limit : ℕ) (ts : List Tok) (p q : ProgramTree) → Reads programs limit ts p → Reads programs limit ts q → p ≡ q

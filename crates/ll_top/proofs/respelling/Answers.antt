@@ -14,8 +14,8 @@ use Rattle.ll_laws.specs.Attempt.{attempt, attempt_agenda, successors, tries, op
 use Rattle.ll_laws.specs.Search.{events, events_settled, events_of, answer_of}
 use Rattle.ll_laws.specs.Valid.{AreModules}
 use Rattle.ll_laws.specs.Consistent.{IsConsistent, AreGoals, allowed_in, is_made}
-use Rattle.ll_laws.proofs.CallerLemmas.{settles_consistent, steps_consistent, Among, from}
-use Rattle.ll_top.proofs.following.Steps.{settle_steps, attempt_steps}
+use Rattle.ll_laws.proofs.CallerLemmas.{settles_consistent, steps_consistent, Among, from, settle_steps}
+use Rattle.ll_top.proofs.following.Steps.{attempt_steps}
 use Rattle.ll_top.specs.spelled.Taking.{TakesAt, TermsTake}
 use Rattle.ll_top.proofs.respelling.States.{StepsFit, steps-more, GoalsTake, ModulesTake, StateTakes, settles-take, goal-takes}
 

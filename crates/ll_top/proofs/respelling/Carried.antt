@@ -169,19 +169,19 @@ text-on names more text d h =
 -- ---- reading
 
 -- names with others behind them
-pub record More (old new : List (List ℕ)) : Type 0 where
+pub record NamesBehind (old new : List (List ℕ)) : Type 0 where
   pub more : List (List ℕ)
   pub is : new ≡ old ++ more
 
-one-name : (names : List (List ℕ)) (w : List ℕ) → More names (with_name names w)
+one-name : (names : List (List ℕ)) (w : List ℕ) → NamesBehind names (with_name names w)
 one-name names w = step (list_any (bytes_eq w) names)
   where
-    step : (b : Bool) → More names (if b then names else names ++ w ∷ [])
+    step : (b : Bool) → NamesBehind names (if b then names else names ++ w ∷ [])
     step true = record { more = []; is = sym (append-nil names) }
     step false = record { more = w ∷ []; is = refl }
 
 -- names are added behind those that there are
-pub all-names : (names ws : List (List ℕ)) → More names (with_names names ws)
+pub all-names : (names ws : List (List ℕ)) → NamesBehind names (with_names names ws)
 all-names names [] = record { more = []; is = sym (append-nil names) }
 all-names names (w ∷ ws) =
     let a = one-name names w in let b = all-names (with_name names w) ws in

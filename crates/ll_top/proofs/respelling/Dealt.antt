@@ -4,7 +4,7 @@ use Rattle.std.proofs.lemmas.Bool.{ltb-true, lt-ltb, and_from as and_intro}
 use Rattle.std.proofs.lemmas.List.Elements.{All-nil, All-cons}
 use Rattle.std.specs.Prelude.{Option, Some, None, take, All, ◌&&◌, if◌then◌else◌}
 use Rattle.std.specs.List.{list_all}
-use Rattle.ll_list_laws.proofs.CallerLemmas.{and_true_left as and_left, and_true_right as and_right}
+use Rattle.ll_list_laws.proofs.CallerLemmas.{and_true_left as and_left, and_true_right as and_right, length-take_most}
 use Rattle.ll_bank.specs.Term.{Term, Var, Int, Con, Ap, is_closed, eigens_below}
 use Rattle.ll_laws.specs.declared.Kind.{Kind}
 use Rattle.ll_laws.specs.declared.Kind.TheVariants.{Linear}
@@ -58,12 +58,6 @@ terms-front names zero (t ∷ ts) h = tt
 terms-front names (suc n) [] h = tt
 terms-front names (suc n) (t ∷ ts) h = (h.0, terms-front names n ts h.1)
 
-front-count : (n : ℕ) (ts : List Term) → length (take n ts) ≤ length ts
-front-count zero [] = omega arith
-front-count zero (t ∷ ts) = omega arith
-front-count (suc n) [] = omega arith
-front-count (suc n) (t ∷ ts) = omega (arith, front-count n ts)
-
 all-lines : (names : List (List ℕ)) (ns : List Line) → LinesSpelled names ns → All (IsSpelledLine names) ns
 all-lines names [] h = All-nil (IsSpelledLine names)
 all-lines names (n ∷ ns) h = All-cons (IsSpelledLine names) n ns h.0 (all-lines names ns h.1)
@@ -107,7 +101,7 @@ answers-spelled program query bound p a d wp wq le asks is_among is =
     (record {
       label = omega (arith, r.short, v.bound, v.clause_count);
       eigens = omega (arith, r.short, v.bound);
-      terms = omega (arith, r.short, v.bound, front-count (length p.asked) a.terms);
+      terms = omega (arith, r.short, v.bound, length-take_most (length p.asked) a.terms);
       within = omega (arith, r.short, v.bound);
     }) in
     let same : shown.0 ≡ d = cc (shown.1, is) in

@@ -1,12 +1,9 @@
 use Rattle.std.proofs.Common.{◌≡◌, List, [], ◌∷◌, length, refl, sym, subst, ap, ◌∙◌, arith}
+use Rattle.std.proofs.lemmas.List.{nil_from_length}
 use Rattle.ll_bank.specs.declared.BankSize.{BankSize}
 use Rattle.ll_bank.specs.Nodes.{Nodes, HasSize, no_nodes, front, size_of}
 use Rattle.ll_bank.proofs.CallerLemmas.{HasSize-front}
 use Rattle.ll_engine.proofs.answer.clear.Goals as goal
-
-no_items : {A : Type 0} (xs : List A) → length xs ≡ 0 → xs ≡ []
-no_items [] e = refl
-no_items (x ∷ xs) e = absurd (omega (arith, e))
 
 pub cut-requires : goal.cut-requires
 cut-requires c =
@@ -19,6 +16,6 @@ pub returns : goal.returns
 returns c =
     let b = c.cut.new.self in let e = c.cut.ensures.places ∙ (c.size.ensures.is ∙ ap size_of c.new-nothing.ensures) in
     λ i. record {
-      terms = no_items b.terms (ap (λ (s : BankSize). s.terms) e) i;
-      forms = no_items b.forms (ap (λ (s : BankSize). s.forms) e) i;
+      terms = nil_from_length b.terms (ap (λ (s : BankSize). s.terms) e) i;
+      forms = nil_from_length b.forms (ap (λ (s : BankSize). s.forms) e) i;
     }

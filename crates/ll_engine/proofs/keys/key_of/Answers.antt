@@ -1,27 +1,24 @@
-use Rattle.std.proofs.Common.{ℕ, ◌<◌, length, ap, sym, ◌∙◌, arith}
+use Rattle.std.proofs.Common.{ℕ, ◌<◌, length, ap, sym, ◌∙◌, arith, lt_trans}
 use Rattle.ll_bank.specs.Form.{Form}
 use Rattle.ll_freeze.specs.Keyed.{clause_key}
 use Rattle.ll_engine.proofs.matching.KeyedLemmas.{no_key}
 use Rattle.ll_engine.proofs.keys.key_of.Goals as goal
 
-below : (a b n : ℕ) → a < b → b < n → a < n
-below a b n h k = omega arith
-
 pub parts-preserved-in-Lolli : goal.parts-preserved-in-Lolli
 parts-preserved-in-Lolli c = let h = c.in-Lolli.ensures.shown in let i = c.parts.invariant in record {
-  inside = below c.in-Lolli.rest.0 c.parts.form.0 (length c.args.bank.now.forms) h.parts.1 i.inside;
+  inside = lt_trans h.parts.1 i.inside;
   key = sym (ap (λ (t : Form). clause_key t) h.tree) ∙ i.key;
 }
 
 pub parts-preserved-in-Imp : goal.parts-preserved-in-Imp
 parts-preserved-in-Imp c = let h = c.in-Imp.ensures.shown in let i = c.parts.invariant in record {
-  inside = below c.in-Imp.rest.0 c.parts.form.0 (length c.args.bank.now.forms) h.parts.1 i.inside;
+  inside = lt_trans h.parts.1 i.inside;
   key = sym (ap (λ (t : Form). clause_key t) h.tree) ∙ i.key;
 }
 
 pub parts-preserved : goal.parts-preserved
 parts-preserved c = let h = c.in-Forall.ensures.shown in let i = c.parts.invariant in record {
-  inside = below c.in-Forall.rest.0 c.parts.form.0 (length c.args.bank.now.forms) h.parts i.inside;
+  inside = lt_trans h.parts i.inside;
   key = sym (ap (λ (t : Form). clause_key t) h.tree) ∙ i.key;
 }
 

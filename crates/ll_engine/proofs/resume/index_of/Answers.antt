@@ -3,9 +3,3 @@ use Rattle.ll_engine.proofs.resume.index_of.Goals as goal
 
 pub returns-in_err-index : goal.returns-in_err-index
 returns-in_err-index c = IfOk-from_err c.from_residual.result _ c.from_residual.ensures.0
-
-pub returns-in_err-index-2 : goal.returns-in_err-index-2
-returns-in_err-index-2 c = IfOk-from_err c.from_residual-in_err-index-2.result _ c.from_residual-in_err-index-2.ensures.0
-
-pub returns-in_err-new : goal.returns-in_err-new
-returns-in_err-new c = IfOk-from_err c.from_residual-in_err-new.result _ c.from_residual-in_err-new.ensures.0

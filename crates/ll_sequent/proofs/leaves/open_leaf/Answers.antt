@@ -1,4 +1,4 @@
-use Rattle.std.proofs.Common.{◌≡◌, ◌∙◌, ap, sym, subst, true, take, length}
+use Rattle.std.proofs.Common.{◌≡◌, ◌∙◌, ap, sym, subst, true, take, length, lt_trans}
 use Rattle.std.proofs.lemmas.Result.{IfOk-from_err}
 use Rattle.ll_bank.specs.Term.{Env, close, applies_heads}
 use Rattle.ll_bank.specs.Form.{close_form, form_applies_heads}
@@ -7,7 +7,7 @@ use Rattle.ll_bank.proofs.CallerLemmas.{AllInTerms-extends, Extends-trans}
 use Rattle.ll_laws.specs.Leaf.{ways}
 use Rattle.ll_bank.specs.Closing.{env_of}
 use Rattle.ll_sequent.proofs.WayLemmas.{way_start, way_side, way_lolli, way_imp, way_forall, way_short, way_end, way_past_atom, way_more_terms, way_other}
-use Rattle.ll_sequent.proofs.WayLemmas.{lolli_heads, imp_heads, atom_heads, env_passed, values_passed, side_low, part_low, passed_all, passed_not_all}
+use Rattle.ll_sequent.proofs.WayLemmas.{lolli_heads, imp_heads, atom_heads, env_passed, values_passed, side_low, passed_all, passed_not_all}
 use Rattle.ll_sequent.proofs.WayLemmas.{all_taken, passed_taken, passed_less}
 use Rattle.ll_sequent.proofs.leaves.open_leaf.Goals as goal
 
@@ -110,7 +110,7 @@ pub returns-in-Atom-clause-keeps : goal.returns-in-Atom-clause-keeps
 returns-in-Atom-clause-keeps c = Extends-trans c.way.invariant.keeps c.in_ok-head-in-Atom.ensures.keeps
 
 pub side_of-requires : goal.side_of-requires
-side_of-requires c = part_low c.in-With.left.0 c.way.form.0 (length c.way.bank.forms) c.in-With.ensures.shown.parts.0 c.way.invariant.inside
+side_of-requires c = lt_trans c.in-With.ensures.shown.parts.0 c.way.invariant.inside
 
 pub returns-in_err-side-in-With-clause-keeps : goal.returns-in_err-side-in-With-clause-keeps
 returns-in_err-side-in-With-clause-keeps c = c.way.invariant.keeps
@@ -129,7 +129,7 @@ pub slice_bounds-close_form-end : goal.slice_bounds-close_form-end
 slice_bounds-close_form-end c = passed_taken c.args.bank.now c.args.values.now c.way.passed c.way.invariant.within
 
 pub close_form-requires-clause-inside : goal.close_form-requires-clause-inside
-close_form-requires-clause-inside c = part_low c.in-Lolli.goal.0 c.way.form.0 (length c.way.bank.forms) c.in-Lolli.ensures.shown.parts.0 c.way.invariant.inside
+close_form-requires-clause-inside c = lt_trans c.in-Lolli.ensures.shown.parts.0 c.way.invariant.inside
 
 pub close_form-requires-clause-values : goal.close_form-requires-clause-values
 close_form-requires-clause-values c = values_passed c.way.invariant.keeps c.args.values.now c.way.passed c.requires.values
@@ -148,7 +148,7 @@ slice_bounds-close_form-end-in-Imp c = passed_taken c.args.bank.now c.args.value
 
 pub close_form-requires-in-Imp-clause-inside : goal.close_form-requires-in-Imp-clause-inside
 close_form-requires-in-Imp-clause-inside c =
-    part_low c.in-Imp.goal.0 c.way.form.0 (length c.way.bank.forms) c.in-Imp.ensures.shown.parts.0 c.way.invariant.inside
+    lt_trans c.in-Imp.ensures.shown.parts.0 c.way.invariant.inside
 
 pub close_form-requires-in-Imp-clause-values : goal.close_form-requires-in-Imp-clause-values
 close_form-requires-in-Imp-clause-values c = values_passed c.way.invariant.keeps c.args.values.now c.way.passed c.requires.values

@@ -1,4 +1,4 @@
-use Rattle.std.proofs.Common.{ℕ, ◌<◌, refl, ap, sym, subst, ◌∙◌, length, List, arith}
+use Rattle.std.proofs.Common.{ℕ, ◌<◌, refl, ap, sym, subst, ◌∙◌, length, List, arith, lt_trans}
 use Rattle.std.proofs.lemmas.Result.{IfOk-from_err}
 use Rattle.ll_list_laws.proofs.CallerLemmas.{IfOk-each}
 use Rattle.ll_bank.specs.declared.Head.TheVariants.{Eigen}
@@ -9,7 +9,6 @@ use Rattle.ll_bank.proofs.CallerLemmas.{Extends-refl, Extends-trans, HasForm-ext
 use Rattle.ll_sequent.specs.declared.sequents.Resource.{Resource}
 use Rattle.ll_sequent.specs.Constants.{stands_in, forms_of, AllInForms}
 use Rattle.ll_sequent.proofs.ForallLemmas.{forall_refused, forall_known, forall_heads, forall_steps}
-use Rattle.ll_sequent.proofs.WayLemmas.{part_low}
 use Rattle.ll_sequent.proofs.opening.forall.Goals as goal
 
 no_less : (k : ℕ) → k < 0 → ⊥
@@ -30,7 +29,7 @@ returns-then-branch-clause-is c =
 pub instantiate-requires-clause-heads : goal.instantiate-requires-clause-heads
 instantiate-requires-clause-heads c =
     let inside : HasForm c.args.bank.now c.in-Forall.body.0 =
-    part_low c.in-Forall.body.0 c.args.sequent.goal.0 (length c.args.bank.now.forms) c.in-Forall.ensures.shown.parts c.requires.goal in
+    lt_trans c.in-Forall.ensures.shown.parts c.requires.goal in
     let same = form_tree-extends c.in_ok-value-in-Forall.ensures.keeps c.in-Forall.body.0 inside in
     (λ i. form_applies_heads (instantiate (same i) (c.in_ok-value-in-Forall.ensures.shows.tree i)))
     ∙ forall_heads c.args.bank.now c.args.free.now c.args.sequent c.args.constant c.in-Forall.body c.in-Forall.ensures.shown c.requires.heads
@@ -38,7 +37,7 @@ instantiate-requires-clause-heads c =
 pub returns-in_ok-goal-in-Forall-clause-is : goal.returns-in_ok-goal-in-Forall-clause-is
 returns-in_ok-goal-in-Forall-clause-is c =
     let inside : HasForm c.args.bank.now c.in-Forall.body.0 =
-    part_low c.in-Forall.body.0 c.args.sequent.goal.0 (length c.args.bank.now.forms) c.in-Forall.ensures.shown.parts c.requires.goal in
+    lt_trans c.in-Forall.ensures.shown.parts c.requires.goal in
     let same = form_tree-extends c.in_ok-value-in-Forall.ensures.keeps c.in-Forall.body.0 inside in
     let shows : ShowsForm c.instantiate.new.self c.in_ok-goal-in-Forall.goal.0
     (instantiate (form_tree c.args.bank.now c.in-Forall.body.0) (Con (Eigen c.args.constant))) =
@@ -63,7 +62,7 @@ pub form_at-requires : goal.form_at-requires
 form_at-requires c = c.requires.goal
 
 pub stands-requires-clause-goal : goal.stands-requires-clause-goal
-stands-requires-clause-goal c = part_low c.in-Forall.body.0 c.args.sequent.goal.0 (length c.args.bank.now.forms) c.in-Forall.ensures.shown.parts c.requires.goal
+stands-requires-clause-goal c = lt_trans c.in-Forall.ensures.shown.parts c.requires.goal
 
 pub stands-requires-clause-free : goal.stands-requires-clause-free
 stands-requires-clause-free c = c.requires.free
@@ -80,7 +79,7 @@ returns-in_err-value-in-Forall-clause-keeps c = c.app.ensures.keeps
 
 pub instantiate-requires-clause-body : goal.instantiate-requires-clause-body
 instantiate-requires-clause-body c = HasForm-extends c.in_ok-value-in-Forall.ensures.keeps c.in-Forall.body.0
-    (part_low c.in-Forall.body.0 c.args.sequent.goal.0 (length c.args.bank.now.forms) c.in-Forall.ensures.shown.parts c.requires.goal)
+    (lt_trans c.in-Forall.ensures.shown.parts c.requires.goal)
 
 pub instantiate-requires-clause-value : goal.instantiate-requires-clause-value
 instantiate-requires-clause-value c = c.in_ok-value-in-Forall.ensures.shows.inside

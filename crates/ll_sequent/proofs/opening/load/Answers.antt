@@ -1,4 +1,4 @@
-use Rattle.std.proofs.Common.{ℕ, ◌<◌, length, map, refl, ap, sym, subst, ◌∙◌, arith}
+use Rattle.std.proofs.Common.{ℕ, ◌<◌, length, map, refl, ap, sym, subst, ◌∙◌, arith, lt_trans}
 use Rattle.std.proofs.lemmas.Bool.{ltb-true}
 use Rattle.std.proofs.lemmas.Result.{IfOk-from_err}
 use Rattle.ll_list_laws.proofs.CallerLemmas.{IfOk-each}
@@ -49,9 +49,6 @@ returns-in_default c = record {
   keeps = Extends-refl c.args.bank.now;
 }
 
-below : (a b n : ℕ) → a < b → b < n → a < n
-below a b n h k = omega arith
-
 pub form_at-requires : goal.form_at-requires
 form_at-requires c = c.requires.sequent.goal.inside
 
@@ -60,7 +57,7 @@ unfold-requires-clause-places c =
     subst (AllInTerms c.args.bank.now) (sym (c.deref.ensures.value ∙ c.in_ok-args-in-Use.ensures.items)) c.in-Use.ensures.shown.parts.0
 
 pub unfold-requires-clause-goal : goal.unfold-requires-clause-goal
-unfold-requires-clause-goal c = below c.in-Use.body.0 c.args.sequent.goal.0 _ c.in-Use.ensures.shown.parts.1 c.requires.sequent.goal.inside
+unfold-requires-clause-goal c = lt_trans c.in-Use.ensures.shown.parts.1 c.requires.sequent.goal.inside
 
 pub returns-in_default-get-clause-keeps : goal.returns-in_default-get-clause-keeps
 returns-in_default-get-clause-keeps c = Extends-refl c.args.bank.now

@@ -7,9 +7,9 @@ use Rattle.ll_bank.specs.declared.FormAt.{FormAt}
 use Rattle.ll_bank.specs.Form.{Form}
 use Rattle.ll_bank.specs.Nodes.{HasForm, form_tree}
 use Rattle.ll_laws.specs.Leaf.{ways}
-use Rattle.ll_laws.proofs.CallerLemmas.{ways_quantified, waiting_ways}
+use Rattle.ll_laws.proofs.CallerLemmas.{ways_quantified, waiting_ways, other_ways}
 use Rattle.ll_trace.specs.Opening.{way_size}
-use Rattle.ll_trace.proofs.LeafLemmas.{count_step, ways-with, other_ways, size_step, size_rest}
+use Rattle.ll_trace.proofs.LeafLemmas.{count_step, ways-with, size_step, size_rest}
 use Rattle.ll_trace.proofs.leaf.count_leaves.Goals as goal
 
 pub loop-form-preserved-in-Continue-branch-3 : goal.loop-form-preserved-in-Continue-branch-3

@@ -1,5 +1,5 @@
 -- How an atom is matched with the head of a clause.
-use Rattle.std.proofs.Common.{◌≡◌, ℕ, suc, ◌+◌, ◌-◌, ◌<◌, Bool, true, false, List, [], ◌∷◌, ◌++◌, length, map, drop, get_or, All, refl, ap, sym, subst, ◌∙◌}
+use Rattle.std.proofs.Common.{◌≡◌, ℕ, suc, ◌+◌, ◌<◌, Bool, true, false, List, [], ◌∷◌, ◌++◌, length, map, drop, get_or, All, refl, ap, sym, subst, ◌∙◌}
 use Rattle.std.proofs.Common.{arith, nat_eq}
 use Rattle.std.specs.Prelude.{ℤ, not, ◌&&◌, reverse, slice_index, Option, Some, None, IsSome, option_map}
 use Rattle.std.specs.Option.{option_to_list}
@@ -13,13 +13,11 @@ use Rattle.ll_bank.specs.declared.Head.{Head}
 use Rattle.ll_bank.specs.declared.Head.TheVariants.{Name, Eigen, Bound}
 use Rattle.ll_bank.specs.Term.{Term, Var, Int, Con, Ap, Env, sub, app, apply, close, place, applies_heads, not_bound, occurs, same_predicate}
 use Rattle.ll_bank.specs.Term.{head_eq}
-use Rattle.ll_bank.specs.Nodes.{Nodes, HasTerm, AllInTerms, ShowsTerm, Extends, term_tree, term_trees}
-use Rattle.ll_bank.proofs.CallerLemmas.{Extends-refl, Extends-trans, HasTerm-extends, term_tree-extends, AllInTerms-extends, close-apply, heads_args}
+use Rattle.ll_bank.specs.Nodes.{Nodes, HasTerm, ShowsTerm, Extends, term_tree, term_trees}
+use Rattle.ll_bank.proofs.CallerLemmas.{Extends-refl, Extends-trans, HasTerm-extends, term_tree-extends, close-apply, heads_args}
 use Rattle.ll_bank.proofs.CallerLemmas.{length-term_trees}
 use Rattle.ll_laws.specs.Unify.{and_then, diff, diff_lists, Solved, solve}
 use Rattle.ll_laws.proofs.CallerLemmas.{head_eq-refl}
-use Rattle.ll_bank.specs.Closing.{env_of}
-use Rattle.ll_bank.proofs.CallerLemmas.{env_extends, head_value}
 use Rattle.ll_unify.specs.declared.fresh.Fresh.{Fresh}
 use Rattle.ll_unify.specs.Bindings.{Table, count, found, unbound, Reaches, stands, through, HasCells, KeepsCells, IsPlaceOf, IsTable, IsEnd, AreSame}
 use Rattle.ll_unify.specs.Spines.{args_in, weight}
@@ -109,11 +107,11 @@ module _ (nodes : Nodes) (t : Table) where
   reaches_last y f a (stands w o) = stands (Ap f a) (or_right (occurs y f) (occurs y a) o)
   reaches_last y f a (through w x at o c r) = through (Ap f a) x at (or_right (occurs x f) (occurs x a) o) c r
 
-  abbrev AllCells : List Term → Type 0
+  abbrev pub AllCells : List Term → Type 0
   AllCells [] = Unit {0}
   AllCells (u ∷ us) = HasCells nodes t u × AllCells us
 
-  cells_apply : (f : Term) (us : List Term) → HasCells nodes t (apply f us) → HasCells nodes t f × AllCells us
+  pub cells_apply : (f : Term) (us : List Term) → HasCells nodes t (apply f us) → HasCells nodes t f × AllCells us
   cells_apply f [] h = (h, tt)
   cells_apply f (u ∷ us) h =
       let r = cells_apply (Ap f u) us h in (λ y q. r.0 y (reaches_head y f u q), (λ y q. r.0 y (reaches_last y f u q), r.1))
@@ -142,15 +140,6 @@ pub close_fixed : (env : Env) (h : Head) (ts : List Term) → not_bound h ≡ tr
 close_fixed env (Name n) ts e = close-apply env (Con (Name n)) ts
 close_fixed env (Eigen n) ts e = close-apply env (Con (Eigen n)) ts
 close_fixed env (Bound n) ts e = cc
-
--- a value of a bound place
-pub value_shows : (nodes : Nodes) (values : List At) (k i : ℕ) (d : At) → AllInTerms nodes values → k < length values → i ≡ length values - 1 - k
-    → ShowsTerm nodes (get_or values i d).0 (place (env_of nodes values) k 0)
-value_shows nodes values k i d h l e = record {
-  inside = h i d (omega arith);
-  tree =
-      sym (head_value nodes values 0 k i d (omega arith) (omega arith) (omega arith));
-}
 
 -- a place that is still an end where the bank grew
 pub end_more : (old new : Nodes) (t : Table) (at : ℕ) → IsTable old t → Extends old new → IsEnd old t at → IsEnd new t at
@@ -203,7 +192,7 @@ module _ (old new : Nodes) (t : Table) (tb : IsTable old t) (e : Extends old new
   reaches_back y u (through w x at o c r) =
       through w x at o c (subst (Reaches old t y) (term_tree-extends e at.0 (tb.places x at c)) (reaches_back y (term_tree new at.0) r))
 
-  cells_more : (u : Term) → HasCells old t u → HasCells new t u
+  pub cells_more : (u : Term) → HasCells old t u → HasCells new t u
   cells_more u h y r = h y (reaches_back y u r)
 
   founds : found old t ≡ found new t
@@ -277,48 +266,43 @@ keep_cells nodes old new env (q ∷ es) k h = (
 -- ---- matching
 
 -- what holds while equations are pending, the next one first
-pub record IsMatching (first nodes : Nodes) (start now : Table) (goal : Option Solved) (f : Fresh) (values : List At) (es : List Equation) : Type 0 where
+pub record IsMatching (first nodes : Nodes) (start now : Table) (goal : Option Solved) (f : Fresh) (env : Env) (es : List Equation) : Type 0 where
   pub extends : Extends first nodes
   pub table : IsTable nodes now
   pub same_count : count now ≡ count start
-  pub inside : AllInTerms first values
-  pub equations : AreEquations nodes now (env_of first values) es
-  pub solves : Solves nodes now (spare start) goal (terms_of nodes es) (closed_of nodes (env_of first values) es)
+  pub equations : AreEquations nodes now env es
+  pub solves : Solves nodes now (spare start) goal (terms_of nodes es) (closed_of nodes env es)
   pub fresh : AreFresh nodes now f (terms_of nodes es)
 
 -- the next equation is this one
-pub matching_top : (first nodes : Nodes) (start now : Table) (goal : Option Solved) (f : Fresh) (values : List At) (items : List Equation) (o : Option Equation)
+pub matching_top : (first nodes : Nodes) (start now : Table) (goal : Option Solved) (f : Fresh) (env : Env) (items : List Equation) (o : Option Equation)
     (q : Equation) → o ≡ Some q
-    → IsMatching first nodes start now goal f values (pending o items) → IsMatching first nodes start now goal f values (q ∷ reverse items)
-matching_top first nodes start now goal f values items o q e h = subst (λ z. IsMatching first nodes start now goal f values (pending z items)) e h
+    → IsMatching first nodes start now goal f env (pending o items) → IsMatching first nodes start now goal f env (q ∷ reverse items)
+matching_top first nodes start now goal f env items o q e h = subst (λ z. IsMatching first nodes start now goal f env (pending z items)) e h
 
 -- nothing is next
-pub matching_over : (first nodes : Nodes) (start now : Table) (goal : Option Solved) (f : Fresh) (values : List At) (items : List Equation)
+pub matching_over : (first nodes : Nodes) (start now : Table) (goal : Option Solved) (f : Fresh) (env : Env) (items : List Equation)
     (o : Option Equation) → o ≡ None
-    → IsMatching first nodes start now goal f values (pending o items) → IsMatching first nodes start now goal f values []
-matching_over first nodes start now goal f values items o e h = subst (λ z. IsMatching first nodes start now goal f values (pending z items)) e h
+    → IsMatching first nodes start now goal f env (pending o items) → IsMatching first nodes start now goal f env []
+matching_over first nodes start now goal f env items o e h = subst (λ z. IsMatching first nodes start now goal f env (pending z items)) e h
 
-pub matching_begins : (nodes : Nodes) (start : Table) (f : Fresh) (values : List At) (q : Equation) → IsTable nodes start → AllInTerms nodes values
-    → IsEquation nodes start (env_of nodes values) q
+pub matching_begins : (nodes : Nodes) (start : Table) (f : Fresh) (env : Env) (q : Equation) → IsTable nodes start
+    → IsEquation nodes start env q
     → AreFresh nodes start f (term_tree nodes q.place.0 ∷ [])
-    → IsMatching nodes nodes start start (wanted nodes start (term_tree nodes q.place.0 ∷ []) (close (env_of nodes values) (term_tree nodes q.pattern.0) ∷ []))
-    f values (q ∷ [])
-matching_begins nodes start f values q tb v h k = record {
+    → IsMatching nodes nodes start start (wanted nodes start (term_tree nodes q.place.0 ∷ []) (close env (term_tree nodes q.pattern.0) ∷ []))
+    f env (q ∷ [])
+matching_begins nodes start f env q tb h k = record {
   extends = Extends-refl nodes;
   table = tb;
   same_count = refl;
-  inside = v;
   equations = (h, tt);
-  solves = solves-start nodes start (term_tree nodes q.place.0 ∷ []) (close (env_of nodes values) (term_tree nodes q.pattern.0) ∷ []) tb;
+  solves = solves-start nodes start (term_tree nodes q.place.0 ∷ []) (close env (term_tree nodes q.pattern.0) ∷ []) tb;
   fresh = k;
 }
 
-module _ (first nodes : Nodes) (start now : Table) (goal : Option Solved) (f : Fresh) (values : List At) (q : Equation) (es : List Equation)
-    (m : IsMatching first nodes start now goal f values (q ∷ es)) (end : At) (en : IsEnd nodes now end.0)
+module _ (first nodes : Nodes) (start now : Table) (goal : Option Solved) (f : Fresh) (env : Env) (q : Equation) (es : List Equation)
+    (m : IsMatching first nodes start now goal f env (q ∷ es)) (end : At) (en : IsEnd nodes now end.0)
     (same : AreSame nodes now (term_tree nodes end.0) (term_tree nodes q.place.0)) where
-  abbrev env : Env
-  env = env_of first values
-
   abbrev pattern_tree : Term
   pattern_tree = close env (term_tree nodes q.pattern.0)
 
@@ -349,12 +333,11 @@ module _ (first nodes : Nodes) (start now : Table) (goal : Option Solved) (f : F
         ∙ (λ i. diff_lists (sym (map-append (sub s) (term_trees nodes o.places) (terms_of nodes es)) i)
         (sym (map-append (sub s) (map (close env) (term_trees nodes o.patterns)) (closed_of nodes env es)) i)))
 
-    pub matching_opens : IsMatching first nodes start now goal f values (pending next new)
-    matching_opens = subst (IsMatching first nodes start now goal f values) (sym (o.pushed ∙ ap (λ z. equate o.places o.patterns ++ z) below)) (record {
+    pub matching_opens : IsMatching first nodes start now goal f env (pending next new)
+    matching_opens = subst (IsMatching first nodes start now goal f env) (sym (o.pushed ∙ ap (λ z. equate o.places o.patterns ++ z) below)) (record {
       extends = m.extends;
       table = m.table;
       same_count = m.same_count;
-      inside = m.inside;
       equations =
           args_equations nodes now env o.places o.patterns end.0 q.pattern.0 es en.place.inside m.equations.0.inside o.places_below o.patterns_below
           (cells_apply nodes now (Con o.head) (term_trees nodes o.places) (subst (HasCells nodes now) o.term en.place.vars)).1
@@ -386,17 +369,11 @@ module _ (first nodes : Nodes) (start now : Table) (goal : Option Solved) (f : F
 
   -- ---- a pattern that is closed
 
-  env_now : env_of nodes values ≡ env
-  env_now = env_extends first nodes m.extends values m.inside
+  pub meets_heads : applies_heads pattern_tree ≡ true
+  meets_heads = m.equations.0.heads
 
-  pub values_now : AllInTerms nodes values
-  values_now = AllInTerms-extends m.extends values m.inside
-
-  pub meets_heads : applies_heads (close (env_of nodes values) (term_tree nodes q.pattern.0)) ≡ true
-  meets_heads = ap (λ z. applies_heads (close z (term_tree nodes q.pattern.0))) env_now ∙ m.equations.0.heads
-
-  pub meets_vars : HasCells nodes now (close (env_of nodes values) (term_tree nodes q.pattern.0))
-  meets_vars = subst (λ z. HasCells nodes now (close z (term_tree nodes q.pattern.0))) (sym env_now) m.equations.0.vars
+  pub meets_vars : HasCells nodes now pattern_tree
+  meets_vars = m.equations.0.vars
 
   at_end : Alike nodes now (term_tree nodes q.place.0 ∷ terms_of nodes es) (pattern_tree ∷ closed_of nodes env es) (term_tree nodes end.0 ∷ terms_of nodes es)
       (pattern_tree ∷ closed_of nodes env es)
@@ -418,25 +395,19 @@ module _ (first nodes : Nodes) (start now : Table) (goal : Option Solved) (f : F
         (solves-alike nodes now (spare start) goal (term_tree nodes q.place.0 ∷ terms_of nodes es) (pattern_tree ∷ closed_of nodes env es)
         (term_tree nodes end.0 ∷ terms_of nodes es) (pattern_tree ∷ closed_of nodes env es) m.table at_end m.solves)
 
-    pub matching_refused : Settles next now new (term_tree nodes end.0 ∷ []) (close (env_of nodes values) (term_tree nodes q.pattern.0) ∷ []) false
-        → goal ≡ None
-    matching_refused h =
-        subst (λ z. Settles next now new (term_tree nodes end.0 ∷ []) (close z (term_tree nodes q.pattern.0) ∷ []) false) env_now h (spare start) goal
-        (terms_of nodes es) (closed_of nodes env es) grown
+    pub matching_refused : Settles next now new (term_tree nodes end.0 ∷ []) (pattern_tree ∷ []) false → goal ≡ None
+    matching_refused h = h (spare start) goal (terms_of nodes es) (closed_of nodes env es) grown
 
-    pub matching_meets : (g : Fresh) → Settles next now new (term_tree nodes end.0 ∷ []) (close (env_of nodes values) (term_tree nodes q.pattern.0) ∷ []) true
+    pub matching_meets : (g : Fresh) → Settled next now new (term_tree nodes end.0 ∷ []) (pattern_tree ∷ [])
         → LeavesFresh next now new f g (term_tree nodes end.0 ∷ []) []
-        → IsMatching first next start new goal g values es
-    matching_meets g h l =
-        let s : Settled next now new (term_tree nodes end.0 ∷ []) (pattern_tree ∷ []) =
-        subst (λ z. Settled next now new (term_tree nodes end.0 ∷ []) (close z (term_tree nodes q.pattern.0) ∷ [])) env_now h in
+        → IsMatching first next start new goal g env es
+    matching_meets g s l =
         let ts = terms_more nodes next now m.table e env es m.equations.1 in
         let cs = closed_more nodes next now m.table e env es m.equations.1 in
         record {
           extends = Extends-trans m.extends e;
           table = s.table;
           same_count = s.count ∙ m.same_count;
-          inside = m.inside;
           equations = keep_cells next now new env es s.cells (equations_more nodes next now m.table e env es m.equations.1);
           solves = (
               subst (λ ls. Solves next new (spare start) goal ls (closed_of next env es)) ts
@@ -447,9 +418,9 @@ module _ (first nodes : Nodes) (start now : Table) (goal : Option Solved) (f : F
         }
 
 -- nothing is pending
-pub matching_ends : (first nodes : Nodes) (start now : Table) (goal : Option Solved) (f : Fresh) (values : List At)
-    → IsMatching first nodes start now goal f values [] → IsAnswer nodes start now goal
-matching_ends first nodes start now goal f values m = record {
+pub matching_ends : (first nodes : Nodes) (start now : Table) (goal : Option Solved) (f : Fresh) (env : Env)
+    → IsMatching first nodes start now goal f env [] → IsAnswer nodes start now goal
+matching_ends first nodes start now goal f env m = record {
   is = solves-none nodes now (spare start) goal m.solves;
   table = m.table;
   same_count =

@@ -1,11 +1,13 @@
 -- The head of a clause against an atom: equations of terms with patterns, whose bound places stand for values.
-use Rattle.std.specs.Prelude.{◌≡◌, ◌<◌, ℕ, ◌++◌, true, List, [], ◌∷◌, map, reverse, length, All, Option, Some, None, IfSome}
+use Rattle.std.specs.Prelude.{◌≡◌, ◌<◌, ℕ, ◌++◌, true, List, [], ◌∷◌, map, reverse, length, All, Option, Some, None}
 use Rattle.ll_bank.specs.declared.At.{At}
 use Rattle.ll_bank.specs.declared.Head.{Head}
-use Rattle.ll_bank.specs.Term.{Term, Env, sub, app, close, applies_heads, not_bound}
+use Rattle.ll_bank.specs.Term.{Term, Var, Env, sub, app, close, applies_heads, not_bound}
 use Rattle.ll_bank.specs.Nodes.{Nodes, HasTerm, ShowsTerm, term_tree, term_trees}
 use Rattle.ll_laws.specs.Unify.{Clash as Differ, diff}
 use Rattle.ll_unify.specs.Bindings.{Table, HasCells, IsPlaceOf}
+use Rattle.ll_bind.specs.declared.head.Closed.{Closed}
+use Rattle.ll_bind.specs.declared.head.Closed.TheVariants.{Place, Variable, Unbuilt}
 use Rattle.ll_bind.specs.declared.head.Equation.{Equation}
 use Rattle.ll_bind.specs.declared.head.Opened.{Opened}
 use Rattle.ll_bind.specs.declared.head.Opened.TheVariants.{Open, Clash, Shut}
@@ -55,8 +57,14 @@ pub record AreOpened (nodes : Nodes) (place pattern : ℕ) (old new : List Equat
 abbrev pub AreApart : Nodes → ℕ → ℕ → Type 0
 AreApart nodes place pattern = (env : Env) (s : ℕ → Term) → diff (sub s (term_tree nodes place)) (sub s (close env (term_tree nodes pattern))) ≡ Differ
 
+-- what a pattern comes to with its bound places closed
+abbrev pub IsClosed : Nodes → Env → ℕ → Closed → Type 0
+IsClosed nodes env pattern (Place at) = ShowsTerm nodes at.0 (close env (term_tree nodes pattern))
+IsClosed nodes env pattern (Variable x) = close env (term_tree nodes pattern) ≡ Var x
+IsClosed nodes env pattern Unbuilt = Unit {0}
+
 -- what became of a term and a pattern
 abbrev pub IsOpened : Nodes → Env → ℕ → ℕ → List Equation → List Equation → Opened → Type 0
 IsOpened nodes env place pattern old new (Open next) = AreOpened nodes place pattern old new next
 IsOpened nodes env place pattern old new Clash = AreApart nodes place pattern
-IsOpened nodes env place pattern old new (Shut value) = (new ≡ old) × IfSome value (λ at. ShowsTerm nodes at.0 (close env (term_tree nodes pattern)))
+IsOpened nodes env place pattern old new (Shut closed) = (new ≡ old) × IsClosed nodes env pattern closed

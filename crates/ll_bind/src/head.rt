@@ -1,21 +1,20 @@
 //! An atom against the head of a clause.
-ghost use Rattle.std.specs.Prelude.{not, ◌≡◌, ◌≤◌, ◌<◌, ◌++◌, ℕ, true, length, reverse, All, IfOk, IfSome, OnOk, [], ◌∷◌};
-ghost use Rattle.ll_bank.specs.declared.At.{At as AtView};
-ghost use Rattle.ll_bank.specs.Term.{head_eq, app, close, close_head, applies_heads, not_bound};
-ghost use Rattle.ll_bank.specs.Nodes.{term_tree, term_trees, HasTerm, AllInTerms, ShowsTerm, Extends};
-ghost use Rattle.ll_bank.specs.Closing.{env_of};
+ghost use Rattle.std.specs.Prelude.{not, ◌≡◌, ◌≤◌, ◌<◌, ◌-◌, ◌++◌, ℕ, true, length, reverse, IfOk, [], ◌∷◌};
+ghost use Rattle.ll_bank.specs.Term.{Var, Env, head_eq, app, close, applies_heads, not_bound};
+ghost use Rattle.ll_bank.specs.Nodes.{Nodes, term_tree, term_trees, HasTerm, Extends};
 ghost use Rattle.ll_unify.specs.Bindings.{IsTable, IsPlaceOf, IsEnd, HasCells, count};
 ghost use Rattle.ll_unify.specs.Fresh.{AreFresh, LeavesFresh, StandsNowhere};
 ghost use Rattle.ll_unify.specs.Solving.{IsSolved, Settles, wanted};
+ghost use Rattle.ll_store.specs.Environments.{values_in, IsWithin};
 ghost use Rattle.ll_store.specs.Stored.{stored, KeepsMarks};
 ghost use Rattle.ll_store.specs.Tables.{table_of};
-ghost use Rattle.ll_bind.specs.Heads.{equate, pending, IsOpened};
+ghost use Rattle.ll_bind.specs.Heads.{equate, pending, IsOpened, IsClosed};
 
-use ll_bank::{At, Bank, Head, OutOfMemory, TermView, close_term};
-use ll_store::Store;
-use ll_unify::{Fresh, unify_end, walk};
+use crate::build::{build, value_of};
+use ll_bank::{At, Bank, Head, OutOfMemory, TermView};
+use ll_store::{Environment, Store};
+use ll_unify::{Fresh, bind_new, is_new, unify_end, walk};
 use smallvec::SmallVec;
-use std::alloc::Global;
 
 /// The term at a place, and a pattern that it has to match.
 #[derive(Clone, Copy)]
@@ -36,6 +35,17 @@ impl Default for Equation {
 // Equations that are still to be looked at after the next one. Few of them take no memory.
 type Equations = SmallVec<Equation, 8>;
 
+/// What a pattern comes to with its bound places closed.
+#[derive(Clone, Copy)]
+pub enum Closed {
+    /// What stands at a place.
+    Place(At),
+    /// A variable.
+    Variable(usize),
+    /// It has to be built.
+    Unbuilt,
+}
+
 /// What becomes of a term and a pattern.
 #[derive(Clone, Copy)]
 pub enum Opened {
@@ -43,8 +53,8 @@ pub enum Opened {
     Open(Option<Equation>),
     /// They differ in a sign.
     Clash,
-    /// The pattern has to be closed. The place that shows it so, where there is one already.
-    Shut(Option<At>),
+    /// The pattern has to be closed.
+    Shut(Closed),
 }
 
 /// Whether two heads are one.
@@ -93,47 +103,36 @@ fn push_arguments(
     }))
 }
 
-/// The value of a head that is a bound place, where it has one.
-fn value(bank: &Bank, head: Head, values: &[At]) -> Option<At>
-    requires { AllInTerms bank.now values.now }
-    ensures { IfSome result (λ at. ShowsTerm bank.now at.0 (close_head (env_of bank.now values.now) head)) }
+/// What a pattern comes to whose head is a bound place.
+fn closed_place(head: Head, args: &[At], environment: Environment) -> Closed
+    requires within { environment.count ≤ environment.end }
+    ensures { (nodes : Nodes) (pattern : ℕ) → term_tree nodes pattern ≡ app head (term_trees nodes args.now)
+        → IsClosed nodes (values_in environment) pattern result }
 {
+    if !args.is_empty() {
+        return Closed::Unbuilt;
+    }
     match head {
-        Head::Bound(bound) => {
-            let number = bound as usize;
-            if number < values.len() {
-                Some(values[values.len() - 1 - number])
-            } else {
-                None
-            }
-        }
-        Head::Name(_) => None,
-        Head::Eigen(_) => None,
+        Head::Bound(bound) => match environment.variable(bound) {
+            Some(var) => Closed::Variable(var),
+            None => Closed::Unbuilt,
+        },
+        Head::Name(_) => Closed::Unbuilt,
+        Head::Eigen(_) => Closed::Unbuilt,
     }
 }
 
-/// The place that shows a pattern with its bound places closed, where it is a bound place without arguments that has a value.
-fn value_of(bank: &Bank, head: Head, args: &[At], values: &[At]) -> Option<At>
-    requires { AllInTerms bank.now values.now }
-    ensures { IfSome result (λ at. ShowsTerm bank.now at.0
-        (close (env_of bank.now values.now) (app head (term_trees bank.now args.now)))) }
+/// What a pattern comes to whose head is no bound place.
+fn closed_head(pattern: At, head: Head, args: &[At]) -> Closed
+    requires fixed { not_bound head ≡ true }
+    ensures { (nodes : Nodes) (env : Env) → HasTerm nodes pattern.0
+        → term_tree nodes pattern.0 ≡ app head (term_trees nodes args.now) → IsClosed nodes env pattern.0 result }
 {
     if args.is_empty() {
-        value(bank, head, values)
+        Closed::Place(pattern)
     } else {
-        None
+        Closed::Unbuilt
     }
-}
-
-/// A pattern without arguments, whose head is no bound place: it is closed.
-fn bare(bank: &Bank, pattern: At, head: Head, args: &[At], values: &[At]) -> Option<At>
-    requires pattern { HasTerm bank.now pattern.0 }
-    requires shape { term_tree bank.now pattern.0 ≡ app head (term_trees bank.now args.now) }
-    requires fixed { not_bound head ≡ true }
-    ensures { IfSome result (λ at. ShowsTerm bank.now at.0
-        (close (env_of bank.now values.now) (term_tree bank.now pattern.0))) }
-{
-    if args.is_empty() { Some(pattern) } else { None }
 }
 
 /// Compares the sign of a term with that of a pattern.
@@ -141,24 +140,24 @@ fn open(
     bank: &Bank,
     place: At,
     pattern: At,
-    values: &[At],
+    environment: Environment,
     equations: &mut Equations,
 ) -> Result<Opened, OutOfMemory>
     requires place { HasTerm bank.now place.0 }
     requires pattern { HasTerm bank.now pattern.0 }
-    requires values { AllInTerms bank.now values.now }
+    requires within { environment.count ≤ environment.end }
     ensures { IfOk result (IsOpened bank.now
-        (env_of bank.now values.now) place.0 pattern.0 equations.old.items equations.new.items) }
+        (values_in environment) place.0 pattern.0 equations.old.items equations.new.items) }
 {
     match bank.term_at(pattern) {
-        TermView::Var(_) => Ok(Opened::Shut(Some(pattern))),
-        TermView::Int(_) => Ok(Opened::Shut(Some(pattern))),
+        TermView::Var(_) => Ok(Opened::Shut(Closed::Place(pattern))),
+        TermView::Int(_) => Ok(Opened::Shut(Closed::Place(pattern))),
         TermView::App(head, args) => {
             if is_place(head) {
-                return Ok(Opened::Shut(value_of(bank, head, args, values)));
+                return Ok(Opened::Shut(closed_place(head, args, environment)));
             }
             match bank.term_at(place) {
-                TermView::Var(_) => Ok(Opened::Shut(bare(bank, pattern, head, args, values))),
+                TermView::Var(_) => Ok(Opened::Shut(closed_head(pattern, head, args))),
                 TermView::Int(_) => Ok(Opened::Clash),
                 TermView::App(other, others) => {
                     if !is_same_head(other, head) {
@@ -175,122 +174,150 @@ fn open(
     }
 }
 
-/// A place that shows a pattern with its bound places closed, which may be there already.
-fn closed(
-    alloc: Global,
-    bank: &mut Bank,
-    pattern: At,
-    value: Option<At>,
-    values: &[At],
-) -> Result<At, OutOfMemory>
-    requires pattern { HasTerm bank.old pattern.0 }
-    requires value { IfSome value
-        (λ at. ShowsTerm bank.old at.0 (close (env_of bank.old values.now) (term_tree bank.old pattern.0))) }
-    requires values { AllInTerms bank.old values.now }
-    requires heads { applies_heads (close (env_of bank.old values.now) (term_tree bank.old pattern.0)) ≡ true }
-    ensures shows { IfOk result (λ made. ShowsTerm bank.new made.0
-        (close (env_of bank.old values.now) (term_tree bank.old pattern.0))) }
-    ensures keeps { Extends bank.old bank.new }
-{
-    match value {
-        Some(made) => Ok(made),
-        None => close_term(alloc, bank, pattern, values),
-    }
-}
-
-/// Makes a term equal to a closed pattern by bindings, or finds that this can't be.
-fn meet(
-    alloc: Global,
+/// Makes a term equal to a variable by bindings, or finds that this can't be.
+fn meet_variable(
     store: &mut Store,
     fresh: &mut Fresh,
     place: At,
-    pattern: At,
-    value: Option<At>,
-    values: &[At],
+    var: usize,
 ) -> Result<bool, OutOfMemory>
     requires store { IsTable store.old.bank (table_of store.old.cells.cells) }
     requires place { IsEnd store.old.bank (table_of store.old.cells.cells) place.0 }
-    requires pattern { HasTerm store.old.bank pattern.0 }
-    requires value { IfSome value
-        (λ at. ShowsTerm store.old.bank at.0
-        (close (env_of store.old.bank values.now) (term_tree store.old.bank pattern.0))) }
-    requires values { AllInTerms store.old.bank values.now }
-    requires heads { applies_heads (close (env_of store.old.bank values.now) (term_tree store.old.bank pattern.0))
-        ≡ true }
-    requires vars { HasCells store.old.bank (table_of store.old.cells.cells)
-        (close (env_of store.old.bank values.now) (term_tree store.old.bank pattern.0)) }
+    requires vars { HasCells store.old.bank (table_of store.old.cells.cells) (Var var) }
     requires fresh { AreFresh store.old.bank (table_of store.old.cells.cells) fresh.old
         (term_tree store.old.bank place.0 ∷ []) }
     ensures settles { IfOk result
         (Settles store.new.bank (table_of store.old.cells.cells) (table_of store.new.cells.cells)
-        (term_tree store.old.bank place.0 ∷ [])
-        (close (env_of store.old.bank values.now) (term_tree store.old.bank pattern.0) ∷ [])) }
+        (term_tree store.old.bank place.0 ∷ []) (Var var ∷ [])) }
     ensures fresh { IfOk result (λ good. good ≡ true
         → LeavesFresh store.new.bank (table_of store.old.cells.cells)
         (table_of store.new.cells.cells) fresh.old fresh.new (term_tree store.old.bank place.0 ∷ []) []) }
     ensures keeps { Extends store.old.bank store.new.bank }
     ensures marks { KeepsMarks (stored store.old) (stored store.new) }
 {
-    let right = closed(alloc, &mut store.bank, pattern, value, values)?;
-    unify_end(alloc, &store.bank, &mut store.cells, fresh, place, right)
+    if is_new(&store.bank, &store.cells, fresh, place, var) {
+        bind_new(&store.bank, &mut store.cells, fresh, place, var)?;
+        return Ok(true);
+    }
+    let right = value_of(store, var)?;
+    meet(store, fresh, place, right)
+}
+
+/// Makes a term equal to another one by bindings, or finds that this can't be.
+fn meet(store: &mut Store, fresh: &mut Fresh, left: At, right: At) -> Result<bool, OutOfMemory>
+    requires store { IsTable store.old.bank (table_of store.old.cells.cells) }
+    requires left { IsEnd store.old.bank (table_of store.old.cells.cells) left.0 }
+    requires right { IsPlaceOf store.old.bank (table_of store.old.cells.cells) right.0 }
+    requires fresh { AreFresh store.old.bank (table_of store.old.cells.cells) fresh.old
+        (term_tree store.old.bank left.0 ∷ []) }
+    ensures settles { IfOk result
+        (Settles store.old.bank (table_of store.old.cells.cells) (table_of store.new.cells.cells)
+        (term_tree store.old.bank left.0 ∷ []) (term_tree store.old.bank right.0 ∷ [])) }
+    ensures fresh { IfOk result (λ good. good ≡ true
+        → LeavesFresh store.old.bank (table_of store.old.cells.cells)
+        (table_of store.new.cells.cells) fresh.old fresh.new (term_tree store.old.bank left.0 ∷ []) []) }
+    ensures bank { store.new.bank ≡ store.old.bank }
+    ensures marks { KeepsMarks (stored store.old) (stored store.new) }
+{
+    let alloc = store.bank.alloc();
+    unify_end(alloc, &store.bank, &mut store.cells, fresh, left, right)
+}
+
+/// Makes a term equal to a closed pattern by bindings, or finds that this can't be.
+fn meet_pattern(
+    store: &mut Store,
+    fresh: &mut Fresh,
+    equation: Equation,
+    closed: Closed,
+    environment: Environment,
+) -> Result<bool, OutOfMemory>
+    requires store { IsTable store.old.bank (table_of store.old.cells.cells) }
+    requires within { IsWithin (count (table_of store.old.cells.cells)) environment }
+    requires place { IsEnd store.old.bank (table_of store.old.cells.cells) equation.place.0 }
+    requires pattern { HasTerm store.old.bank equation.pattern.0 }
+    requires closed { IsClosed store.old.bank (values_in environment) equation.pattern.0 closed }
+    requires heads { applies_heads (close (values_in environment) (term_tree store.old.bank equation.pattern.0)) ≡ true }
+    requires vars { HasCells store.old.bank (table_of store.old.cells.cells)
+        (close (values_in environment) (term_tree store.old.bank equation.pattern.0)) }
+    requires fresh { AreFresh store.old.bank (table_of store.old.cells.cells) fresh.old
+        (term_tree store.old.bank equation.place.0 ∷ []) }
+    ensures settles { IfOk result
+        (Settles store.new.bank (table_of store.old.cells.cells) (table_of store.new.cells.cells)
+        (term_tree store.old.bank equation.place.0 ∷ [])
+        (close (values_in environment) (term_tree store.old.bank equation.pattern.0) ∷ [])) }
+    ensures fresh { IfOk result (λ good. good ≡ true
+        → LeavesFresh store.new.bank (table_of store.old.cells.cells)
+        (table_of store.new.cells.cells) fresh.old fresh.new (term_tree store.old.bank equation.place.0 ∷ []) []) }
+    ensures keeps { Extends store.old.bank store.new.bank }
+    ensures marks { KeepsMarks (stored store.old) (stored store.new) }
+{
+    match closed {
+        Closed::Variable(var) => meet_variable(store, fresh, equation.place, var),
+        Closed::Place(right) => meet(store, fresh, equation.place, right),
+        Closed::Unbuilt => {
+            let right = build(store, equation.pattern, environment)?;
+            meet(store, fresh, equation.place, right)
+        }
+    }
 }
 
 /// Makes an atom equal to the head of a clause by bindings of a store's variables, or finds that this can't be.
 ///
-/// The bound places of the head stand for values, the outermost first. Of the head only what a variable of the atom is bound to is built.
-/// The variables from `first` on are those of the clause, made just before: none of them stands in the atom or in what another variable
-/// stands for, none has a lower level than another variable, and the eigenvariables in the atom and in what variables stand for are below
-/// their level. Where one is met in the head for the first time it takes the end of what stands against it, without a look through that:
-/// it can't stand there, and no level falls. The first 64 of them are told apart; those past them are looked for each time.
+/// The bound places of the head stand for the variables of the environment, and no place shows these yet. Of the head only what a variable
+/// of the atom is bound to is built. The variables of the environment, and those behind them, were made just before: none of them stands in
+/// the atom or in what another variable stands for, none has a lower level than another variable, and the eigenvariables in the atom and
+/// in what variables stand for are below their level. Where one is met in the head for the first time it takes the end of what stands
+/// against it, without a look through that: it can't stand there, and no level falls. The first 64 of them are told apart; those past them
+/// are looked for each time.
 ///
 /// The answer, the bindings and the levels are those of [`unify`](crate::unify) on the atom and the closed head. In every case each good
 /// mark of the store stays good, with its state, and its bank may have more places. Where the answer is `false`, and after a refusal,
 /// some bindings and levels may have been changed: go back to a mark.
 pub fn unify_head(
-    alloc: Global,
     store: &mut Store,
-    first: usize,
+    environment: Environment,
     atom: At,
     head: At,
-    values: &[At],
 ) -> Result<bool, OutOfMemory>
     requires store { IsTable store.old.bank (table_of store.old.cells.cells) }
+    requires within { IsWithin (count (table_of store.old.cells.cells)) environment }
     requires atom { IsPlaceOf store.old.bank (table_of store.old.cells.cells) atom.0 }
     requires head { HasTerm store.old.bank head.0 }
-    requires values { AllInTerms store.old.bank values.now }
-    requires heads { applies_heads (close (env_of store.old.bank values.now) (term_tree store.old.bank head.0)) ≡ true }
+    requires heads { applies_heads (close (values_in environment) (term_tree store.old.bank head.0)) ≡ true }
     requires vars { HasCells store.old.bank (table_of store.old.cells.cells)
-        (close (env_of store.old.bank values.now) (term_tree store.old.bank head.0)) }
-    requires new { (x : ℕ) → first ≤ x → x < count (table_of store.old.cells.cells)
+        (close (values_in environment) (term_tree store.old.bank head.0)) }
+    requires new { (x : ℕ) → environment.end - environment.count ≤ x → x < count (table_of store.old.cells.cells)
         → StandsNowhere store.old.bank (table_of store.old.cells.cells) (term_tree store.old.bank atom.0 ∷ []) x }
     ensures solved { IfOk result (IsSolved store.new.bank (table_of store.old.cells.cells)
         (table_of store.new.cells.cells) (wanted store.old.bank (table_of store.old.cells.cells)
         (term_tree store.old.bank atom.0 ∷ [])
-        (close (env_of store.old.bank values.now) (term_tree store.old.bank head.0) ∷ []))) }
+        (close (values_in environment) (term_tree store.old.bank head.0) ∷ []))) }
     ensures keeps { Extends store.old.bank store.new.bank }
     ensures marks { KeepsMarks (stored store.old) (stored store.new) }
 {
-    let mut fresh = Fresh::from(first);
-    let mut equations = Equations::new(alloc);
+    let mut fresh = Fresh::from((environment.end - environment.count) as usize);
+    let mut equations = Equations::new(store.bank.alloc());
     let mut next = Some(Equation {
         place: atom,
         pattern: head,
     });
     while let Some(equation) = next {
         let end = walk(&store.bank, &store.cells, equation.place);
-        match open(&store.bank, end, equation.pattern, values, &mut equations)? {
+        match open(
+            &store.bank,
+            end,
+            equation.pattern,
+            environment,
+            &mut equations,
+        )? {
             Opened::Open(more) => next = more,
             Opened::Clash => return Ok(false),
-            Opened::Shut(value) => {
-                if !meet(
-                    alloc,
-                    store,
-                    &mut fresh,
-                    end,
-                    equation.pattern,
-                    value,
-                    values,
-                )? {
+            Opened::Shut(closed) => {
+                let shut = Equation {
+                    place: end,
+                    pattern: equation.pattern,
+                };
+                if !meet_pattern(store, &mut fresh, shut, closed, environment)? {
                     return Ok(false);
                 }
                 next = equations.pop();

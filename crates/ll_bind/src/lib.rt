@@ -1,6 +1,7 @@
 //! Unification by levels on the cells of a store.
 #![tactic(auto)]
 
+mod build;
 mod head;
 
 ghost use Rattle.std.specs.Prelude.{◌≡◌, true, length, All, IfOk};

@@ -1,11 +1,12 @@
 //! Parts of an inference on an atom.
-ghost use Rattle.std.specs.Prelude.{◌≡◌, ◌<◌, ◌≤◌, ℕ, true, ◌++◌, ◌∷◌, [], length, Some, None, IfOk, IfSome, IfNone, OnOk, replicate};
+ghost use Rattle.std.specs.Prelude.{◌≡◌, ◌<◌, ◌≤◌, ◌-◌, ℕ, true, ◌++◌, ◌∷◌, [], length, Some, None, IfOk, IfSome, IfNone, OnOk, replicate};
 ghost use Rattle.std.specs.List.{Contains};
 ghost use Rattle.ll_bank.specs.Term.{close, applies_heads};
 ghost use Rattle.ll_bank.specs.Nodes.{form_tree, term_tree, HasTerm, AllInTerms, Extends};
 ghost use Rattle.ll_bank.specs.Closing.{env_of};
 ghost use Rattle.ll_unify.specs.Bindings.{IsTable, IsPlaceOf, HasCells, count};
 ghost use Rattle.ll_unify.specs.Fresh.{StandsNowhere};
+ghost use Rattle.ll_store.specs.Environments.{values_before};
 ghost use Rattle.ll_store.specs.Stored.{stored, KeepsMarks};
 ghost use Rattle.ll_store.specs.Tables.{table_of};
 ghost use Rattle.ll_laws.specs.Leaf.{ways};
@@ -23,6 +24,7 @@ ghost use Rattle.ll_resources.specs.Places.{label_place};
 ghost use Rattle.ll_resources.specs.History.{KeepsMarks as KeepsContextMarks};
 ghost use Rattle.ll_resources.specs.Seen.{resource};
 
+use crate::heads::in_32_bits;
 use crate::open::open_leaf;
 use ll_agenda::Top;
 use ll_bank::{At, FormAt, FormNode, OutOfMemory};
@@ -30,7 +32,7 @@ use ll_bind::{unify, unify_head};
 use ll_freeze::Machine;
 use ll_laws::{Candidate, Step};
 use ll_resources::{Context, Entry};
-use ll_store::Store;
+use ll_store::{Environment, Store};
 use std::alloc::Global;
 
 /// The place of the entry with a label, the newest being 0. Those of so many program clauses come last: one of them is found at once, and so is
@@ -141,24 +143,20 @@ pub fn unify_under(
 }
 
 /// Unifies an atom with the head of a leaf, whose bound places stand for its variables, the outermost first; false where they don't unify.
-/// They are the variables from `first` on, and stand nowhere else.
-fn unify_leaf(
-    alloc: Global,
-    store: &mut Store,
-    first: usize,
-    atom: At,
-    head: At,
-    variables: &[At],
-) -> Result<bool, OutOfMemory>
+/// They are the last variables, and stand nowhere else. Where there are more than a `u32` counts it answers that memory ran out.
+fn unify_leaf(store: &mut Store, atom: At, head: At, variables: &[At]) -> Result<bool, OutOfMemory>
     requires table { IsTable store.old.bank (table_of store.old.cells.cells) }
     requires atom { IsPlaceOf store.old.bank (table_of store.old.cells.cells) atom.0 }
     requires head { HasTerm store.old.bank head.0 }
-    requires variables { AllInTerms store.old.bank variables.now }
+    requires few { length variables.now ≤ count (table_of store.old.cells.cells) }
+    requires variables { env_of store.old.bank variables.now
+        ≡ values_before (count (table_of store.old.cells.cells)) (length variables.now) }
     requires heads { applies_heads (close (env_of store.old.bank variables.now) (term_tree store.old.bank head.0))
         ≡ true }
     requires vars { HasCells store.old.bank (table_of store.old.cells.cells)
         (close (env_of store.old.bank variables.now) (term_tree store.old.bank head.0)) }
-    requires new { (x : ℕ) → first ≤ x → x < count (table_of store.old.cells.cells)
+    requires new { (x : ℕ) → count (table_of store.old.cells.cells) - length variables.now ≤ x
+        → x < count (table_of store.old.cells.cells)
         → StandsNowhere store.old.bank (table_of store.old.cells.cells) (term_tree store.old.bank atom.0 ∷ []) x }
     ensures found { IfOk result (Unifies store.old.bank store.new.bank (table_of store.old.cells.cells)
         (table_of store.new.cells.cells)
@@ -167,7 +165,9 @@ fn unify_leaf(
     ensures keeps { Extends store.old.bank store.new.bank }
     ensures marks { KeepsMarks (stored store.old) (stored store.new) }
 {
-    let answer = unify_head(alloc, store, first, atom, head, variables)?;
+    let end = in_32_bits(store.cells.len())?;
+    let count = in_32_bits(variables.len())?;
+    let answer = unify_head(store, Environment { end, count }, atom, head)?;
     Ok(answer)
 }
 
@@ -231,14 +231,7 @@ fn take_leaf_of(
     let count = machine.terms.len() - before;
     add_cells(&mut machine.store, machine.eigens, count)?;
     let variables = &machine.terms[before..];
-    if !unify_leaf(
-        alloc,
-        &mut machine.store,
-        before,
-        atom,
-        opened.head,
-        variables,
-    )? {
+    if !unify_leaf(&mut machine.store, atom, opened.head, variables)? {
         return Ok(false);
     }
     use_entry(&mut machine.context, label, place, entry)?;

@@ -5,4 +5,5 @@ pub mod PackedLemmas
 mod SameLemmas
 mod SegmentLemmas
 mod LayerLemmas
+pub mod EnvironmentLemmas
 pub mod CallerLemmas

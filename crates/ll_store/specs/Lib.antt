@@ -6,3 +6,4 @@ pub mod Segments
 pub mod Layered
 pub mod Lending
 pub mod Tables
+pub mod Environments

@@ -2,6 +2,7 @@
 #![tactic(auto)]
 
 mod cells;
+mod environment;
 mod layers;
 mod packed;
 mod segment;
@@ -9,6 +10,7 @@ mod store;
 mod table;
 
 pub use cells::{Cell, Cells, Change};
+pub use environment::Environment;
 pub use layers::Layers;
 pub use segment::{CellSegment, Renewal, Segment};
 pub use store::{Mark, Store};

@@ -352,7 +352,7 @@ change-var nodes old new x y to tb b fr en v n set =
       absent = ap (occurs x) is ∙ ne_eqb x y n;
     }
 
-flip-bound : (nodes : Nodes) (old new : Table) (u v : Term) (b : Binding) → HasBound nodes old new u v b → HasBound nodes old new v u b
+pub flip-bound : (nodes : Nodes) (old new : Table) (u v : Term) (b : Binding) → HasBound nodes old new u v b → HasBound nodes old new v u b
 flip-bound nodes old new u v b h = record {
   table = h.table;
   levels = h.levels;
@@ -375,7 +375,7 @@ left-below nodes t left right x m e = var-below nodes t x (term_tree nodes left.
 pub right-below : (nodes : Nodes) (t : Table) (left right : At) (y : ℕ) → IsMeeting nodes t left.0 right.0 → term_tree nodes right.0 ≡ Var y → y < count t
 right-below nodes t left right y m e = var-below nodes t y (term_tree nodes right.0) m.right_end.place.vars e
 
-meet-vars : (x y : ℕ) → x ≢ y → diff (Var x) (Var y) ≡ Meet x (Var y)
+pub meet-vars : (x y : ℕ) → x ≢ y → diff (Var x) (Var y) ≡ Meet x (Var y)
 meet-vars x y n = ap (λ b. if b then Same else Meet x (Var y)) (ne_eqb x y n)
 
 module _ (nodes : Nodes) (old new : Table) (left right : At) (x y : ℕ) (tb : IsTable nodes old) (m : IsMeeting nodes old left.0 right.0)
@@ -430,7 +430,7 @@ meet-term x s (Int z) n = refl
 meet-term x s (Con h) n = refl
 meet-term x s (Ap f a) n = refl
 
-term-meet : (x : ℕ) (s : ℕ → Term) (u : Term) → ((y : ℕ) → u ≡ Var y → ⊥) → diff (sub s u) (Var x) ≡ Meet x (sub s u)
+pub term-meet : (x : ℕ) (s : ℕ → Term) (u : Term) → ((y : ℕ) → u ≡ Var y → ⊥) → diff (sub s u) (Var x) ≡ Meet x (sub s u)
 term-meet x s (Var y) n = absurd (n y refl)
 term-meet x s (Int z) n = refl
 term-meet x s (Con h) n = refl
@@ -440,7 +440,7 @@ binds-tree : (nodes : Nodes) (old new : Table) (u u' v : Term) (o : Option Bindi
     → Binds nodes old new u' v o b
 binds-tree nodes old new u u' v o b e h = subst (λ w. Binds nodes old new w v o b) e h
 
-flip-binds : (nodes : Nodes) (old new : Table) (u v : Term) (o : Option Binding) (b : Bool) → Binds nodes old new u v o b → Binds nodes old new v u o b
+pub flip-binds : (nodes : Nodes) (old new : Table) (u v : Term) (o : Option Binding) (b : Bool) → Binds nodes old new u v o b → Binds nodes old new v u o b
 flip-binds nodes old new u v (Some c) true h = flip-bound nodes old new u v c h
 flip-binds nodes old new u v (Some c) false h = h
 flip-binds nodes old new u v None true h = h

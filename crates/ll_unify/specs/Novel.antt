@@ -1,13 +1,13 @@
 -- New variables where they are met for the first time.
-use Rattle.std.specs.Prelude.{◌≡◌, ℕ, None}
+use Rattle.std.specs.Prelude.{◌≡◌, ◌<◌, ℕ, None}
 use Rattle.ll_bank.specs.Term.{Var}
 use Rattle.ll_bank.specs.Nodes.{Nodes, term_tree}
 use Rattle.ll_unify.specs.declared.fresh.Fresh.{Fresh}
 use Rattle.ll_unify.specs.Bindings.{Table, cell}
 use Rattle.ll_unify.specs.Fresh.{IsFresh}
 
--- an unbound variable stands at the place, which is one of the new ones and was not met
-pub record IsNewAt (nodes : Nodes) (t : Table) (f : Fresh) (at x : ℕ) : Type 0 where
-  pub shown : term_tree nodes at ≡ Var x
-  pub is : IsFresh f x
+-- the variable is unbound, and one of the new ones that were not met, and no variable with a greater number stands at the place
+pub record IsNew (nodes : Nodes) (t : Table) (f : Fresh) (at x : ℕ) : Type 0 where
   pub free : cell t x ≡ None
+  pub is : IsFresh f x
+  pub before : (y : ℕ) → term_tree nodes at ≡ Var y → y < x

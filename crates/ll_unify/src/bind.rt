@@ -4,8 +4,9 @@ ghost use Rattle.ll_bank.specs.Term.{Var, sub};
 ghost use Rattle.ll_bank.specs.Nodes.{term_tree, HasTerm};
 ghost use Rattle.ll_laws.specs.Unify.{bind, is_older};
 ghost use Rattle.ll_unify.specs.Bindings.{IsTable, IsPlaceOf, IsEnd, found, count, cell, is_var, FallsOne, Falls, Binds, IsMeeting, Meets};
-ghost use Rattle.ll_unify.specs.Novel.{IsNewAt};
+ghost use Rattle.ll_unify.specs.Novel.{IsNew};
 ghost use Rattle.ll_unify.specs.Fresh.{IsFresh, AreFresh, LeavesFresh, IsLeft, IsOther};
+ghost use Rattle.ll_unify.specs.Solving.{Settles};
 
 use crate::Bindings;
 use crate::fresh::Fresh;
@@ -126,46 +127,6 @@ fn is_variable(bank: &Bank, at: At) -> bool
     }
 }
 
-// The unbound variable at a place that is a new one and was not met.
-fn fresh_at<T: Bindings>(bank: &Bank, table: &T, fresh: &Fresh, at: At) -> Option<usize>
-    requires table { IsTable bank.now (T.table table.now) }
-    requires place { IsPlaceOf bank.now (T.table table.now) at.0 }
-    ensures { IfSome result (IsNewAt bank.now (T.table table.now) fresh.now at.0) }
-{
-    match bank.term_at(at) {
-        TermView::Var(var) => {
-            let var = var as usize;
-            if !fresh.has(var) || table.value(var).is_some() {
-                return None;
-            }
-            Some(var)
-        }
-        TermView::Int(_) => None,
-        TermView::App(_, _) => None,
-    }
-}
-
-/// The variable at the right one of two places, where it is a new one that was not met, and no variable stands at the left one.
-pub fn new_at<T: Bindings>(
-    bank: &Bank,
-    table: &T,
-    fresh: &Fresh,
-    left: At,
-    right: At,
-) -> Option<usize>
-    requires table { IsTable bank.now (T.table table.now) }
-    requires left { IsEnd bank.now (T.table table.now) left.0 }
-    requires right { IsPlaceOf bank.now (T.table table.now) right.0 }
-    ensures new { IfSome result (IsNewAt bank.now (T.table table.now) fresh.now right.0) }
-    ensures meeting { IfSome result (λ _. IsMeeting bank.now (T.table table.now) left.0 right.0) }
-    ensures no_var { IfSome result (λ _. (x : ℕ) → term_tree bank.now left.0 ≡ Var x → ⊥) }
-{
-    if is_variable(bank, left) {
-        return None;
-    }
-    fresh_at(bank, table, fresh, right)
-}
-
 /// Whether a variable stands at the left one of two places, and none at the right one.
 pub fn is_met<T: Bindings>(bank: &Bank, table: &T, left: At, right: At) -> bool
     requires left { IsEnd bank.now (T.table table.now) left.0 }
@@ -175,27 +136,55 @@ pub fn is_met<T: Bindings>(bank: &Bank, table: &T, left: At, right: At) -> bool
     is_variable(bank, left) && !is_variable(bank, right)
 }
 
-/// Binds a new variable that was not met, at the right one of two places, to what the left one shows. No level falls.
+// Whether no variable stands at a place, or one with a smaller number.
+fn is_before(bank: &Bank, at: At, var: usize) -> bool
+    requires { HasTerm bank.now at.0 }
+    ensures { result ≡ true → (x : ℕ) → term_tree bank.now at.0 ≡ Var x → x < var }
+{
+    match bank.term_at(at) {
+        TermView::Var(other) => (other as usize) < var,
+        TermView::Int(_) => true,
+        TermView::App(_, _) => true,
+    }
+}
+
+/// Whether a variable is unbound, and a new one that was not met, where no variable with a greater number stands at an end. What stands there
+/// is what it is bound to then.
+pub fn is_new<T: Bindings>(bank: &Bank, table: &T, fresh: &Fresh, end: At, var: usize) -> bool
+    requires table { IsTable bank.now (T.table table.now) }
+    requires end { HasTerm bank.now end.0 }
+    requires below { var < count (T.table table.now) }
+    ensures { result ≡ true → IsNew bank.now (T.table table.now) fresh.now end.0 var }
+{
+    if !fresh.has(var) {
+        return false;
+    }
+    if table.value(var).is_some() {
+        return false;
+    }
+    is_before(bank, end, var)
+}
+
+/// Binds a new variable that was not met to what stands at an end. No level falls.
 pub fn bind_new<T: Bindings>(
-    table: &mut T,
     bank: &Bank,
+    table: &mut T,
     fresh: &mut Fresh,
+    end: At,
     var: usize,
-    left: At,
-    right: At,
 ) -> Result<(), OutOfMemory>
     requires table { IsTable bank.now (T.table table.old) }
-    requires new { IsNewAt bank.now (T.table table.old) fresh.old right.0 var }
-    requires meet { IsMeeting bank.now (T.table table.old) left.0 right.0 }
-    requires no_var { (x : ℕ) → term_tree bank.now left.0 ≡ Var x → ⊥ }
-    requires fresh { AreFresh bank.now (T.table table.old) fresh.old (term_tree bank.now left.0 ∷ []) }
+    requires end { IsEnd bank.now (T.table table.old) end.0 }
+    requires below { var < count (T.table table.old) }
+    requires new { IsNew bank.now (T.table table.old) fresh.old end.0 var }
+    requires fresh { AreFresh bank.now (T.table table.old) fresh.old (term_tree bank.now end.0 ∷ []) }
     ensures grows { T.grows table.old table.new }
-    ensures meets { OnOk result (Meets bank.now (T.table table.old) (T.table table.new) (term_tree bank.now left.0)
-        (term_tree bank.now right.0) true) }
+    ensures settles { OnOk result (Settles bank.now (T.table table.old) (T.table table.new)
+        (term_tree bank.now end.0 ∷ []) (Var var ∷ []) true) }
     ensures fresh { OnOk result (LeavesFresh bank.now (T.table table.old) (T.table table.new) fresh.old fresh.new
-        (term_tree bank.now left.0 ∷ []) []) }
+        (term_tree bank.now end.0 ∷ []) []) }
 {
-    table.set(var, left)?;
+    table.set(var, end)?;
     fresh.meet(var);
     Ok(())
 }

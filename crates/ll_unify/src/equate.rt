@@ -8,7 +8,7 @@ ghost use Rattle.ll_unify.specs.Pairs.{AreClasses, ArePairs, IsPair, lefts, righ
 ghost use Rattle.ll_unify.specs.Solving.{IsSolved, Settles, wanted};
 
 use crate::Bindings;
-use crate::bind::{bind, bind_new, is_met, new_at};
+use crate::bind::{bind, is_met};
 use crate::classes::Classes;
 use crate::fresh::Fresh;
 use crate::meet::{Compared, Difference, Pair, compare, next_difference};
@@ -212,10 +212,6 @@ pub fn unify_end<T: Bindings>(
         → LeavesFresh bank.now (T.table table.old) (T.table table.new) fresh.old fresh.new
         (term_tree bank.now left.0 ∷ []) []) }
 {
-    if let Some(var) = new_at(bank, table, fresh, left, right) {
-        bind_new(table, bank, fresh, var, left, right)?;
-        return Ok(true);
-    }
     if is_met(bank, table, left, right) {
         let mut seen = Seen::new(alloc);
         return bind(alloc, bank, table, &mut seen, fresh, left, right);

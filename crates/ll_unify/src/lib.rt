@@ -22,6 +22,7 @@ ghost use Rattle.ll_bank.specs.Nodes.{term_trees, AllInTerms, Extends};
 ghost use Rattle.ll_laws.specs.Unify.{mgu, vars_below};
 ghost use Rattle.ll_unify.specs.Unifies.{solved_of, HasEntries, IsBest};
 
+pub use bind::{bind_new, is_new};
 pub use carry::{Carrier, read_into};
 pub use equate::{unify, unify_end};
 pub use frame::Frame;

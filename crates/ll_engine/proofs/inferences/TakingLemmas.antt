@@ -1,10 +1,11 @@
 -- A leaf taken for the atom in front of a machine's agenda.
-use Rattle.std.proofs.Common.{drop, ◌≡◌, ◌≢◌, ℕ, zero, suc, inl, inr, ◌+◌, ◌<◌, ◌≤◌, List, [], ◌∷◌, ◌++◌, length, map, All, get_or, refl, ap, sym, subst, ◌∙◌}
+use Rattle.std.proofs.Common.{drop, ◌≡◌, ◌≢◌, ℕ, zero, suc, inl, inr, ◌+◌, ◌-◌, ◌<◌, ◌≤◌, List, [], ◌∷◌, ◌++◌}
+use Rattle.std.proofs.Common.{length, map, All, get_or, refl, ap, sym, subst, ◌∙◌}
 use Rattle.std.proofs.Common.{arith, Option, Some, None, Bool, true, false}
 use Rattle.std.specs.Prelude.{flat_map, slice_index_or, slice_get, option_map, option_and_then, replicate, ◌&&◌, nat_le, slice_index}
 use Rattle.std.specs.List.{list_all, Contains}
 use Rattle.std.proofs.lemmas.Bool.{lt-ltb, ltb-true, cases_lt, and_from as and_intro}
-use Rattle.std.proofs.lemmas.List.{map-append, length-append, length-replicate, length-map}
+use Rattle.std.proofs.lemmas.List.{map-append, length-append, length-replicate, length-map, length-drop}
 use Rattle.std.proofs.lemmas.List.Elements.{All-append, All-contains, All-map, All-tail}
 use Rattle.std.proofs.lemmas.Option.{slice_get-get_or}
 use Rattle.std.proofs.lemmas.List.Folds.{list_all-append}
@@ -31,6 +32,7 @@ use Rattle.ll_laws.proofs.CallerLemmas.{IsClosing, ways-sub, sub_leaf, sub_premi
 use Rattle.ll_laws.proofs.CallerLemmas.{Fit, AllFit, GoesToFitting, Grows, fit_of_made, fit-more}
 use Rattle.ll_laws.proofs.CallerLemmas.{fit-sub, fit-vars, fit-eigens, levels-replicate, level_up_to, new_level, occurs_below, fits_of_formula, fits-more}
 use Rattle.ll_laws.proofs.CallerLemmas.{formula-more, LeafFits, leaf-fits, steps_consistent}
+use Rattle.ll_store.specs.Environments.{values_before}
 use Rattle.ll_freeze.specs.Resting.{RestsOn}
 use Rattle.ll_freeze.specs.Keyed.{AreKeyed}
 use Rattle.ll_freeze.proofs.CallerLemmas.{clauses_of, clauses-picked, keyed-alike, keyed-later}
@@ -56,9 +58,9 @@ use Rattle.ll_unify.proofs.CallerLemmas.{table-extends, cells-below, place-below
 use Rattle.ll_unify.proofs.CallerLemmas.{clear-of, clear-var}
 use Rattle.ll_engine.proofs.machine.ReadLemmas.{reading_same, reading_past, read_same, length_variables, fits_table, with_cells, same_table, table_more}
 use Rattle.ll_engine.proofs.machine.ReadLemmas.{table_values, reads_more}
-use Rattle.ll_engine.proofs.machine.CellLemmas.{all_drop}
 use Rattle.ll_engine.proofs.machine.MachineLemmas.{agenda_shown, goal_in_front}
 use Rattle.ll_engine.proofs.machine.LaterLemmas.{items_later}
+use Rattle.ll_engine.proofs.inferences.WayLemmas.{env_is, env_before}
 use Rattle.ll_engine.proofs.inferences.OwnTries.{all_own}
 use Rattle.ll_engine.proofs.inferences.TakeLemmas.{at_their_labels, entry_there}
 use Rattle.ll_engine.proofs.inferences.StepLemmas.{atom_step, leaf_read, way_read}
@@ -541,20 +543,31 @@ module _ (m : Parts) (f : Fits m) where
           pub table : IsTable bank start
           pub atom_place : IsPlaceOf bank start atom.0
           pub head_inside : HasTerm bank head.0
-          pub values_inside : AllInTerms bank values
+          pub few : length values ≤ length start.levels
+          pub variables : env_of bank values ≡ values_before (length start.levels) (length values)
           pub heads : applies_heads (shut_in bank values) ≡ true
           pub vars : HasCells bank start (shut_in bank values)
-          pub apart : (x : ℕ) → length m.terms ≤ x → x < length start.levels → StandsNowhere bank start (term_tree bank atom.0 ∷ []) x
+          pub apart : (x : ℕ) → length start.levels - length values ≤ x → x < length start.levels
+              → StandsNowhere bank start (term_tree bank atom.0 ∷ []) x
+
+        own_count : length (drop (length m.terms) terms) ≡ o.count
+        own_count = let d = length-drop (length m.terms) terms in let n = count_is in omega (arith, d, n)
+
+        ends_there : length m.terms + o.count ≡ length start.levels
+        ends_there = let v = variable_count in let s = sized in omega (arith, v, s)
 
         ready_now : IsReady mid (drop (length m.terms) terms)
         ready_now = record {
           table = start_table;
           atom_place = atom_place;
           head_inside = o.inside;
-          values_inside = all_drop (λ (a : At). HasTerm mid a.0) (length m.terms) terms o.terms_inside;
+          few = let n = own_count in let s = sized in omega (arith, n, s);
+          variables = env_is mid terms (length m.terms) o.count o.variables
+              ∙ (env_before (length m.terms) o.count
+              ∙ (λ i. values_before (ends_there i) (sym own_count i)));
           heads = o.heads;
           vars = cells-below mid start shut start_table ((λ i. vars_below (sized i) (term_is shut i)) ∙ head_below);
-          apart = atom_apart;
+          apart = λ x l b. atom_apart x (let n = own_count in let v = variable_count in let s = sized in omega (arith, n, v, s, l)) b;
         }
 
         -- over an equal bank

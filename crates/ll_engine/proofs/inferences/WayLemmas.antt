@@ -26,6 +26,7 @@ use Rattle.ll_laws.proofs.CallerLemmas.{Grows, Closes, Widens, FormFits, fits_of
 use Rattle.ll_laws.proofs.CallerLemmas.{headed_applies, all_headed}
 use Rattle.ll_agenda.specs.declared.agenda.Top.{Top as AgendaTop}
 use Rattle.ll_agenda.specs.Frames.{Frames, ShowsItems, items_at}
+use Rattle.ll_store.specs.Environments.{values_before}
 use Rattle.ll_freeze.specs.declared.machine.Item.{Item}
 use Rattle.ll_freeze.specs.declared.machine.Item.TheVariants.{Goal}
 use Rattle.ll_engine.specs.declared.open.Side.{Side as LeafSide}
@@ -190,6 +191,13 @@ env_is nodes terms before count e =
     (drop_trees nodes before terms ∙ (ap (drop before) (e ∙ (vars_split 0 before count ∙ ap (λ b. vars_from 0 before ++ vars_from b count) z))
     ∙ drop_first (vars_from 0 before) (vars_from before count) before (length-vars 0 before)))
     ∙ env_push before count)
+
+-- it is that of the last variables
+pub env_before : (before n : ℕ) → env_vars before n ≡ values_before (before + n) n
+env_before before zero = refl
+env_before before (suc n) =
+    (λ i. Some (Var ((let e : before + n ≡ before + suc n - 1 = omega arith in e) i)) ∷ env_before before n i)
+    ∙ ap (λ m. Some (Var (before + suc n - 1)) ∷ values_before m n) (let e : before + n ≡ before + suc n - 1 = omega arith in e)
 
 -- so is the part of the list of variables that is lent
 pub slice_env : (nodes : Nodes) (lent terms : List At) (from before count : ℕ) → lent ≡ terms → from ≡ before

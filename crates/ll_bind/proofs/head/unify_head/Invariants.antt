@@ -1,8 +1,8 @@
 use Rattle.std.specs.Prelude.{[], ◌∷◌}
 use Rattle.ll_bank.specs.Term.{close}
 use Rattle.ll_bank.specs.Nodes.{term_tree}
-use Rattle.ll_bank.specs.Closing.{env_of}
 use Rattle.ll_unify.specs.Solving.{wanted}
+use Rattle.ll_store.specs.Environments.{values_in}
 use Rattle.ll_store.specs.Stored.{stored, KeepsMarks}
 use Rattle.ll_store.specs.Tables.{table_of}
 use Rattle.ll_bind.specs.Heads.{pending}
@@ -13,8 +13,8 @@ abbrev pub invariant-loop-next : goal.invariant-loop-next
 invariant-loop-next l = record {
   matching : IsMatching l.fn.store.bank l.store.bank (table_of l.fn.store.cells.cells) (table_of l.store.cells.cells)
       (wanted l.fn.store.bank (table_of l.fn.store.cells.cells) (term_tree l.fn.store.bank l.fn.atom.0 ∷ [])
-      (close (env_of l.fn.store.bank l.values) (term_tree l.fn.store.bank l.fn.head.0) ∷ []))
-      l.fresh l.values (pending l.next l.equations.items);
+      (close (values_in l.environment) (term_tree l.fn.store.bank l.fn.head.0) ∷ []))
+      l.fresh (values_in l.environment) (pending l.next l.equations.items);
   marks : KeepsMarks (stored l.fn.store) (stored l.store);
 }
 

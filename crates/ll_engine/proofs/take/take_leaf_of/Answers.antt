@@ -74,7 +74,7 @@ unify_leaf-requires-clause-head c =
 
 pub unify_leaf-requires-clause-variables : goal.unify_leaf-requires-clause-variables
 unify_leaf-requires-clause-variables c =
-    let f = facts (goal.at.unify_leaf-requires-clause-variables c).After-deref in f.ready.values_inside
+    let f = facts (goal.at.unify_leaf-requires-clause-variables c).After-deref in f.ready.variables
 
 pub unify_leaf-requires-clause-heads : goal.unify_leaf-requires-clause-heads
 unify_leaf-requires-clause-heads c =
@@ -84,10 +84,13 @@ pub unify_leaf-requires-clause-vars : goal.unify_leaf-requires-clause-vars
 unify_leaf-requires-clause-vars c =
     let f = facts (goal.at.unify_leaf-requires-clause-vars c).After-deref in f.ready.vars
 
+pub unify_leaf-requires-clause-few : goal.unify_leaf-requires-clause-few
+unify_leaf-requires-clause-few c =
+    let f = facts (goal.at.unify_leaf-requires-clause-few c).After-deref in f.ready.few
+
 pub unify_leaf-requires-clause-new : goal.unify_leaf-requires-clause-new
-unify_leaf-requires-clause-new c = λ x l.
-    let f = facts (goal.at.unify_leaf-requires-clause-new c).After-deref in
-    f.ready.apart x (subst (λ (n : ℕ). n ≤ x) (c.len-before.ensures ∙ c.args.machine.now.terms.ok.0) l)
+unify_leaf-requires-clause-new c =
+    let f = facts (goal.at.unify_leaf-requires-clause-new c).After-deref in f.ready.apart
 
 pub use_entry-requires-clause-found : goal.use_entry-requires-clause-found
 use_entry-requires-clause-found c = c.requires.found

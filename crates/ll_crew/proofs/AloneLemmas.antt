@@ -9,13 +9,16 @@ use Rattle.ll_laws.specs.Sound.{Every}
 use Rattle.ll_laws.specs.Problem.{ProblemTree, problem_events, problem_cost}
 use Rattle.ll_core.proofs.CallerLemmas.{every_more, every_front, every_back}
 use Rattle.ll_order.specs.declared.outlet.Outlet.{Ghosts}
-use Rattle.ll_order.specs.Outlets.{Gives, GivesPrefix, Refuses}
+use Rattle.ll_order.specs.Outlets.{Gives, GivesPrefix, Refuses, CountsOf}
 use Rattle.ll_order.proofs.CallerLemmas.{gives_more, refuses_more, no_count, counts_more}
 use Rattle.ll_engine.specs.Seen.{Owing}
 use Rattle.ll_engine.specs.Steps.{fresh}
 use Rattle.ll_crew.specs.Leading.{Kept}
 use Rattle.ll_crew.specs.Alone.{IsAlone}
 use Rattle.ll_crew.specs.Pieces.{Stretched}
+
+zero_plus : (n : ℕ) → 0 + n ≡ n
+zero_plus n = omega arith
 
 cost_moves : (made cost more less k : ℕ) → less ≤ cost → cut_count more ≡ cut_count (made + (cost - less)) → cut_count (made + cost) ≡ k
     → cut_count (more + less) ≡ k
@@ -92,6 +95,22 @@ module _ {O F : Type 0} (ways : Ghosts O F) (start : O) (p : ProblemTree) where
       alone_ends out' g nothing =
           let all : problem_events p ≡ a.done ++ es = in_order ∙ ap (λ l. a.done ++ l) (ap (λ l. es ++ l) nothing ∙ append-nil es) in
           subst (λ l. Gives ways.takes start l out') (sym all) (gives_more ways.takes ways.breaks start out out' a.done es a.giving.given g)
+
+      -- and all was counted
+      pub alone_counts : (counts' : Counts) (made : ℕ) → made ≤ 18446744073709551615 → made ≡ new.made
+          → counts'.answers ≡ cut_count (counts.answers + count_by is_answer es) → counts'.reached ≡ cut_count (counts.reached + count_by is_reached es)
+          → new.events ≡ [] → new.cost ≡ 0
+          → CountsOf (record { answers = counts'.answers; reached = counts'.reached; inferences = made }) (problem_events p) (problem_cost p)
+      alone_counts counts' made fits is answers reached nothing free =
+          let all : a.done ++ es ≡ problem_events p = sym (in_order ∙ ap (λ l. a.done ++ l) (ap (λ l. es ++ l) nothing ∙ append-nil es)) in
+          let answered = counts_more is_answer 0 counts.answers counts'.answers a.done es a.counting.answers answers in
+          let stopped = counts_more is_reached 0 counts.reached counts'.reached a.done es a.counting.reached reached in
+          let spent : cut_count (new.made + new.cost) ≡ cut_count (problem_cost p)
+          = cost_moves old.made old.cost new.made new.cost (cut_count (problem_cost p)) s.cost s.made a.cost in (
+            answered ∙ ap cut_count (zero_plus (count_by is_answer (a.done ++ es)) ∙ ap (count_by is_answer) all),
+            stopped ∙ ap cut_count (zero_plus (count_by is_reached (a.done ++ es)) ∙ ap (count_by is_reached) all),
+            omega (arith, spent, free, is, fits),
+          )
 
       pub alone_breaks : (out' : O) → GivesPrefix ways.takes ways.breaks out es out' → GivesPrefix ways.takes ways.breaks start (problem_events p) out'
       alone_breaks out' (inl (front, back, is, g)) =

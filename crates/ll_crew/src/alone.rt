@@ -4,7 +4,6 @@ ghost use Rattle.std.specs.Arc.{arc_value};
 ghost use Rattle.ll_laws.specs.Problem.{problem_events, problem_cost};
 ghost use Rattle.ll_laws.specs.Sound.{Every};
 ghost use Rattle.ll_laws.specs.Valid.{IsValid};
-ghost use Rattle.ll_engine.specs.Steps.{fresh};
 ghost use Rattle.ll_freeze.specs.Indexed.{IsIndexOf};
 ghost use Rattle.ll_order.specs.Outlets.{Rose, Gives, GivesPrefix, CountsOf};
 ghost use Rattle.ll_crew.specs.declared.fault.CrewFault.{CrewFault};
@@ -20,8 +19,8 @@ use ll_order::Outlet;
 use std::alloc::Global;
 use std::sync::Arc;
 
-/// Searches a valid problem by one engine with an index of its clauses, and gives the outlet what was found after every few steps. Its clauses are those
-/// of [`crew`](crate::crew).
+/// Searches a valid problem by one engine with an index of its clauses, and gives the outlet what was found after every few steps. Its
+/// clauses are those of [`crew`](crate::crew).
 pub(crate) fn search_alone<'p, O: Outlet>(
     alloc: Global,
     problem: &'p Problem,
@@ -42,27 +41,6 @@ pub(crate) fn search_alone<'p, O: Outlet>(
     let Ok(mut engine) = Engine::start_with(alloc, problem, index) else {
         return Err(CrewFault::OutOfMemory);
     };
-    let given = give_each(alloc, &mut engine, out);
-    drop(engine);
-    given
-}
-
-// Gives the outlet all events of a new engine, those of one stretch of its steps at a time.
-fn give_each<'p, O: Outlet>(
-    alloc: Global,
-    engine: &mut Engine<'p>,
-    out: &mut O,
-) -> Result<Counts, CrewFault>
-    requires starts { engine.old ≡ fresh engine.old.problem }
-    requires suits { O.Found.suits engine.old.problem }
-    requires welcome { Every (O.welcome out.old) (problem_events engine.old.problem) }
-    ensures given { OnOk result (Gives O.takes out.old (problem_events engine.old.problem) out.new) }
-    ensures counts { IfOk result (λ counts. CountsOf counts (problem_events engine.old.problem)
-        (problem_cost engine.old.problem)) }
-    ensures refused { OnErr result (GivesPrefix O.takes O.breaks out.old (problem_events engine.old.problem) out.new) }
-    ensures write { result ≡ Err CrewFault.Write → Rose (O.faults out.old) (O.faults out.new) }
-    ensures kept { Kept O.Outlet out.old out.new }
-{
     let mut counts = Counts {
         answers: 0,
         reached: 0,
@@ -70,7 +48,7 @@ fn give_each<'p, O: Outlet>(
     };
     'stretches: loop {
         let mut events = Vec::new(alloc);
-        let Ok(done) = stretch(engine, &mut events, false) else {
+        let Ok(done) = stretch(&mut engine, &mut events, false) else {
             return Err(CrewFault::OutOfMemory);
         };
         match give_some(events, counts, out) {

@@ -14,7 +14,7 @@ ghost use Rattle.ll_crew.specs.declared.fault.CrewFault.{CrewFault};
 use crate::fault::CrewFault;
 use crate::job::Sharing;
 use crate::team::Team;
-use crate::whole::crew_by;
+use crate::whole::crew_with;
 use ll_edge::Gate;
 use ll_first::{Enough, Until};
 use ll_index::Index;
@@ -68,7 +68,7 @@ pub fn crew_first<'p, R: Threads + Wait + Sync, G: Gate, E: Enough>(
         gate,
     };
     let mut until = Until { out, ended: false };
-    give_until(&team, problem, index, &mut until)
+    give_until(&team, problem, &index, &mut until)
 }
 
 /// The same, with an index of the problem's clauses that was made before: problems of the same clauses may share it.
@@ -96,9 +96,6 @@ pub fn crew_first_with<'p, R: Threads + Wait + Sync, G: Gate, E: Enough>(
     ensures faults_kept { E.faults out.old ≤ E.faults out.new }
     ensures welcome_kept { (e : Event) → E.welcome out.old e ↔ E.welcome out.new e }
 {
-    let Ok(index) = Arc::try_clone(index) else {
-        return Err(CrewFault::OutOfMemory);
-    };
     let mut until = Until { out, ended: false };
     give_until(team, problem, index, &mut until)
 }
@@ -107,12 +104,12 @@ pub fn crew_first_with<'p, R: Threads + Wait + Sync, G: Gate, E: Enough>(
 fn give_until<'p, 's, R: Threads + Wait + Sync, G: Gate, E: Enough>(
     team: &Team<'_, R, G>,
     problem: &'p Problem,
-    index: Arc<Index>,
+    index: &Arc<Index>,
     until: &mut Until<'s, E>,
 ) -> Result<Option<Counts>, CrewFault>
     requires valid { IsValid problem.now }
     requires suits { E.Found.suits problem.now }
-    requires index { IsIndexOf problem.now (arc_value index) }
+    requires index { IsIndexOf problem.now (arc_value index.now) }
     requires starts { until.old.ended ≡ false }
     requires none_yet { E.answers until.old.out.now ≡ 0 }
     requires welcome { Every (E.welcome until.old.out.now) (problem_events problem.now) }
@@ -131,7 +128,7 @@ fn give_until<'p, 's, R: Threads + Wait + Sync, G: Gate, E: Enough>(
     ensures faults_kept { E.faults until.old.out.now ≤ E.faults until.new.out.now }
     ensures welcome_kept { (e : Event) → E.welcome until.old.out.now e ↔ E.welcome until.new.out.now e }
 {
-    match crew_by(team, problem, index, Sharing::AfterAnswer, until) {
+    match crew_with(team, problem, index, Sharing::AfterAnswer, until) {
         Ok(counts) => Ok(Some(counts)),
         Err(_) if until.ended => Ok(None),
         Err(fault) => Err(fault),

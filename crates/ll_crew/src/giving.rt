@@ -78,20 +78,29 @@ fn give_rest<'p, O: Outlet>(
     }
 }
 
+/// How the work of the worker that leads ended.
+#[derive(Drop)]
+pub struct Lead {
+    /// What it has told the outlet.
+    pub told: Delivery,
+    /// Whether the workers came to the end, or why it left.
+    pub done: Result<bool, OutOfMemory>,
+}
+
 /// Gives the outlet what is left, where the workers came to the end, and says else why they stopped.
 pub fn finish<'p, O: Outlet>(
     problem: &'p Problem,
     pool: Pool<Offer<'p, O::Found>>,
     start: &Snapshot<O>,
-    told: &Delivery,
-    done: Result<bool, OutOfMemory>,
+    lead: &Lead,
     out: &mut O,
 ) -> Result<Counts, CrewFault>
-    requires leads { told.now.leads ≡ true }
-    requires done { done ≡ Ok true → (pool.untried ≡ 0) × (pool.busy ≡ 0)
-        × Leads O.Outlet start.now.value problem.now pool out.old told.now.counts }
-    requires left { IfOk done (λ done. done ≡ false → StoppedOf O.Outlet start.now.value problem.now out.old told.now) }
-    requires failed { OnErr done (StoppedOf O.Outlet start.now.value problem.now out.old told.now) }
+    requires leads { lead.now.told.leads ≡ true }
+    requires done { lead.now.done ≡ Ok true → (pool.untried ≡ 0) × (pool.busy ≡ 0)
+        × Leads O.Outlet start.now.value problem.now pool out.old lead.now.told.counts }
+    requires left { IfOk lead.now.done
+        (λ done. done ≡ false → StoppedOf O.Outlet start.now.value problem.now out.old lead.now.told) }
+    requires failed { OnErr lead.now.done (StoppedOf O.Outlet start.now.value problem.now out.old lead.now.told) }
     ensures given { OnOk result (Gives O.takes start.now.value (problem_events problem.entry.now) out.new) }
     ensures counts { IfOk result (λ counts. CountsOf counts (problem_events problem.entry.now)
         (problem_cost problem.entry.now)) }
@@ -100,11 +109,11 @@ pub fn finish<'p, O: Outlet>(
     ensures write { result ≡ Err CrewFault.Write → Rose (O.faults start.now.value) (O.faults out.new) }
     ensures kept { Kept O.Outlet start.now.value out.new }
 {
-    if let Ok(true) = done {
-        return give_rest(problem, pool, start, told.counts, out);
+    if let Ok(true) = lead.done {
+        return give_rest(problem, pool, start, lead.told.counts, out);
     }
     drop(pool);
-    match told.fault {
+    match lead.told.fault {
         Some(fault) => Err(fault_of(fault)),
         None => Err(CrewFault::OutOfMemory),
     }

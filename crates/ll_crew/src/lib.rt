@@ -22,6 +22,7 @@ mod worker;
 pub use bell::Bell;
 pub use fault::CrewFault;
 pub use first::{crew_first, crew_first_with};
+pub use job::Sharing;
 pub use pool::crew_of;
 pub use team::Team;
 pub use whole::{crew, crew_with};

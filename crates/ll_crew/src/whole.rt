@@ -16,7 +16,7 @@ use crate::alone::search_alone;
 use crate::bell::Bell;
 use crate::crowd::work_together;
 use crate::fault::CrewFault;
-use crate::giving::finish;
+use crate::giving::{Lead, finish};
 use crate::job::{Job, Sharing};
 use crate::lead::Delivery;
 use crate::offer::Offer;
@@ -85,7 +85,8 @@ fn search<'p, R: Threads + Wait + Sync, G: Gate, O: Outlet>(
     };
     let (others, done) = work_together(&job, &mut first, &mut told, out, others);
     let closed = close(problem, pool, first, others);
-    finish(problem, closed, &start, &told, done, out)
+    let lead = Lead { told, done };
+    finish(problem, closed, &start, &lead, out)
 }
 
 /// Searches a valid problem with 1 to 64 workers, of which the caller is the first, and gives the outlet the events of the search in
@@ -125,14 +126,16 @@ pub fn crew<'p, R: Threads + Wait + Sync, G: Gate, O: Outlet>(
         workers,
         gate,
     };
-    crew_by(&team, problem, index, Sharing::WhereIdle, out)
+    crew_with(&team, problem, &index, Sharing::WhereIdle, out)
 }
 
-/// The same crew, with an index of the problem's clauses that was made before: problems of the same clauses may share it.
+/// The same crew, with an index of the problem's clauses that was made before: problems of the same clauses may share it. It is told
+/// when workers leave choice points to others.
 pub fn crew_with<'p, R: Threads + Wait + Sync, G: Gate, O: Outlet>(
     team: &Team<'_, R, G>,
     problem: &'p Problem,
     index: &Arc<Index>,
+    sharing: Sharing,
     out: &mut O,
 ) -> Result<Counts, CrewFault>
     requires valid { IsValid problem.now }
@@ -150,29 +153,6 @@ pub fn crew_with<'p, R: Threads + Wait + Sync, G: Gate, O: Outlet>(
     let Ok(index) = Arc::try_clone(index) else {
         return Err(CrewFault::OutOfMemory);
     };
-    crew_by(team, problem, index, Sharing::WhereIdle, out)
-}
-
-// The same, with an index of the problem's clauses, where workers share their choice points in some way.
-pub(crate) fn crew_by<'p, R: Threads + Wait + Sync, G: Gate, O: Outlet>(
-    team: &Team<'_, R, G>,
-    problem: &'p Problem,
-    index: Arc<Index>,
-    sharing: Sharing,
-    out: &mut O,
-) -> Result<Counts, CrewFault>
-    requires valid { IsValid problem.now }
-    requires suits { O.Found.suits problem.now }
-    requires index { IsIndexOf problem.now (arc_value index) }
-    requires welcome { Every (O.welcome out.old) (problem_events problem.now) }
-    ensures given { OnOk result (Gives O.takes out.old (problem_events problem.entry.now) out.new) }
-    ensures counts { IfOk result (λ counts. CountsOf counts (problem_events problem.entry.now)
-        (problem_cost problem.entry.now)) }
-    ensures refused { OnErr result (GivesPrefix O.takes O.breaks out.old (problem_events problem.entry.now) out.new) }
-    ensures write { result ≡ Err CrewFault.Write → Rose (O.faults out.old) (O.faults out.new) }
-    ensures faults_kept { O.faults out.old ≤ O.faults out.new }
-    ensures welcome_kept { (e : Event) → O.welcome out.old e ↔ O.welcome out.new e }
-{
     if team.workers == 1 {
         team.gate.pause(0, 0);
         return search_alone(team.alloc, problem, index, out);

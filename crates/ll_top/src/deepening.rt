@@ -21,7 +21,7 @@ ghost use Rattle.ll_top.specs.forms.Words.{shown_deepen};
 use crate::forms::{DeepenCommand, RunCommand};
 use crate::made_runs::count_events;
 use crate::refused::{Names, end_refused};
-use crate::run::{Found, Wanted, run_with};
+use crate::run::{Found, Wanted, run};
 use crate::texts::{Refusal, prepare, write_heading};
 use crate::{answers_are_what_follows, found_status};
 use ll_crew::Team;
@@ -128,7 +128,7 @@ fn run_deepened<R: Threads + Wait + Sync, O: Sink, G: Gate>(
         proofs,
         limit: None,
     };
-    run_with(team, &wanted, sink)
+    run(team, &wanted, sink)
 }
 
 // Gives a problem the bound that decides: the first of the series at which the search has an answer or reaches no bound, and the last one

@@ -50,6 +50,7 @@ use deepening::serve_deepen;
 pub use faultless::made_texts;
 use ll_crew::Team;
 use ll_edge::{FileShelf, Gate, OpenGate, Shelf, Sink, StdSink};
+use ll_index::Index;
 use ll_laws::answers_are_shown;
 use ll_lexer::one_reading;
 use ll_parser::{one_program, one_query};
@@ -63,7 +64,7 @@ pub use rewriting::{
     converted_comes_back, converted_is_judged_alike, layout_is_aside, printed_is_aside,
     written_is_read_back,
 };
-use run::{Found, run};
+use run::{Found, Wanted, run};
 use session::serve_session;
 pub use spelled::answers_are_spelled;
 use std::alloc::Global;
@@ -414,9 +415,14 @@ fn run_texts<R: Threads + Wait + Sync, F: Shelf, O: Sink, G: Gate>(
         (O.taken sink.old) (O.taken sink.new) (status_of_found found)) }
 {
     let problem = prepare(team.alloc, command, shelf)?;
-    let found = run(team, &problem, command.proofs, command.first, sink);
-    drop(problem);
-    found
+    let index = Index::shared(team.alloc, &problem)?;
+    let wanted = Wanted {
+        problem: &problem,
+        index: &index,
+        proofs: command.proofs,
+        limit: command.first,
+    };
+    run(team, &wanted, sink)
 }
 
 // The status of what was found.

@@ -31,7 +31,7 @@ use crate::lines::Silent;
 use crate::refused::{Names, end_refused};
 use crate::run::{Found, write_summary};
 use crate::texts::{Refusal, problem_of};
-use ll_crew::{Team, crew_with};
+use ll_crew::{Sharing, Team, crew_with};
 use ll_edge::{Gate, Sink};
 use ll_index::Index;
 use ll_laws::{Counts, Problem};
@@ -137,7 +137,7 @@ pub fn count_events<R: Threads + Wait + Sync, G: Gate>(
     ensures refused { IfErr result (λ refusal. refusal ≡ OutOfMemory) }
 {
     let mut out = Silent {};
-    match crew_with(team, problem, index, &mut out) {
+    match crew_with(team, problem, index, Sharing::WhereIdle, &mut out) {
         Ok(counts) => Ok(counts),
         // No write of a silent outlet fails.
         Err(_) => Err(Refusal::OutOfMemory),

@@ -19,7 +19,7 @@ ghost use Rattle.ll_top.specs.Proved.{events_told};
 use crate::lines::{Asked, Line, Lined, Writing};
 use crate::texts::{Refusal, write_parts};
 use itoa::Buffer;
-use ll_crew::{Team, crew_first_with, crew_with};
+use ll_crew::{Sharing, Team, crew_first_with, crew_with};
 use ll_edge::{Gate, Sink, WriteFailed, write_all};
 use ll_first::First;
 use ll_index::Index;
@@ -61,39 +61,9 @@ pub enum Ended {
     Stopped(u32),
 }
 
-/// Does what [`run_with`] does, with an index that it makes.
-pub fn run<R: Threads + Wait + Sync, O: Sink, G: Gate>(
-    team: &Team<'_, R, G>,
-    problem: &Problem,
-    proofs: bool,
-    limit: Option<u32>,
-    sink: &mut O,
-) -> Result<Found, Refusal>
-    requires valid { IsValid problem.now }
-    requires limit { IfSome limit (λ k. 0 < k) }
-
-    ensures faults_kept { O.faults sink.old ≤ O.faults sink.new }
-    ensures sink_told { SinkTold (O.faults sink.old) (O.faults sink.new) result }
-    ensures found { IfOk result (λ found. status_of_found found ≡ status_of_run limit problem.now) }
-    ensures text { OnOk result (Some (O.taken sink.new)
-        ≡ append_known (Some (O.taken sink.old)) (text_of_run limit proofs problem.now)) }
-    ensures refused { IfErr result (IsRunRefusal (O.faults sink.old) (O.faults sink.new)) }
-    ensures prefix { OnErr result (AppendsFront (Some (O.taken sink.old)) (text_of_run limit proofs problem.now)
-        (Some (O.taken sink.new))) }
-{
-    let index = Index::shared(team.alloc, problem)?;
-    let wanted = Wanted {
-        problem,
-        index: &index,
-        proofs,
-        limit,
-    };
-    run_with(team, &wanted, sink)
-}
-
 /// Runs the problem, to its end or until it has as many answers as are wanted. Writes these, with proofs or without, and behind them the
 /// last line, and answers what was found. After a refusal a prefix of the text was written.
-pub fn run_with<R: Threads + Wait + Sync, O: Sink, G: Gate>(
+pub fn run<R: Threads + Wait + Sync, O: Sink, G: Gate>(
     team: &Team<'_, R, G>,
     wanted: &Wanted<'_>,
     sink: &mut O,
@@ -307,7 +277,13 @@ fn give<'p, 's, E: Lined, R: Threads + Wait + Sync, O: Sink, G: Gate>(
 {
     answers_are_shown();
     match wanted.limit {
-        None => match crew_with(team, wanted.problem, wanted.index, &mut out.out) {
+        None => match crew_with(
+            team,
+            wanted.problem,
+            wanted.index,
+            Sharing::WhereIdle,
+            &mut out.out,
+        ) {
             Ok(counts) => Ok(Ended::Whole(counts)),
             Err(_) => Err(refusal_of(out.out.failed)),
         },

@@ -25,7 +25,7 @@ use crate::answers_are_what_follows;
 use crate::forms::SessionCommand;
 use crate::indexes::program_index;
 use crate::refused::{Names, end_refused};
-use crate::run::{Wanted, run_with};
+use crate::run::{Wanted, run};
 use crate::texts::{Cause, Refusal, Role, load_text, read, refusal, write_heading, write_line};
 use ll_crew::Team;
 use ll_edge::{Gate, Shelf, Sink};
@@ -271,7 +271,7 @@ fn reply_with_run<R: Threads + Wait + Sync, O: Sink, G: Gate>(
         proofs: base.session.proofs,
         limit: None,
     };
-    run_with(team, &wanted, sink)?;
+    run(team, &wanted, sink)?;
     Ok(())
 }
 

@@ -17,7 +17,7 @@ returns-clause-ends g c =
     run-deepened c.args.proofs c.args.series.now c.args.problem.now _ c.in_ok-bound.bound _ _ _ (Some (g.O.Sink.taken c.args.sink.now)) _ _ _
     c.in_ok-bound.ensures.decides
     c.in_ok-bound.ensures.problem c.in_ok-write_heading.ensures.faults_kept
-    c.in_ok-write_heading.ensures.line c.run_with.ensures.found c.run_with.ensures.text c.run_with.ensures.refused c.run_with.ensures.prefix
+    c.in_ok-write_heading.ensures.line c.run.ensures.found c.run.ensures.text c.run.ensures.refused c.run.ensures.prefix
 
 pub returns-in_err-bound-clause-faults_kept : goal.returns-in_err-bound-clause-faults_kept
 returns-in_err-bound-clause-faults_kept g c = le_refl _
@@ -31,13 +31,13 @@ pub returns-in_err-write_heading-clause-faults_kept : goal.returns-in_err-write_
 returns-in_err-write_heading-clause-faults_kept g c = c.in_err-write_heading.ensures.faults_kept
 
 pub returns-clause-faults_kept : goal.returns-clause-faults_kept
-returns-clause-faults_kept g c = le_trans c.in_ok-write_heading.ensures.faults_kept c.run_with.ensures.faults_kept
+returns-clause-faults_kept g c = le_trans c.in_ok-write_heading.ensures.faults_kept c.run.ensures.faults_kept
 
 pub returns-in_err-bound-clause-sink_told : goal.returns-in_err-bound-clause-sink_told
 returns-in_err-bound-clause-sink_told g c = sink-still _ _ c.from_residual-in_err-bound.result refl
 
 pub returns-clause-sink_told : goal.returns-clause-sink_told
-returns-clause-sink_told g c = sink-later _ _ _ _ c.in_ok-write_heading.ensures.quiet c.run_with.ensures.sink_told
+returns-clause-sink_told g c = sink-later _ _ _ _ c.in_ok-write_heading.ensures.quiet c.run.ensures.sink_told
 
 pub returns-in_err-index-clause-faults_kept : goal.returns-in_err-index-clause-faults_kept
 returns-in_err-index-clause-faults_kept g c = le_refl _

@@ -16,20 +16,20 @@ returns-in_err-write_heading-clause-prefix g c =
     on_err _ (first-cut _ _ (line (codes "query " ++ decimal c.args.number)) (whole_text c.args.base.now.session.now.proofs c.args.problem.now)
     c.in_err-write_heading.ensures.prefix)
 
-pub returns-in_err-run_with-clause-refused : goal.returns-in_err-run_with-clause-refused
-returns-in_err-run_with-clause-refused g c =
-    let p = err_from_is_err_and c.from_residual-in_err-run_with.result c.from_residual-in_err-run_with.ensures.1 in
-    rw (p.1, p.2) (refusal-later _ _ _ _ c.in_ok-write_heading.ensures.faults_kept c.in_err-run_with.ensures.refused)
+pub returns-in_err-run-clause-refused : goal.returns-in_err-run-clause-refused
+returns-in_err-run-clause-refused g c =
+    let p = err_from_is_err_and c.from_residual-in_err-run.result c.from_residual-in_err-run.ensures.1 in
+    rw (p.1, p.2) (refusal-later _ _ _ _ c.in_ok-write_heading.ensures.faults_kept c.in_err-run.ensures.refused)
 
-pub returns-in_err-run_with-clause-prefix : goal.returns-in_err-run_with-clause-prefix
-returns-in_err-run_with-clause-prefix g c =
+pub returns-in_err-run-clause-prefix : goal.returns-in_err-run-clause-prefix
+returns-in_err-run-clause-prefix g c =
     on_err _ (second-cut _ _ _ (line (codes "query " ++ decimal c.args.number)) (whole_text c.args.base.now.session.now.proofs c.args.problem.now)
-    c.in_ok-write_heading.ensures.line c.in_err-run_with.ensures.prefix)
+    c.in_ok-write_heading.ensures.line c.in_err-run.ensures.prefix)
 
 pub returns-clause-text : goal.returns-clause-text
 returns-clause-text g c =
     both-written (Some (g.O.Sink.taken c.args.sink.now)) _ _ (line (codes "query " ++ decimal c.args.number)) (whole_text c.args.base.now.session.now.proofs c.args.problem.now)
-    c.in_ok-write_heading.ensures.line c.in_ok-run_with.ensures.text
+    c.in_ok-write_heading.ensures.line c.in_ok-run.ensures.text
 
 pub returns-in_err-write_heading-clause-faults_kept : goal.returns-in_err-write_heading-clause-faults_kept
 returns-in_err-write_heading-clause-faults_kept g c = c.in_err-write_heading.ensures.faults_kept
@@ -42,19 +42,19 @@ returns-in_err-write_heading-clause-refused g c =
     let p = err_from_is_err_and c.from_residual.result c.from_residual.ensures.1 in
     rw (p.1, p.2) c.in_err-write_heading.ensures.failed
 
-pub returns-in_err-run_with-clause-faults_kept : goal.returns-in_err-run_with-clause-faults_kept
-returns-in_err-run_with-clause-faults_kept g c = le_trans c.in_ok-write_heading.ensures.faults_kept c.in_err-run_with.ensures.faults_kept
+pub returns-in_err-run-clause-faults_kept : goal.returns-in_err-run-clause-faults_kept
+returns-in_err-run-clause-faults_kept g c = le_trans c.in_ok-write_heading.ensures.faults_kept c.in_err-run.ensures.faults_kept
 
-pub returns-in_err-run_with-clause-text : goal.returns-in_err-run_with-clause-text
-returns-in_err-run_with-clause-text g c = IfOk-from_err c.from_residual-in_err-run_with.result _ c.from_residual-in_err-run_with.ensures.0
+pub returns-in_err-run-clause-text : goal.returns-in_err-run-clause-text
+returns-in_err-run-clause-text g c = IfOk-from_err c.from_residual-in_err-run.result _ c.from_residual-in_err-run.ensures.0
 
 pub returns-clause-faults_kept : goal.returns-clause-faults_kept
-returns-clause-faults_kept g c = le_trans c.in_ok-write_heading.ensures.faults_kept c.in_ok-run_with.ensures.faults_kept
+returns-clause-faults_kept g c = le_trans c.in_ok-write_heading.ensures.faults_kept c.in_ok-run.ensures.faults_kept
 
-pub returns-in_err-run_with-clause-sink_told : goal.returns-in_err-run_with-clause-sink_told
-returns-in_err-run_with-clause-sink_told g c =
-    let p = err_from_is_err_and c.from_residual-in_err-run_with.result c.from_residual-in_err-run_with.ensures.1 in
-    rw (p.1, p.2) (sink-later {A = unit.Denot} _ _ _ (Err _) c.in_ok-write_heading.ensures.quiet c.in_err-run_with.ensures.sink_told)
+pub returns-in_err-run-clause-sink_told : goal.returns-in_err-run-clause-sink_told
+returns-in_err-run-clause-sink_told g c =
+    let p = err_from_is_err_and c.from_residual-in_err-run.result c.from_residual-in_err-run.ensures.1 in
+    rw (p.1, p.2) (sink-later {A = unit.Denot} _ _ _ (Err _) c.in_ok-write_heading.ensures.quiet c.in_err-run.ensures.sink_told)
 
 pub returns-clause-sink_told : goal.returns-clause-sink_told
-returns-clause-sink_told g c = c.in_ok-run_with.ensures.sink_told ∙ c.in_ok-write_heading.ensures.quiet
+returns-clause-sink_told g c = c.in_ok-run.ensures.sink_told ∙ c.in_ok-write_heading.ensures.quiet

@@ -200,5 +200,3 @@ pub use Rattle.ll_bank.proofs.SignLemmas.{sign_refl}
 
 -- values show the same environment as their bank grows
 pub use Rattle.ll_bank.proofs.closes.Values.{env_extends}
--- what stands for a bound place that one of the values closes
-pub use Rattle.ll_bank.proofs.closes.Values.{head_value}

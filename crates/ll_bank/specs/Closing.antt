@@ -3,12 +3,25 @@ use Rattle.std.specs.Prelude.{◌≡◌, ◌≤◌, ◌+◌, ◌&&◌, ◌⊎◌
 use Rattle.ll_bank.specs.declared.At.{At}
 use Rattle.ll_bank.specs.Term.{Env, close, applies_heads}
 use Rattle.ll_bank.specs.Form.{Form, Num, close_form, form_applies_heads}
-use Rattle.ll_bank.specs.Nodes.{Nodes, term_tree, form_tree, HasTerm, HasForm, ShowsTerm, ShowsForm}
+use Rattle.ll_bank.specs.Nodes.{Nodes, term_tree, form_tree, AllInTerms, HasTerm, HasForm, ShowsTerm, ShowsForm}
+use Rattle.ll_bank.specs.declared.closing.values.Values.{Values}
+use Rattle.ll_bank.specs.declared.closing.values.Values.TheVariants.{Places, Variables}
+use Rattle.ll_bank.specs.Environments.{values_in}
 use Rattle.ll_bank.specs.Opened.{Spot}
 
 -- the values at these places, the outermost first, in place of the bound places
 abbrev pub env_of : Nodes → List At → Env
 env_of bank values = reverse (map (λ v. Some (term_tree bank v.0)) values)
+
+-- or the variables of an environment
+abbrev pub env_in : Nodes → Values → Env
+env_in bank (Places values) = env_of bank values.now
+env_in bank (Variables environment) = values_in environment
+
+-- the places are in the bank, and an environment has no more variables than there are before its end
+abbrev pub HasValues : Nodes → Values → Type 0
+HasValues bank (Places values) = AllInTerms bank values.now
+HasValues bank (Variables environment) = environment.count ≤ environment.end
 
 -- what stands for the bound places under so many quantifiers more
 abbrev pub under : Env → ℕ → Env

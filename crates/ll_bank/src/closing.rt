@@ -5,6 +5,8 @@ mod form;
 mod images;
 mod stack;
 mod term;
+mod values;
 
 pub use form::close_form;
 pub use term::close_term;
+pub use values::Values;

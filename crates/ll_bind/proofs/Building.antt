@@ -1,23 +1,21 @@
 -- Patterns with their bound places closed, and terms that are the same as these under bindings.
-use Rattle.std.proofs.Common.{◌≡◌, ℕ, zero, suc, ◌+◌, ◌-◌, ◌<◌, ◌≤◌, Bool, true, false, List, [], ◌∷◌, ◌++◌}
+use Rattle.std.proofs.Common.{◌≡◌, ℕ, zero, suc, ◌+◌, ◌<◌, ◌≤◌, Bool, true, false, List, [], ◌∷◌, ◌++◌}
 use Rattle.std.proofs.Common.{length, map, take, get_or, All, refl, ap, sym, subst, ◌∙◌}
 use Rattle.std.proofs.Common.{arith}
-use Rattle.std.specs.Prelude.{Option, Some, slice_set, reverse}
+use Rattle.std.specs.Prelude.{Option, Some, slice_set}
 use Rattle.std.proofs.lemmas.Bool.{eq-eqb}
-use Rattle.std.proofs.lemmas.List.{reverse-append, length-set, get_or-set_other, map_push, take_all, take_more, take_more_set}
+use Rattle.std.proofs.lemmas.List.{length-set, get_or-set_other, map_push, take_all, take_more, take_more_set}
 use Rattle.std.proofs.lemmas.List.Elements.{All-cons}
 use Rattle.ll_list_laws.proofs.CallerLemmas.{or_elim as or_cases}
 use Rattle.ll_bank.specs.declared.At.{At}
 use Rattle.ll_bank.specs.declared.Head.{Head}
 use Rattle.ll_bank.specs.Term.{Term, Var, Con, Ap, Env, sub, app, apply, close, occurs, not_bound}
-use Rattle.ll_bank.specs.Closing.{env_of}
 use Rattle.ll_bank.specs.Nodes.{Nodes, HasTerm, AllInTerms, ShowsTerm, Extends, term_tree, term_trees}
 use Rattle.ll_bank.proofs.CallerLemmas.{Extends-refl, Extends-trans, term_tree-extends, sub-apply}
 use Rattle.ll_unify.specs.Bindings.{Table, cell, stands, through, HasCells, IsTable, AreSame, Obeys}
 use Rattle.ll_laws.specs.Unify.{and_then, diff, diff_lists, Solved}
 use Rattle.ll_unify.specs.Solving.{Solves, Settles}
 use Rattle.ll_unify.proofs.CallerLemmas.{place-extends, table-extends, solves-alike}
-use Rattle.ll_store.specs.Environments.{values_before}
 use Rattle.ll_bind.specs.Built.{ShowsSame, AreBuilt, is_bare}
 use Rattle.ll_bind.proofs.Heads.{AllCells, place_made, close_fixed, cells_apply}
 
@@ -206,19 +204,7 @@ settles-shown old new t after place right u good tb e h s k =
     subst (λ v. Settles new t after (v ∷ []) (u ∷ []) good) (term_tree-extends e place h)
     (settles-right new t after (term_tree new place) (term_tree new right) u good (table-extends old new t tb e) s.same k)
 
--- ---- places of variables
-
--- one more value
-pub env-push : (nodes : Nodes) (vs : List At) (v : At) → env_of nodes (vs ++ v ∷ []) ≡ Some (term_tree nodes v.0) ∷ env_of nodes vs
-env-push nodes vs v =
-    ap reverse (map_push (λ (a : At). let o : Option Term = Some (term_tree nodes a.0) in o) vs v)
-    ∙ reverse-append (map (λ (a : At). let o : Option Term = Some (term_tree nodes a.0) in o) vs) (Some (term_tree nodes v.0) ∷ [])
-
--- the variable after those of an environment
-pub values-more : (first var : ℕ) → first ≤ var → values_before (var + 1) (var + 1 - first) ≡ Some (Var var) ∷ values_before var (var - first)
-values-more first var l =
-    ap (values_before (var + 1)) (let e : var + 1 - first ≡ suc (var - first) = omega (arith, l) in e)
-    ∙ ap (λ n. Some (Var n) ∷ values_before n (var - first)) (let q : var + 1 - 1 ≡ var = omega arith in q)
+-- ---- lists of places
 
 -- the front of a list is as many
 pub take-front : {A : Type 0} (xs ys : List A) (n : ℕ) → length xs ≡ n → take n (xs ++ ys) ≡ xs

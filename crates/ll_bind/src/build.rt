@@ -4,12 +4,12 @@ ghost use Rattle.ll_bank.specs.Term.{Var, Con, close, applies_heads, not_bound};
 ghost use Rattle.ll_bank.specs.Nodes.{term_tree, term_trees, HasTerm, AllInTerms, Extends, ShowsTerm};
 ghost use Rattle.ll_bank.specs.Closing.{env_of};
 ghost use Rattle.ll_unify.specs.Bindings.{IsTable, HasCells, count};
-ghost use Rattle.ll_store.specs.Environments.{values_in, IsWithin};
+ghost use Rattle.ll_bank.specs.Environments.{values_in, IsWithin};
 ghost use Rattle.ll_store.specs.Tables.{table_of};
 ghost use Rattle.ll_bind.specs.Built.{ShowsSame, IsFlat, is_bare, AreBuilt};
 
-use ll_bank::{At, Bank, Head, OutOfMemory, TermView, close_term};
-use ll_store::{Environment, Store};
+use ll_bank::{At, Bank, Environment, Head, OutOfMemory, TermView, Values, close_term};
+use ll_store::Store;
 use ll_unify::Bindings;
 
 /// So many arguments are put together without memory for a list.
@@ -213,7 +213,7 @@ fn build_head(
     }
 }
 
-/// The same for any pattern, with a new place for each variable of the environment.
+/// The same for any pattern.
 fn build_deep(store: &mut Store, pattern: At, environment: Environment) -> Result<At, OutOfMemory>
     requires table { IsTable store.old.bank (table_of store.old.cells.cells) }
     requires within { IsWithin (count (table_of store.old.cells.cells)) environment }
@@ -227,21 +227,10 @@ fn build_deep(store: &mut Store, pattern: At, environment: Environment) -> Resul
     ensures cells { store.new.cells ≡ store.old.cells }
 {
     let alloc = store.bank.alloc();
-    let values = places_of(&mut store.bank, environment)?;
-    close_term(alloc, &mut store.bank, pattern, &values)
-}
-
-/// New places of the variables of an environment, the first one first.
-fn places_of(bank: &mut Bank, environment: Environment) -> Result<Vec<At>, OutOfMemory>
-    requires { environment.count ≤ environment.end }
-    ensures inside { IfOk result (λ made. AllInTerms bank.new made.items) }
-    ensures values { IfOk result (λ made. env_of bank.new made.items ≡ values_in environment) }
-    ensures keeps { Extends bank.old bank.new }
-{
-    let mut made = Vec::new(bank.alloc());
-    for var in environment.end - environment.count..environment.end {
-        let place = bank.var(u64::from(var))?;
-        made.push(place)?;
-    }
-    Ok(made)
+    close_term(
+        alloc,
+        &mut store.bank,
+        pattern,
+        Values::Variables(environment),
+    )
 }

@@ -5,14 +5,14 @@ ghost use Rattle.ll_bank.specs.Nodes.{Nodes, term_tree, term_trees, HasTerm, Ext
 ghost use Rattle.ll_unify.specs.Bindings.{IsTable, IsPlaceOf, IsEnd, HasCells, count};
 ghost use Rattle.ll_unify.specs.Fresh.{AreFresh, LeavesFresh, StandsNowhere};
 ghost use Rattle.ll_unify.specs.Solving.{IsSolved, Settles, wanted};
-ghost use Rattle.ll_store.specs.Environments.{values_in, IsWithin};
+ghost use Rattle.ll_bank.specs.Environments.{values_in, IsWithin};
 ghost use Rattle.ll_store.specs.Stored.{stored, KeepsMarks};
 ghost use Rattle.ll_store.specs.Tables.{table_of};
 ghost use Rattle.ll_bind.specs.Heads.{equate, pending, IsOpened, IsClosed};
 
 use crate::build::{build, value_of};
-use ll_bank::{At, Bank, Head, OutOfMemory, TermView};
-use ll_store::{Environment, Store};
+use ll_bank::{At, Bank, Environment, Head, OutOfMemory, TermView};
+use ll_store::Store;
 use ll_unify::{Fresh, bind_new, is_new, unify_end, walk};
 use smallvec::SmallVec;
 

@@ -8,7 +8,7 @@ ghost use Rattle.ll_engine.specs.Opening.{IsClause, Opens, IsSide, Appends};
 
 use crate::candidates::count_leaves;
 use ll_agenda::{Agenda, Top};
-use ll_bank::{At, Bank, FormAt, FormNode, OutOfMemory, close_form};
+use ll_bank::{At, Bank, FormAt, FormNode, OutOfMemory, Values, close_form};
 use ll_freeze::Item;
 use std::alloc::Global;
 
@@ -65,12 +65,12 @@ pub fn open_leaf(
                 leaf = side.leaf;
             }
             FormNode::Lolli(premise, next) => {
-                let goal = close_form(alloc, bank, premise, &terms[from..])?;
+                let goal = close_form(alloc, bank, premise, Values::Places(&terms[from..]))?;
                 top = agenda.push(Item::Goal(goal), top)?;
                 form = next;
             }
             FormNode::Imp(premise, next) => {
-                let goal = close_form(alloc, bank, premise, &terms[from..])?;
+                let goal = close_form(alloc, bank, premise, Values::Places(&terms[from..]))?;
                 let free = bank.form(FormNode::Bang(goal))?;
                 top = agenda.push(Item::Goal(free), top)?;
                 form = next;

@@ -6,7 +6,7 @@ ghost use Rattle.ll_bank.specs.Nodes.{form_tree, term_tree, HasTerm, AllInTerms,
 ghost use Rattle.ll_bank.specs.Closing.{env_of};
 ghost use Rattle.ll_unify.specs.Bindings.{IsTable, IsPlaceOf, HasCells, count};
 ghost use Rattle.ll_unify.specs.Fresh.{StandsNowhere};
-ghost use Rattle.ll_store.specs.Environments.{values_before};
+ghost use Rattle.ll_bank.specs.Environments.{values_before};
 ghost use Rattle.ll_store.specs.Stored.{stored, KeepsMarks};
 ghost use Rattle.ll_store.specs.Tables.{table_of};
 ghost use Rattle.ll_laws.specs.Leaf.{ways};
@@ -27,12 +27,12 @@ ghost use Rattle.ll_resources.specs.Seen.{resource};
 use crate::heads::in_32_bits;
 use crate::open::open_leaf;
 use ll_agenda::Top;
-use ll_bank::{At, FormAt, FormNode, OutOfMemory};
+use ll_bank::{At, Environment, FormAt, FormNode, OutOfMemory};
 use ll_bind::{unify, unify_head};
 use ll_freeze::Machine;
 use ll_laws::{Candidate, Step};
 use ll_resources::{Context, Entry};
-use ll_store::{Environment, Store};
+use ll_store::Store;
 use std::alloc::Global;
 
 /// The place of the entry with a label, the newest being 0. Those of so many program clauses come last: one of them is found at once, and so is

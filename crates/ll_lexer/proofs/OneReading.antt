@@ -10,7 +10,8 @@ use Rattle.ll_lexer.specs.declared.Token.{Token}
 use Rattle.ll_lexer.specs.declared.TokenKind.{TokenKind}
 use Rattle.ll_lexer.specs.Spelling.{is_digit, is_word_start, IsLongest, HasNone}
 use Rattle.ll_lexer.specs.Reading.{is_blank, place_at, IsGap, blank, comment, HasFlaw, past_64_bits, long_name, long_variable, IsSound, End, done, stopped}
-use Rattle.ll_lexer.specs.Reading.{Lexes, at_end, gap, token, flawed, no_token, token_at, LexedText, IsLexed, IsTokenOf, IsLexedOnce, HasFaultOnce, IsLexedOrFaulty}
+use Rattle.ll_lexer.specs.Reading.{Lexes, at_end, gap, token, flawed, no_token, token_at, LexedText, IsLexed, IsTokenOf}
+use Rattle.ll_lexer.specs.Reading.{IsLexedOnce, HasFaultOnce, IsLexedOrFaulty}
 use Rattle.ll_lexer.proofs.Longest.{begins, first-begins, nonempty}
 
 gap-unique : (bytes : List ℕ) (n m : ℕ) → IsGap bytes n → IsGap bytes m → n ≡ m

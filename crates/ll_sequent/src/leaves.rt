@@ -7,7 +7,7 @@ ghost use Rattle.ll_laws.specs.Leaf.{ways, leaf as leaf_of};
 ghost use Rattle.ll_laws.specs.Valid.{ClauseSide, has_heads};
 ghost use Rattle.ll_sequent.specs.Opened.{IsOpened, IsPast, IsSide};
 
-use ll_bank::{At, Bank, FormAt, FormNode, OutOfMemory, close_form, close_term};
+use ll_bank::{At, Bank, FormAt, FormNode, OutOfMemory, Values, close_form, close_term};
 use std::alloc::Global;
 
 /// The goal of a premise, which `-o` or `=>` brought.
@@ -61,7 +61,7 @@ pub(crate) fn open_leaf(
                 if passed != values.len() {
                     return Ok(None);
                 }
-                let head = close_term(alloc, bank, head, values)?;
+                let head = close_term(alloc, bank, head, Values::Places(values))?;
                 premises.reverse();
                 return Ok(Some(Opened { premises, head }));
             }
@@ -71,12 +71,12 @@ pub(crate) fn open_leaf(
                 leaf = side.leaf;
             }
             FormNode::Lolli(goal, next) => {
-                let goal = close_form(alloc, bank, goal, &values[..passed])?;
+                let goal = close_form(alloc, bank, goal, Values::Places(&values[..passed]))?;
                 premises.push(Needed::Bounded(goal))?;
                 form = next;
             }
             FormNode::Imp(goal, next) => {
-                let goal = close_form(alloc, bank, goal, &values[..passed])?;
+                let goal = close_form(alloc, bank, goal, Values::Places(&values[..passed]))?;
                 premises.push(Needed::Unbounded(goal))?;
                 form = next;
             }

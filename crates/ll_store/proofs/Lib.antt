@@ -5,5 +5,4 @@ pub mod PackedLemmas
 mod SameLemmas
 mod SegmentLemmas
 mod LayerLemmas
-pub mod EnvironmentLemmas
 pub mod CallerLemmas

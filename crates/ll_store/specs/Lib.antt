@@ -6,4 +6,3 @@ pub mod Segments
 pub mod Layered
 pub mod Lending
 pub mod Tables
-pub mod Environments

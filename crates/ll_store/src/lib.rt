@@ -2,7 +2,6 @@
 #![tactic(auto)]
 
 mod cells;
-mod environment;
 mod layers;
 mod packed;
 mod segment;
@@ -10,7 +9,6 @@ mod store;
 mod table;
 
 pub use cells::{Cell, Cells, Change};
-pub use environment::Environment;
 pub use layers::Layers;
 pub use segment::{CellSegment, Renewal, Segment};
 pub use store::{Mark, Store};

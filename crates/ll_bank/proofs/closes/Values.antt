@@ -1,15 +1,18 @@
 -- What stands for a bound place under quantifiers, where many values close it.
 use Rattle.std.proofs.Common.{◌≡◌, ℕ, zero, suc, ◌+◌, ◌-◌, ◌<◌, ◌≤◌, List, [], ◌∷◌, ◌++◌, length, map, get_or, refl, ap, sym, ◌∙◌, arith, Option, Some, None}
 use Rattle.std.specs.Prelude.{reverse}
-use Rattle.std.proofs.lemmas.List.{length-reverse, get_or-reverse, map-append, reverse-append}
+use Rattle.std.proofs.lemmas.List.{length-reverse, length-map, get_or-reverse, map-append, reverse-append}
 use Rattle.std.proofs.lemmas.List.Elements.{All-head, All-tail}
 use Rattle.ll_bank.specs.declared.At.{At}
 use Rattle.ll_bank.specs.declared.Head.TheVariants.{Name, Eigen, Bound}
 use Rattle.ll_bank.specs.Term.{Term, Var, Int, Con, Ap, Env, place, close}
 use Rattle.ll_bank.specs.Form.{Form, Top, One, Atom, With, Tensor, Plus, Bang, Lolli, Imp, Forall, Exists, Use, Num, close_form}
 use Rattle.ll_bank.specs.Nodes.{Nodes, term_tree, AllInTerms, Extends}
-use Rattle.ll_bank.proofs.Trees.{term_tree-extends}
-use Rattle.ll_bank.specs.Closing.{env_of, under}
+use Rattle.ll_bank.proofs.Trees.{term_tree-extends, AllInTerms-extends}
+use Rattle.ll_bank.specs.declared.closing.values.Values.{Values}
+use Rattle.ll_bank.specs.declared.closing.values.Values.TheVariants.{Places, Variables}
+use Rattle.ll_bank.proofs.EnvironmentLemmas.{place-behind}
+use Rattle.ll_bank.specs.Closing.{env_of, env_in, HasValues, under}
 
 -- a place that a quantifier passed on the way binds
 pub place_low : (env : Env) (n k m : ℕ) → k < n → place (under env n) k m ≡ Con (Bound (m + k))
@@ -23,6 +26,11 @@ place_out env zero k m = (λ i. place env ((let e : 0 + k ≡ k = omega arith in
 place_out env (suc n) k m =
     ap (λ j. place (None ∷ under env n) j m) (let e : suc n + k ≡ suc (n + k) = omega arith in e)
     ∙ (place_out env n k (suc m) ∙ ap (place env k) (let e : n + suc m ≡ suc n + m = omega arith in e))
+
+pub head_out : (env : Env) (n k : ℕ) → n ≤ k → place (under env n) k 0 ≡ place env (k - n) n
+head_out env n k l =
+    ap (λ j. place (under env n) j 0) (let q : k ≡ n + (k - n) = omega (arith, l) in q)
+    ∙ (place_out env n (k - n) 0 ∙ ap (place env (k - n)) (let q : n + 0 ≡ n = omega arith in q))
 
 -- values in the order of the quantifiers, the innermost first
 module _ (bank : Nodes) where
@@ -47,24 +55,35 @@ module _ (bank : Nodes) where
       ∙ (ap (λ z. z ++ standing v ∷ []) (env_is vs)
       ∙ (sym (map-append standing (reverse vs) (v ∷ [])) ∙ ap (map standing) (sym (reverse-append (v ∷ []) vs))))
 
-  -- what the values close
-  pub head_value : (vs : List At) (n k i : ℕ) (d : At) → n ≤ k → k - n < length vs → i ≡ length vs - 1 - (k - n)
-      → place (under (env_of bank vs) n) k 0 ≡ term_tree bank (get_or vs i d).0
-  head_value vs n k i d l h e =
-      ap (λ j. place (under (env_of bank vs) n) j 0) (let q : k ≡ n + (k - n) = omega arith in q)
-      ∙ (place_out (env_of bank vs) n (k - n) 0
-      ∙ (ap (λ z. place z (k - n) (n + 0)) (env_is vs)
-      ∙ (place_value (reverse vs) (k - n) (n + 0) d (let r = length-reverse vs in omega arith)
-      ∙ ap (λ (a : At). term_tree bank a.0) (get_or-reverse vs (k - n) d h ∙ ap (λ j. get_or vs j d) (sym e)))))
+  -- the value at a place, and what stands further out
+  pub place_listed : (vs : List At) (k m i : ℕ) (d : At) → k < length vs → i ≡ length vs - 1 - k → place (env_of bank vs) k m ≡ term_tree bank (get_or vs i d).0
+  place_listed vs k m i d l e =
+      ap (λ z. place z k m) (env_is vs)
+      ∙ (place_value (reverse vs) k m d (let r = length-reverse vs in omega arith)
+      ∙ ap (λ (a : At). term_tree bank a.0) (get_or-reverse vs k d l ∙ ap (λ j. get_or vs j d) (sym e)))
 
-  -- and what stands further out
-  pub head_past : (vs : List At) (n k : ℕ) → n ≤ k → length vs ≤ k - n → place (under (env_of bank vs) n) k 0 ≡ Con (Bound (k - length vs))
-  head_past vs n k l h =
-      ap (λ j. place (under (env_of bank vs) n) j 0) (let q : k ≡ n + (k - n) = omega arith in q)
-      ∙ (place_out (env_of bank vs) n (k - n) 0
-      ∙ (ap (λ z. place z (k - n) (n + 0)) (env_is vs)
-      ∙ (place_past (reverse vs) (k - n) (n + 0) (let r = length-reverse vs in omega arith)
-      ∙ ap (λ j. Con (Bound j)) (let r = length-reverse vs in let q : n + 0 + (k - n - length (reverse vs)) ≡ k - length vs = omega arith in q))))
+  pub length_listed : (vs : List At) → length (env_of bank vs) ≡ length vs
+  length_listed vs = ap length (env_is vs) ∙ (length-map (reverse vs) standing ∙ length-reverse vs)
+
+  past_listed : (vs : List At) (k m : ℕ) → length (env_of bank vs) ≤ k → place (env_of bank vs) k m ≡ Con (Bound (m + (k - length (env_of bank vs))))
+  past_listed vs k m l =
+      let e = length_listed vs in let r = length-reverse vs in
+      ap (λ z. place z k m) (env_is vs)
+      ∙ (place_past (reverse vs) k m (omega (arith, l, e, r))
+      ∙ ap (λ j. Con (Bound (m + j))) (let q : k - length (reverse vs) ≡ k - length (env_of bank vs) = omega (arith, e, r) in q))
+
+  past_values : (values : Values) (k m : ℕ) → length (env_in bank values) ≤ k
+      → place (env_in bank values) k m ≡ Con (Bound (m + (k - length (env_in bank values))))
+  past_values (Places vs) k m l = past_listed vs.now k m l
+  past_values (Variables e) k m l = place-behind e.end e.count k m l
+
+  -- and under quantifiers that were passed
+  pub head_past : (values : Values) (n k : ℕ) → n ≤ k → length (env_in bank values) ≤ k - n
+      → place (under (env_in bank values) n) k 0 ≡ Con (Bound (k - length (env_in bank values)))
+  head_past values n k l h =
+      let many = length (env_in bank values) in
+      head_out (env_in bank values) n k l
+      ∙ (past_values values (k - n) n h ∙ ap (λ j. Con (Bound j)) (let q : n + (k - n - many) ≡ k - many = omega (arith, l, h) in q))
 
 pub head_low : (env : Env) (n k : ℕ) → k < n → place (under env n) k 0 ≡ Con (Bound k)
 head_low env n k l = place_low env n k 0 l ∙ ap (λ j. Con (Bound j)) (let e : 0 + k ≡ k = omega arith in e)
@@ -81,6 +100,14 @@ standing_extends old new e (v ∷ vs) h =
 
 pub env_extends : (old new : Nodes) (e : Extends old new) (vs : List At) → AllInTerms old vs → env_of new vs ≡ env_of old vs
 env_extends old new e vs h = ap reverse (standing_extends old new e vs h)
+
+pub HasValues-extends : {old new : Nodes} → Extends old new → (values : Values) → HasValues old values → HasValues new values
+HasValues-extends e (Places vs) h = AllInTerms-extends e vs.now h
+HasValues-extends e (Variables v) h = h
+
+pub values_extends : (old new : Nodes) (e : Extends old new) (values : Values) → HasValues old values → env_in new values ≡ env_in old values
+values_extends old new e (Places vs) h = env_extends old new e vs.now h
+values_extends old new e (Variables v) h = refl
 
 -- ---- no values
 
@@ -116,12 +143,12 @@ form_none n (Exists f) = ap Exists (form_none (suc n) f)
 form_none n (Use m ts f) = λ i. Use m (closes_none n ts i) (form_none n f i)
 form_none n (Num r t u) = λ i. Num r (close_none n t i) (close_none n u i)
 
-env_empty : (bank : Nodes) (vs : List At) → length vs ≡ 0 → env_of bank vs ≡ []
-env_empty bank [] e = refl
-env_empty bank (v ∷ vs) e = absurd (omega arith)
+env_empty : (env : Env) → length env ≡ 0 → env ≡ []
+env_empty [] e = refl
+env_empty (v ∷ env) e = absurd (omega arith)
 
-pub close_empty : (bank : Nodes) (vs : List At) (t : Term) → length vs ≡ 0 → close (env_of bank vs) t ≡ t
-close_empty bank vs t e = ap (λ z. close z t) (env_empty bank vs e) ∙ close_none 0 t
+pub close_empty : (env : Env) (t : Term) → length env ≡ 0 → close env t ≡ t
+close_empty env t e = ap (λ z. close z t) (env_empty env e) ∙ close_none 0 t
 
-pub form_empty : (bank : Nodes) (vs : List At) (f : Form) → length vs ≡ 0 → close_form (env_of bank vs) f ≡ f
-form_empty bank vs f e = ap (λ z. close_form z f) (env_empty bank vs e) ∙ form_none 0 f
+pub form_empty : (env : Env) (f : Form) → length env ≡ 0 → close_form env f ≡ f
+form_empty env f e = ap (λ z. close_form z f) (env_empty env e) ∙ form_none 0 f

@@ -2,30 +2,29 @@
 ghost use Rattle.std.specs.Prelude.{◌≡◌, ◌≤◌, true, length, take, map, IfSome};
 ghost use Rattle.ll_bank.specs.Term.{close, close_head, Con};
 ghost use Rattle.ll_bank.specs.Nodes.{term_tree, term_trees, HasTerm, AllInTerms, ShowsTerm};
-ghost use Rattle.ll_bank.specs.Closing.{env_of, under};
+ghost use Rattle.ll_bank.specs.Closing.{env_in, HasValues, under};
 
+use crate::closing::values::Values;
 use crate::{At, Bank, Head, TermView};
 
 /// So many arguments have their images put together without memory.
 pub(crate) const FEW: usize = 8;
 
 /// A place that shows what stands for the head without arguments at a place, where the bank has one.
-fn head_at_hand(bank: &Bank, at: At, head: Head, level: usize, values: &[At]) -> Option<At>
+fn head_at_hand(bank: &Bank, at: At, head: Head, level: usize, values: Values<'_>) -> Option<At>
     requires inside { HasTerm bank.now at.0 }
     requires head { term_tree bank.now at.0 ≡ Con head }
-    requires values { AllInTerms bank.now values.now }
+    requires values { HasValues bank.now values }
     ensures { IfSome result (λ image. ShowsTerm bank.now image.0
-        (close_head (under (env_of bank.now values.now) level) head)) }
+        (close_head (under (env_in bank.now values.entry) level) head)) }
 {
     match head {
         Head::Bound(bound) => {
             let number = bound as usize;
             if number < level {
                 Some(at)
-            } else if number - level < values.len() {
-                Some(values[values.len() - 1 - (number - level)])
             } else {
-                None
+                values.place((number - level) as u32)
             }
         }
         Head::Name(_) => Some(at),
@@ -34,11 +33,11 @@ fn head_at_hand(bank: &Bank, at: At, head: Head, level: usize, values: &[At]) ->
 }
 
 /// A place that shows the image of a term, where the term has no arguments and the bank has one.
-fn at_hand(bank: &Bank, at: At, level: usize, values: &[At]) -> Option<At>
+fn at_hand(bank: &Bank, at: At, level: usize, values: Values<'_>) -> Option<At>
     requires inside { HasTerm bank.now at.0 }
-    requires values { AllInTerms bank.now values.now }
+    requires values { HasValues bank.now values }
     ensures { IfSome result (λ image. ShowsTerm bank.now image.0
-        (close (under (env_of bank.now values.now) level) (term_tree bank.now at.0))) }
+        (close (under (env_in bank.now values.entry) level) (term_tree bank.now at.0))) }
 {
     match bank.term_at(at) {
         TermView::Var(_) => Some(at),
@@ -58,15 +57,15 @@ pub(crate) fn all_at_hand(
     bank: &Bank,
     args: &[At],
     level: usize,
-    values: &[At],
+    values: Values<'_>,
     own: &mut [At; FEW],
 ) -> bool
     requires inside { AllInTerms bank.now args.now }
-    requires values { AllInTerms bank.now values.now }
+    requires values { HasValues bank.now values }
     ensures few { result ≡ true → length args.now ≤ length own.new }
     ensures places { result ≡ true → AllInTerms bank.now (take (length args.now) own.new) }
     ensures shows { result ≡ true → term_trees bank.now (take (length args.now) own.new)
-        ≡ map (close (under (env_of bank.now values.now) level)) (term_trees bank.now args.now) }
+        ≡ map (close (under (env_in bank.now values.entry) level)) (term_trees bank.now args.now) }
 {
     if args.len() > FEW {
         return false;

@@ -5,13 +5,14 @@ ghost use Rattle.ll_bank.specs.Term.{close, applies_heads};
 ghost use Rattle.ll_bank.specs.Form.{Atom, close_form, form_applies_heads};
 ghost use Rattle.ll_bank.specs.Nodes.{term_tree, form_tree, term_trees, form_of, HasTerm, HasForm, AllInTerms, HasParts, ShowsTerm, ShowsForm, Extends};
 ghost use Rattle.ll_bank.specs.Opened.{Spot, AreImages, ArePartsOf, form_parts_at, form_size_at};
-ghost use Rattle.ll_bank.specs.Closing.{env_of, under, same_spot, IsTermImage, IsFormImage, IsGoodForm, IsNum};
+ghost use Rattle.ll_bank.specs.Closing.{env_in, HasValues, under, same_spot, IsTermImage, IsFormImage, IsGoodForm, IsNum};
 ghost use Rattle.ll_bank.specs.Stacks.{visit, ready, AreImagesOf, EndsWith};
 
 use crate::closing::flat::{FEW, all_at_hand};
 use crate::closing::images::Images;
 use crate::closing::stack::{Task, push_part};
 use crate::closing::term::{close_term, closed_head, closed_term};
+use crate::closing::values::Values;
 use crate::{At, Bank, FormAt, FormNode, OutOfMemory, TermView};
 use std::alloc::Global;
 
@@ -28,16 +29,16 @@ pub fn close_form(
     alloc: Global,
     bank: &mut Bank,
     form: FormAt,
-    values: &[At],
+    values: Values<'_>,
 ) -> Result<FormAt, OutOfMemory>
     requires inside { HasForm bank.old form.0 }
-    requires values { AllInTerms bank.old values.now }
-    requires heads { form_applies_heads (close_form (env_of bank.old values.now) (form_tree bank.old form.0)) ≡ true }
+    requires values { HasValues bank.old values }
+    requires heads { form_applies_heads (close_form (env_in bank.old values) (form_tree bank.old form.0)) ≡ true }
     ensures shows { IfOk result (λ made. ShowsForm bank.new made.0
-        (close_form (env_of bank.old values.now) (form_tree bank.old form.0))) }
+        (close_form (env_in bank.old values.entry) (form_tree bank.old form.0))) }
     ensures keeps { Extends bank.old bank.new }
 {
-    if values.is_empty() {
+    if values.count() == 0 {
         return Ok(form);
     }
     match bank.form_at(form) {
@@ -61,16 +62,16 @@ fn closed_flat(
     bank: &mut Bank,
     form: FormAt,
     level: usize,
-    values: &[At],
+    values: Values<'_>,
     depth: usize,
 ) -> Result<Option<FormAt>, OutOfMemory>
     requires inside { HasForm bank.old form.0 }
-    requires values { AllInTerms bank.old values.now }
+    requires values { HasValues bank.old values }
     requires heads { form_applies_heads
-        (close_form (under (env_of bank.old values.now) level) (form_tree bank.old form.0)) ≡ true }
+        (close_form (under (env_in bank.old values) level) (form_tree bank.old form.0)) ≡ true }
     requires level { level + depth ≤ 18446744073709551615 }
     ensures shows { IfOk result (λ made. IfSome made (λ image. ShowsForm bank.new image.0
-        (close_form (under (env_of bank.old values.now) level) (form_tree bank.old form.0)))) }
+        (close_form (under (env_in bank.old values.entry) level) (form_tree bank.old form.0)))) }
     ensures keeps { Extends bank.old bank.new }
 {
     if depth == 0 {
@@ -112,16 +113,16 @@ fn closed_under(
     bank: &mut Bank,
     form: FormAt,
     level: usize,
-    values: &[At],
+    values: Values<'_>,
     depth: usize,
 ) -> Result<Option<FormAt>, OutOfMemory>
     requires inside { HasForm bank.old form.0 }
-    requires values { AllInTerms bank.old values.now }
+    requires values { HasValues bank.old values }
     requires heads { form_applies_heads
-        (close_form (under (env_of bank.old values.now) level) (form_tree bank.old form.0)) ≡ true }
+        (close_form (under (env_in bank.old values) level) (form_tree bank.old form.0)) ≡ true }
     requires level { level + 1 + depth ≤ 18446744073709551615 }
     ensures shows { IfOk result (λ made. IfSome made (λ image. ShowsForm bank.new image.0
-        (close_form (under (env_of bank.old values.now) level) (form_tree bank.old form.0)))) }
+        (close_form (under (env_in bank.old values.entry) level) (form_tree bank.old form.0)))) }
     ensures keeps { Extends bank.old bank.new }
 {
     match bank.form_at(form) {
@@ -149,21 +150,21 @@ fn closed_pair(
     left: FormAt,
     right: FormAt,
     level: usize,
-    values: &[At],
+    values: Values<'_>,
     depth: usize,
 ) -> Result<Option<(FormAt, FormAt)>, OutOfMemory>
     requires left { HasForm bank.old left.0 }
     requires right { HasForm bank.old right.0 }
-    requires values { AllInTerms bank.old values.now }
+    requires values { HasValues bank.old values }
     requires heads { (form_applies_heads
-        (close_form (under (env_of bank.old values.now) level) (form_tree bank.old left.0))
-        && form_applies_heads (close_form (under (env_of bank.old values.now) level) (form_tree bank.old right.0)))
+        (close_form (under (env_in bank.old values) level) (form_tree bank.old left.0))
+        && form_applies_heads (close_form (under (env_in bank.old values) level) (form_tree bank.old right.0)))
         ≡ true }
     requires level { level + depth ≤ 18446744073709551615 }
     ensures left { IfOk result (λ made. IfSome made (λ images. ShowsForm bank.new images.0.0
-        (close_form (under (env_of bank.old values.now) level) (form_tree bank.old left.0)))) }
+        (close_form (under (env_in bank.old values.entry) level) (form_tree bank.old left.0)))) }
     ensures right { IfOk result (λ made. IfSome made (λ images. ShowsForm bank.new images.1.0
-        (close_form (under (env_of bank.old values.now) level) (form_tree bank.old right.0)))) }
+        (close_form (under (env_in bank.old values.entry) level) (form_tree bank.old right.0)))) }
     ensures keeps { Extends bank.old bank.new }
 {
     let Some(first) = closed_flat(alloc, bank, left, level, values, depth)? else {
@@ -182,15 +183,15 @@ fn closed_atom(
     form: FormAt,
     atom: At,
     level: usize,
-    values: &[At],
+    values: Values<'_>,
 ) -> Result<Option<FormAt>, OutOfMemory>
     requires inside { HasForm bank.old form.0 }
     requires atom { HasTerm bank.old atom.0 }
-    requires values { AllInTerms bank.old values.now }
-    requires heads { applies_heads (close (under (env_of bank.old values.now) level) (term_tree bank.old atom.0))
+    requires values { HasValues bank.old values }
+    requires heads { applies_heads (close (under (env_in bank.old values) level) (term_tree bank.old atom.0))
         ≡ true }
     ensures shows { IfOk result (λ made. IfSome made (λ image. ShowsForm bank.new image.0
-        (Atom (close (under (env_of bank.old values.now) level) (term_tree bank.old atom.0))))) }
+        (Atom (close (under (env_in bank.old values.entry) level) (term_tree bank.old atom.0))))) }
     ensures keeps { Extends bank.old bank.new }
 {
     match bank.term_at(atom) {
@@ -230,13 +231,13 @@ fn close_deep(
     alloc: Global,
     bank: &mut Bank,
     form: FormAt,
-    values: &[At],
+    values: Values<'_>,
 ) -> Result<FormAt, OutOfMemory>
     requires inside { HasForm bank.old form.0 }
-    requires values { AllInTerms bank.old values.now }
-    requires heads { form_applies_heads (close_form (env_of bank.old values.now) (form_tree bank.old form.0)) ≡ true }
+    requires values { HasValues bank.old values }
+    requires heads { form_applies_heads (close_form (env_in bank.old values) (form_tree bank.old form.0)) ≡ true }
     ensures shows { IfOk result (λ made. ShowsForm bank.new made.0
-        (close_form (env_of bank.old values.now) (form_tree bank.old form.0))) }
+        (close_form (env_in bank.old values.entry) (form_tree bank.old form.0))) }
     ensures keeps { Extends bank.old bank.new }
 {
     let mut terms = Images::new(alloc);
@@ -354,20 +355,20 @@ fn build_form(
     alloc: Global,
     bank: &mut Bank,
     task: Task,
-    values: &[At],
+    values: Values<'_>,
     terms: &mut Images,
     made: &mut Vec<FormAt>,
 ) -> Result<FormAt, OutOfMemory>
     requires inside { HasForm bank.old task.place }
-    requires values { AllInTerms bank.old values.now }
-    requires heads { form_applies_heads (close_form (under (env_of bank.old values.now) task.level)
+    requires values { HasValues bank.old values }
+    requires heads { form_applies_heads (close_form (under (env_in bank.old values) task.level)
         (form_tree bank.old task.place)) ≡ true }
-    requires terms { AreImages (IsTermImage bank.old (env_of bank.old values.now)) (get same_spot terms.old.places) }
-    requires parts { EndsWith (λ k x. IsFormImage bank.old (env_of bank.old values.now) k x.0)
+    requires terms { AreImages (IsTermImage bank.old (env_in bank.old values)) (get same_spot terms.old.places) }
+    requires parts { EndsWith (λ k x. IsFormImage bank.old (env_in bank.old values) k x.0)
         (form_parts_at bank.old (task.place, task.level)) made.old.items }
     ensures shows { IfOk result (λ image. ShowsForm bank.new image.0
-        (close_form (under (env_of bank.old values.now) task.level) (form_tree bank.old task.place))) }
-    ensures terms { OnOk result (AreImages (IsTermImage bank.new (env_of bank.old values.now))
+        (close_form (under (env_in bank.old values.entry) task.level) (form_tree bank.old task.place))) }
+    ensures terms { OnOk result (AreImages (IsTermImage bank.new (env_in bank.old values.entry))
         (get same_spot terms.new.places)) }
     ensures made { OnOk result (made.new.items
         ≡ take (length made.old.items - length (form_parts_at bank.old (task.place, task.level))) made.old.items) }
@@ -384,20 +385,20 @@ fn closed_node(
     alloc: Global,
     bank: &mut Bank,
     task: Task,
-    values: &[At],
+    values: Values<'_>,
     terms: &mut Images,
     parts: &[FormAt],
 ) -> Result<FormAt, OutOfMemory>
     requires inside { HasForm bank.old task.place }
-    requires values { AllInTerms bank.old values.now }
-    requires heads { form_applies_heads (close_form (under (env_of bank.old values.now) task.level)
+    requires values { HasValues bank.old values }
+    requires heads { form_applies_heads (close_form (under (env_in bank.old values) task.level)
         (form_tree bank.old task.place)) ≡ true }
-    requires terms { AreImages (IsTermImage bank.old (env_of bank.old values.now)) (get same_spot terms.old.places) }
-    requires parts { AreImagesOf (λ k x. IsFormImage bank.old (env_of bank.old values.now) k x.0)
+    requires terms { AreImages (IsTermImage bank.old (env_in bank.old values)) (get same_spot terms.old.places) }
+    requires parts { AreImagesOf (λ k x. IsFormImage bank.old (env_in bank.old values) k x.0)
         (form_parts_at bank.old (task.place, task.level)) parts.now }
     ensures shows { IfOk result (λ image. ShowsForm bank.new image.0
-        (close_form (under (env_of bank.old values.now) task.level) (form_tree bank.old task.place))) }
-    ensures terms { OnOk result (AreImages (IsTermImage bank.new (env_of bank.old values.now))
+        (close_form (under (env_in bank.old values.entry) task.level) (form_tree bank.old task.place))) }
+    ensures terms { OnOk result (AreImages (IsTermImage bank.new (env_in bank.old values.entry))
         (get same_spot terms.new.places)) }
     ensures keeps { Extends bank.old bank.new }
 {
@@ -435,18 +436,18 @@ fn closed_number_goal(
     alloc: Global,
     bank: &mut Bank,
     task: Task,
-    values: &[At],
+    values: Values<'_>,
     terms: &mut Images,
 ) -> Result<FormAt, OutOfMemory>
     requires inside { HasForm bank.old task.place }
     requires number { IsNum (form_tree bank.old task.place) }
-    requires values { AllInTerms bank.old values.now }
-    requires heads { form_applies_heads (close_form (under (env_of bank.old values.now) task.level)
+    requires values { HasValues bank.old values }
+    requires heads { form_applies_heads (close_form (under (env_in bank.old values) task.level)
         (form_tree bank.old task.place)) ≡ true }
-    requires terms { AreImages (IsTermImage bank.old (env_of bank.old values.now)) (get same_spot terms.old.places) }
+    requires terms { AreImages (IsTermImage bank.old (env_in bank.old values)) (get same_spot terms.old.places) }
     ensures shows { IfOk result (λ image. ShowsForm bank.new image.0
-        (close_form (under (env_of bank.old values.now) task.level) (form_tree bank.old task.place))) }
-    ensures terms { OnOk result (AreImages (IsTermImage bank.new (env_of bank.old values.now))
+        (close_form (under (env_in bank.old values.entry) task.level) (form_tree bank.old task.place))) }
+    ensures terms { OnOk result (AreImages (IsTermImage bank.new (env_in bank.old values.entry))
         (get same_spot terms.new.places)) }
     ensures keeps { Extends bank.old bank.new }
 {
@@ -476,22 +477,22 @@ fn closed_two(
     left: At,
     right: At,
     level: usize,
-    values: &[At],
+    values: Values<'_>,
     terms: &mut Images,
 ) -> Result<(At, At), OutOfMemory>
     requires left { HasTerm bank.old left.0 }
     requires right { HasTerm bank.old right.0 }
-    requires values { AllInTerms bank.old values.now }
-    requires left_heads { applies_heads (close (under (env_of bank.old values.now) level) (term_tree bank.old left.0))
+    requires values { HasValues bank.old values }
+    requires left_heads { applies_heads (close (under (env_in bank.old values) level) (term_tree bank.old left.0))
         ≡ true }
     requires right_heads { applies_heads
-        (close (under (env_of bank.old values.now) level) (term_tree bank.old right.0)) ≡ true }
-    requires terms { AreImages (IsTermImage bank.old (env_of bank.old values.now)) (get same_spot terms.old.places) }
+        (close (under (env_in bank.old values) level) (term_tree bank.old right.0)) ≡ true }
+    requires terms { AreImages (IsTermImage bank.old (env_in bank.old values)) (get same_spot terms.old.places) }
     ensures left { IfOk result (λ made. ShowsTerm bank.new made.0.0
-        (close (under (env_of bank.old values.now) level) (term_tree bank.old left.0))) }
+        (close (under (env_in bank.old values.entry) level) (term_tree bank.old left.0))) }
     ensures right { IfOk result (λ made. ShowsTerm bank.new made.1.0
-        (close (under (env_of bank.old values.now) level) (term_tree bank.old right.0))) }
-    ensures terms { OnOk result (AreImages (IsTermImage bank.new (env_of bank.old values.now))
+        (close (under (env_in bank.old values.entry) level) (term_tree bank.old right.0))) }
+    ensures terms { OnOk result (AreImages (IsTermImage bank.new (env_in bank.old values.entry))
         (get same_spot terms.new.places)) }
     ensures keeps { Extends bank.old bank.new }
 {
@@ -506,18 +507,18 @@ fn closed_terms(
     bank: &mut Bank,
     args: &[At],
     level: usize,
-    values: &[At],
+    values: Values<'_>,
     terms: &mut Images,
 ) -> Result<Vec<At>, OutOfMemory>
     requires inside { AllInTerms bank.old args.now }
-    requires values { AllInTerms bank.old values.now }
+    requires values { HasValues bank.old values }
     requires heads { All (λ a. applies_heads
-        (close (under (env_of bank.old values.now) level) (term_tree bank.old a.0)) ≡ true) args.now }
-    requires terms { AreImages (IsTermImage bank.old (env_of bank.old values.now)) (get same_spot terms.old.places) }
+        (close (under (env_in bank.old values) level) (term_tree bank.old a.0)) ≡ true) args.now }
+    requires terms { AreImages (IsTermImage bank.old (env_in bank.old values)) (get same_spot terms.old.places) }
     ensures places { IfOk result (λ made. AllInTerms bank.new made.items) }
     ensures shows { IfOk result (λ made. term_trees bank.new made.items
-        ≡ map (close (under (env_of bank.old values.now) level)) (term_trees bank.old args.now)) }
-    ensures terms { OnOk result (AreImages (IsTermImage bank.new (env_of bank.old values.now))
+        ≡ map (close (under (env_in bank.old values.entry) level)) (term_trees bank.old args.now)) }
+    ensures terms { OnOk result (AreImages (IsTermImage bank.new (env_in bank.old values.entry))
         (get same_spot terms.new.places)) }
     ensures keeps { Extends bank.old bank.new }
 {

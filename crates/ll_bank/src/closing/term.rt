@@ -4,12 +4,13 @@ ghost use Rattle.std.specs.HashMap.{get};
 ghost use Rattle.ll_bank.specs.Term.{close, close_head, place, apply, app as app_term, applies_heads};
 ghost use Rattle.ll_bank.specs.Nodes.{term_tree, term_trees, HasTerm, AllInTerms, ShowsTerm, Extends};
 ghost use Rattle.ll_bank.specs.Opened.{AreImages, ArePartsOf, term_parts_at, term_size_at};
-ghost use Rattle.ll_bank.specs.Closing.{env_of, under, same_spot, IsTermImage, IsGoodTerm};
+ghost use Rattle.ll_bank.specs.Closing.{env_in, HasValues, under, same_spot, IsTermImage, IsGoodTerm};
 ghost use Rattle.ll_bank.specs.Stacks.{visit, ready, EndsWith};
 
 use crate::closing::flat::{FEW, all_at_hand};
 use crate::closing::images::Images;
 use crate::closing::stack::{Task, push_arguments, push_part};
+use crate::closing::values::Values;
 use crate::{At, Bank, Head, OutOfMemory, TermView};
 use std::alloc::Global;
 
@@ -19,15 +20,20 @@ use std::alloc::Global;
 /// Nothing but a head may get arguments by it. A term that shares much takes time and memory for its places, not for its tree. After a
 /// refusal the bank may have more places.
 #[inline(always)]
-pub fn close_term(alloc: Global, bank: &mut Bank, at: At, values: &[At]) -> Result<At, OutOfMemory>
+pub fn close_term(
+    alloc: Global,
+    bank: &mut Bank,
+    at: At,
+    values: Values<'_>,
+) -> Result<At, OutOfMemory>
     requires inside { HasTerm bank.old at.0 }
-    requires values { AllInTerms bank.old values.now }
-    requires heads { applies_heads (close (env_of bank.old values.now) (term_tree bank.old at.0)) ≡ true }
+    requires values { HasValues bank.old values }
+    requires heads { applies_heads (close (env_in bank.old values) (term_tree bank.old at.0)) ≡ true }
     ensures shows { IfOk result (λ made. ShowsTerm bank.new made.0
-        (close (env_of bank.old values.now) (term_tree bank.old at.0))) }
+        (close (env_in bank.old values.entry) (term_tree bank.old at.0))) }
     ensures keeps { Extends bank.old bank.new }
 {
-    if values.is_empty() {
+    if values.count() == 0 {
         return Ok(at);
     }
     let mut images = Images::new(alloc);
@@ -41,16 +47,16 @@ pub(crate) fn closed_term(
     bank: &mut Bank,
     at: At,
     level: usize,
-    values: &[At],
+    values: Values<'_>,
     images: &mut Images,
 ) -> Result<At, OutOfMemory>
     requires inside { HasTerm bank.old at.0 }
-    requires values { AllInTerms bank.old values.now }
-    requires heads { applies_heads (close (under (env_of bank.old values.now) level) (term_tree bank.old at.0)) ≡ true }
-    requires images { AreImages (IsTermImage bank.old (env_of bank.old values.now)) (get same_spot images.old.places) }
+    requires values { HasValues bank.old values }
+    requires heads { applies_heads (close (under (env_in bank.old values) level) (term_tree bank.old at.0)) ≡ true }
+    requires images { AreImages (IsTermImage bank.old (env_in bank.old values)) (get same_spot images.old.places) }
     ensures shows { IfOk result (λ made. ShowsTerm bank.new made.0
-        (close (under (env_of bank.old values.now) level) (term_tree bank.old at.0))) }
-    ensures images { OnOk result (AreImages (IsTermImage bank.new (env_of bank.old values.now))
+        (close (under (env_in bank.old values.entry) level) (term_tree bank.old at.0))) }
+    ensures images { OnOk result (AreImages (IsTermImage bank.new (env_in bank.old values.entry))
         (get same_spot images.new.places)) }
     ensures keeps { Extends bank.old bank.new }
 {
@@ -75,16 +81,16 @@ fn closed_deep(
     bank: &mut Bank,
     at: At,
     level: usize,
-    values: &[At],
+    values: Values<'_>,
     images: &mut Images,
 ) -> Result<At, OutOfMemory>
     requires inside { HasTerm bank.old at.0 }
-    requires values { AllInTerms bank.old values.now }
-    requires heads { applies_heads (close (under (env_of bank.old values.now) level) (term_tree bank.old at.0)) ≡ true }
-    requires images { AreImages (IsTermImage bank.old (env_of bank.old values.now)) (get same_spot images.old.places) }
+    requires values { HasValues bank.old values }
+    requires heads { applies_heads (close (under (env_in bank.old values) level) (term_tree bank.old at.0)) ≡ true }
+    requires images { AreImages (IsTermImage bank.old (env_in bank.old values)) (get same_spot images.old.places) }
     ensures shows { IfOk result (λ made. ShowsTerm bank.new made.0
-        (close (under (env_of bank.old values.now) level) (term_tree bank.old at.0))) }
-    ensures images { OnOk result (AreImages (IsTermImage bank.new (env_of bank.old values.now))
+        (close (under (env_in bank.old values.entry) level) (term_tree bank.old at.0))) }
+    ensures images { OnOk result (AreImages (IsTermImage bank.new (env_in bank.old values.entry))
         (get same_spot images.new.places)) }
     ensures keeps { Extends bank.old bank.new }
 {
@@ -145,17 +151,17 @@ fn build_term(
     alloc: Global,
     bank: &mut Bank,
     task: Task,
-    values: &[At],
+    values: Values<'_>,
     made: &mut Vec<At>,
 ) -> Result<At, OutOfMemory>
     requires inside { HasTerm bank.old task.place }
-    requires values { AllInTerms bank.old values.now }
+    requires values { HasValues bank.old values }
     requires heads { applies_heads
-        (close (under (env_of bank.old values.now) task.level) (term_tree bank.old task.place)) ≡ true }
-    requires parts { EndsWith (λ k x. IsTermImage bank.old (env_of bank.old values.now) k x.0)
+        (close (under (env_in bank.old values) task.level) (term_tree bank.old task.place)) ≡ true }
+    requires parts { EndsWith (λ k x. IsTermImage bank.old (env_in bank.old values) k x.0)
         (term_parts_at bank.old (task.place, task.level)) made.old.items }
     ensures shows { IfOk result (λ image. ShowsTerm bank.new image.0
-        (close (under (env_of bank.old values.now) task.level) (term_tree bank.old task.place))) }
+        (close (under (env_in bank.old values.entry) task.level) (term_tree bank.old task.place))) }
     ensures made { OnOk result (made.new.items
         ≡ take (length made.old.items - length (term_parts_at bank.old (task.place, task.level))) made.old.items) }
     ensures keeps { Extends bank.old bank.new }
@@ -180,17 +186,17 @@ pub(crate) fn closed_head(
     bank: &mut Bank,
     at: At,
     level: usize,
-    values: &[At],
+    values: Values<'_>,
     head: Head,
     args: &[At],
 ) -> Result<At, OutOfMemory>
     requires inside { HasTerm bank.old at.0 }
-    requires values { AllInTerms bank.old values.now }
+    requires values { HasValues bank.old values }
     requires places { AllInTerms bank.old args.now }
-    requires heads { applies_heads (apply (close_head (under (env_of bank.old values.now) level) head)
+    requires heads { applies_heads (apply (close_head (under (env_in bank.old values) level) head)
         (term_trees bank.old args.now)) ≡ true }
     ensures shows { IfOk result (λ image. ShowsTerm bank.new image.0
-        (apply (close_head (under (env_of bank.old values.now) level) head) (term_trees bank.old args.now))) }
+        (apply (close_head (under (env_in bank.old values.entry) level) head) (term_trees bank.old args.now))) }
     ensures keeps { Extends bank.old bank.new }
 {
     match head {
@@ -206,31 +212,26 @@ fn closed_bound(
     bank: &mut Bank,
     at: At,
     level: usize,
-    values: &[At],
+    values: Values<'_>,
     bound: u32,
     args: &[At],
 ) -> Result<At, OutOfMemory>
     requires inside { HasTerm bank.old at.0 }
-    requires values { AllInTerms bank.old values.now }
+    requires values { HasValues bank.old values }
     requires places { AllInTerms bank.old args.now }
-    requires heads { applies_heads (apply (place (under (env_of bank.old values.now) level) bound 0)
+    requires heads { applies_heads (apply (place (under (env_in bank.old values) level) bound 0)
         (term_trees bank.old args.now)) ≡ true }
     ensures shows { IfOk result (λ image. ShowsTerm bank.new image.0
-        (apply (place (under (env_of bank.old values.now) level) bound 0) (term_trees bank.old args.now))) }
+        (apply (place (under (env_in bank.old values.entry) level) bound 0) (term_trees bank.old args.now))) }
     ensures keeps { Extends bank.old bank.new }
 {
     let number = bound as usize;
     if number < level {
-        share_term(bank, at, Head::Bound(bound), args)
-    } else if number - level < values.len() {
-        put_value(
-            alloc,
-            bank,
-            values[values.len() - 1 - (number - level)],
-            args,
-        )
-    } else {
-        bank.app(Head::Bound((number - values.len()) as u32), args)
+        return share_term(bank, at, Head::Bound(bound), args);
+    }
+    match values.value(bank, (number - level) as u32)? {
+        Some(value) => put_value(alloc, bank, value, args),
+        None => bank.app(Head::Bound((number - values.count()) as u32), args),
     }
 }
 

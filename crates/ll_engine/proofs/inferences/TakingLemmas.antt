@@ -32,7 +32,7 @@ use Rattle.ll_laws.proofs.CallerLemmas.{IsClosing, ways-sub, sub_leaf, sub_premi
 use Rattle.ll_laws.proofs.CallerLemmas.{Fit, AllFit, GoesToFitting, Grows, fit_of_made, fit-more}
 use Rattle.ll_laws.proofs.CallerLemmas.{fit-sub, fit-vars, fit-eigens, levels-replicate, level_up_to, new_level, occurs_below, fits_of_formula, fits-more}
 use Rattle.ll_laws.proofs.CallerLemmas.{formula-more, LeafFits, leaf-fits, steps_consistent}
-use Rattle.ll_store.specs.Environments.{values_before}
+use Rattle.ll_bank.specs.Environments.{values_before}
 use Rattle.ll_freeze.specs.Resting.{RestsOn}
 use Rattle.ll_freeze.specs.Keyed.{AreKeyed}
 use Rattle.ll_freeze.proofs.CallerLemmas.{clauses_of, clauses-picked, keyed-alike, keyed-later}

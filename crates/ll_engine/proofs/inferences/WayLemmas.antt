@@ -26,7 +26,7 @@ use Rattle.ll_laws.proofs.CallerLemmas.{Grows, Closes, Widens, FormFits, fits_of
 use Rattle.ll_laws.proofs.CallerLemmas.{headed_applies, all_headed}
 use Rattle.ll_agenda.specs.declared.agenda.Top.{Top as AgendaTop}
 use Rattle.ll_agenda.specs.Frames.{Frames, ShowsItems, items_at}
-use Rattle.ll_store.specs.Environments.{values_before}
+use Rattle.ll_bank.specs.Environments.{values_before}
 use Rattle.ll_freeze.specs.declared.machine.Item.{Item}
 use Rattle.ll_freeze.specs.declared.machine.Item.TheVariants.{Goal}
 use Rattle.ll_engine.specs.declared.open.Side.{Side as LeafSide}

@@ -5,7 +5,7 @@ use Rattle.ll_bank.specs.Term.{Term, close}
 use Rattle.ll_bank.specs.Nodes.{term_tree}
 use Rattle.ll_unify.specs.Bindings.{HasCells}
 use Rattle.ll_unify.proofs.CallerLemmas.{table-extends}
-use Rattle.ll_store.specs.Environments.{values_in}
+use Rattle.ll_bank.specs.Environments.{values_in}
 use Rattle.ll_store.specs.Tables.{table_of}
 use Rattle.ll_bind.specs.Built.{ShowsSame, is_bare}
 use Rattle.ll_bind.proofs.Heads.{cells_more}

@@ -1,5 +1,5 @@
 use Rattle.std.specs.Prelude.{◌≡◌}
-use Rattle.ll_store.specs.Environments.{values_in}
+use Rattle.ll_bank.specs.Environments.{values_in}
 use Rattle.ll_store.specs.Tables.{table_of}
 use Rattle.ll_bind.proofs.Building.{AreSoFar}
 use Rattle.ll_bind.proofs.build.build_each.Given as goal

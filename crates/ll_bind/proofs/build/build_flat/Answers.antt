@@ -8,7 +8,7 @@ use Rattle.ll_bank.proofs.CallerLemmas.{Extends-refl, AllInTerms-below, length-t
 use Rattle.ll_unify.specs.Bindings.{HasCells}
 use Rattle.ll_unify.specs.Spines.{args_in}
 use Rattle.ll_unify.proofs.CallerLemmas.{args_in-app, table-extends}
-use Rattle.ll_store.specs.Environments.{values_in}
+use Rattle.ll_bank.specs.Environments.{values_in}
 use Rattle.ll_store.specs.Tables.{table_of}
 use Rattle.ll_bind.specs.Built.{ShowsSame, AreBuilt, IsFlat, is_bare}
 use Rattle.ll_bind.proofs.Building.{shows-itself, shows-app, take-front, built-length, built-inside, closed-cells}

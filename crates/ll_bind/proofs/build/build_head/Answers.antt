@@ -3,7 +3,7 @@ use Rattle.ll_bank.specs.Term.{Con, close}
 use Rattle.ll_bank.specs.declared.Head.{Head}
 use Rattle.ll_bank.proofs.CallerLemmas.{Extends-refl}
 use Rattle.ll_unify.specs.Bindings.{HasCells}
-use Rattle.ll_store.specs.Environments.{values_in}
+use Rattle.ll_bank.specs.Environments.{values_in}
 use Rattle.ll_store.specs.Tables.{table_of}
 use Rattle.ll_bind.proofs.build.build_head.Goals as goal
 

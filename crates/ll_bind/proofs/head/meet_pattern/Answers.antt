@@ -6,7 +6,7 @@ use Rattle.ll_bank.proofs.CallerLemmas.{Extends-refl, term_tree-extends}
 use Rattle.ll_unify.specs.Fresh.{AreFresh, LeavesFresh}
 use Rattle.ll_unify.specs.Solving.{Settles}
 use Rattle.ll_unify.proofs.CallerLemmas.{table-extends}
-use Rattle.ll_store.specs.Environments.{values_in}
+use Rattle.ll_bank.specs.Environments.{values_in}
 use Rattle.ll_store.specs.Tables.{table_of}
 use Rattle.ll_bind.proofs.Heads.{end_more, fresh_more}
 use Rattle.ll_bind.proofs.Building.{settles-shown}

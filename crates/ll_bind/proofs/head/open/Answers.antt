@@ -1,5 +1,5 @@
 use Rattle.std.proofs.Common.{refl, sym, ◌∙◌}
-use Rattle.ll_store.specs.Environments.{values_in}
+use Rattle.ll_bank.specs.Environments.{values_in}
 use Rattle.ll_bind.proofs.Heads.{apart_heads, apart_lengths, apart_int, fixed}
 use Rattle.ll_bind.proofs.head.open.Goals as goal
 

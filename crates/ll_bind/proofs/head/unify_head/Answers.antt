@@ -4,7 +4,7 @@ use Rattle.ll_bank.specs.Term.{close}
 use Rattle.ll_bank.specs.Nodes.{term_tree}
 use Rattle.ll_bank.proofs.CallerLemmas.{Extends-trans}
 use Rattle.ll_unify.specs.Solving.{wanted, Settles}
-use Rattle.ll_store.specs.Environments.{values_in, IsWithin}
+use Rattle.ll_bank.specs.Environments.{values_in, IsWithin}
 use Rattle.ll_store.specs.Stored.{stored}
 use Rattle.ll_store.specs.Tables.{table_of}
 use Rattle.ll_bind.specs.declared.head.Equation.{Equation}

@@ -2,7 +2,7 @@ use Rattle.std.specs.Prelude.{[], ◌∷◌}
 use Rattle.ll_bank.specs.Term.{close}
 use Rattle.ll_bank.specs.Nodes.{term_tree}
 use Rattle.ll_unify.specs.Solving.{wanted}
-use Rattle.ll_store.specs.Environments.{values_in}
+use Rattle.ll_bank.specs.Environments.{values_in}
 use Rattle.ll_store.specs.Stored.{stored, KeepsMarks}
 use Rattle.ll_store.specs.Tables.{table_of}
 use Rattle.ll_bind.specs.Heads.{pending}

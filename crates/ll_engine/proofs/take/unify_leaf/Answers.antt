@@ -9,7 +9,7 @@ use Rattle.ll_unify.specs.Bindings.{HasCells, count}
 use Rattle.ll_unify.specs.Solving.{IsSolved, wanted}
 use Rattle.ll_store.specs.declared.cells.Cell.{Cell}
 use Rattle.ll_store.specs.declared.store.Store.{Store}
-use Rattle.ll_store.specs.Environments.{values_before}
+use Rattle.ll_bank.specs.Environments.{values_before}
 use Rattle.ll_store.specs.Tables.{table_of}
 use Rattle.ll_engine.proofs.inferences.UnifyLemmas.{unifies}
 use Rattle.ll_engine.proofs.take.unify_leaf.Goals as goal

@@ -3,7 +3,7 @@ use Rattle.std.proofs.Math.Seq.{take-length}
 use Rattle.std.proofs.lemmas.List.{length-set}
 use Rattle.ll_bank.specs.Term.{close}
 use Rattle.ll_bank.specs.Nodes.{term_trees, AllInTerms}
-use Rattle.ll_bank.specs.Closing.{env_of, under}
+use Rattle.ll_bank.specs.Closing.{env_in, under}
 use Rattle.ll_list_laws.proofs.CallerLemmas.{fewer_left}
 use Rattle.ll_bank.proofs.closes.Filling.{filled}
 use Rattle.ll_bank.proofs.closing.flat.all_at_hand.Goals as goal
@@ -48,7 +48,7 @@ loop-index-smaller c = fewer_left _ _ c.loop-index-test.true
 pub loop-index-preserved : goal.loop-index-preserved
 loop-index-preserved c =
     let inv = c.loop-index.invariant in
-    let more = filled c.args.bank.now (under (env_of c.args.bank.now c.args.values.now) c.args.level) c.loop-index.own c.args.args.now c.loop-index.index
+    let more = filled c.args.bank.now (under (env_in c.args.bank.now c.args.values) c.args.level) c.loop-index.own c.args.args.now c.loop-index.index
     (record { 0 = 0 }) c.in-Some.image (omega (arith, c.loop-index-test.true, inv.few)) c.loop-index-test.true inv.places inv.shows c.in-Some.ensures in
     record { few = omega (arith, inv.few, length-set c.loop-index.own c.loop-index.index c.in-Some.image); places = more.0; shows = more.1 }
 
@@ -63,7 +63,7 @@ returns-clause-places c = λ e.
 pub returns-clause-shows : goal.returns-clause-shows
 returns-clause-shows c = λ e.
     let bank = c.args.bank.now in
-    let env = under (env_of bank c.args.values.now) c.args.level in
+    let env = under (env_in bank c.args.values) c.args.level in
     let same : c.loop-index.index ≡ length c.args.args.now = omega (arith, c.loop-index-test.false, c.loop-index.auto.index-end) in
     subst (λ n. term_trees bank (take n c.loop-index.own) ≡ map (close env) (term_trees bank (take n c.args.args.now))) same c.loop-index.invariant.shows
     ∙ ap (λ xs. map (close env) (term_trees bank xs)) (take-length c.args.args.now)

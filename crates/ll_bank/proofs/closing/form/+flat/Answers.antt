@@ -3,8 +3,9 @@ use Rattle.std.specs.Prelude.{IfOk, IfSome}
 use Rattle.std.proofs.lemmas.Bool.{and_parts}
 use Rattle.ll_bank.specs.Form.{Form, Forall, Exists, close_form, form_applies_heads}
 use Rattle.ll_bank.specs.Nodes.{form_tree, ShowsForm}
-use Rattle.ll_bank.proofs.Trees.{Extends-refl, HasForm-extends, AllInTerms-extends}
-use Rattle.ll_bank.specs.Closing.{env_of, under}
+use Rattle.ll_bank.proofs.Trees.{Extends-refl, HasForm-extends}
+use Rattle.ll_bank.specs.Closing.{env_in, under}
+use Rattle.ll_bank.proofs.closes.Values.{HasValues-extends}
 use Rattle.ll_bank.proofs.closes.Steps.{form_heads_kept, form_shown}
 use Rattle.ll_bank.proofs.closing.form.+flat.Goals as goal
 
@@ -20,12 +21,12 @@ closed_flat-returns-in-One-clause-keeps t c = Extends-refl c.args.bank.now
 pub closed_pair-closed_flat-requires-2 : goal.closed_pair-closed_flat-requires-2
 closed_pair-closed_flat-requires-2 t c =
     let first = c.args.bank.now in
-    let env = env_of first c.args.values.now in
+    let env = env_in first c.args.values in
     let image : Form → _ = λ f. close_form (under env c.args.level) f in
     let more = c.closed_flat.ensures.keeps in
     let inside = HasForm-extends more c.args.right.0 c.requires.right in
-    let values = AllInTerms-extends more c.args.values.now c.requires.values in
-    let heads = form_heads_kept first c.closed_flat.new.bank more c.args.values.now c.requires.values (c.args.right.0, c.args.level) c.requires.right
+    let values = HasValues-extends more c.args.values c.requires.values in
+    let heads = form_heads_kept first c.closed_flat.new.bank more c.args.values c.requires.values (c.args.right.0, c.args.level) c.requires.right
     (and_parts (form_applies_heads (image (form_tree first c.args.left.0))) (form_applies_heads (image (form_tree first c.args.right.0))) c.requires.heads).1 in
     search rules
 
@@ -34,15 +35,15 @@ closed_pair-returns-in-Some-2-clause-right t c =
     let first = c.args.bank.now in
     let now = c.closed_flat.new.bank in
     let next = c.closed_flat-2.new.bank in
-    let here = subst (λ made. IfSome made (λ image. ShowsForm next image.0 (close_form (under (env_of now c.args.values.now) c.args.level)
+    let here = subst (λ made. IfSome made (λ image. ShowsForm next image.0 (close_form (under (env_in now c.args.values) c.args.level)
     (form_tree now c.args.right.0)))) c.in-Some-2.is c.in_ok-second.ensures.shows in
-    form_shown first now c.closed_flat.ensures.keeps c.args.values.now c.requires.values (c.args.right.0, c.args.level) next c.in-Some-2.second.0
+    form_shown first now c.closed_flat.ensures.keeps c.args.values c.requires.values (c.args.right.0, c.args.level) next c.in-Some-2.second.0
     c.requires.right here
 
 pub closed_under-returns-in-Some-2-clause-shows : goal.closed_under-returns-in-Some-2-clause-shows
 closed_under-returns-in-Some-2-clause-shows t c =
     let bank = c.args.bank.now in
-    let env = env_of bank c.args.values.now in
+    let env = env_in bank c.args.values in
     let level = c.args.level in
     let body = form_tree bank c.in-Forall.f.0 in
     let here = subst (λ made. IfSome made (λ image. ShowsForm c.closed_flat-in-Forall.new.bank image.0 (close_form (under env (level + 1)) body)))
@@ -54,7 +55,7 @@ closed_under-returns-in-Some-2-clause-shows t c =
 pub closed_under-returns-in-Some-3-clause-shows : goal.closed_under-returns-in-Some-3-clause-shows
 closed_under-returns-in-Some-3-clause-shows t c =
     let bank = c.args.bank.now in
-    let env = env_of bank c.args.values.now in
+    let env = env_in bank c.args.values in
     let level = c.args.level in
     let body = form_tree bank c.in-Exists.f.0 in
     let here = subst (λ made. IfSome made (λ image. ShowsForm c.closed_flat-in-Exists.new.bank image.0 (close_form (under env (level + 1)) body)))

@@ -2,7 +2,7 @@ use Rattle.std.proofs.lemmas.Result.{IfOk-from_err}
 use Rattle.std.proofs.Common.{◌≡◌, ◌-◌, length, take, length-append, ap, sym, subst, ◌∙◌, arith, rules}
 use Rattle.ll_bank.specs.declared.FormAt.{FormAt}
 use Rattle.ll_bank.specs.Opened.{form_parts_at}
-use Rattle.ll_bank.specs.Closing.{env_of, IsFormImage}
+use Rattle.ll_bank.specs.Closing.{env_in, IsFormImage}
 use Rattle.ll_bank.specs.Stacks.{AreImagesOf}
 use Rattle.ll_bank.proofs.closes.Stacks.{images_length, slice_own}
 use Rattle.ll_bank.proofs.closing.form.build_form.Goals as goal
@@ -10,7 +10,7 @@ use Rattle.ll_bank.proofs.closing.form.build_form.Goals as goal
 pub closed_node-requires-clause-parts : goal.closed_node-requires-clause-parts
 closed_node-requires-clause-parts c =
     let bank = c.args.bank.now in
-    let env = env_of bank c.args.values.now in
+    let env = env_in bank c.args.values in
     let parts = form_parts_at bank (c.args.task.place, c.args.task.level) in
     let p = c.requires.parts in
     let l = images_length (λ k (x : FormAt). IsFormImage bank env k x.0) parts p.own p.images in
@@ -65,7 +65,7 @@ overflow_sub-from c =
       arith,
       n,
       c.part_count.ensures c.args.task.level,
-      images_length (λ k (x : FormAt). IsFormImage bank (env_of bank c.args.values.now) k x.0)
+      images_length (λ k (x : FormAt). IsFormImage bank (env_in bank c.args.values) k x.0)
           (form_parts_at bank (c.args.task.place, c.args.task.level)) p.own p.images,
       length-append p.below p.own,
       ap length p.is,

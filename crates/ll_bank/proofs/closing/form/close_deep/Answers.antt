@@ -5,10 +5,11 @@ use Rattle.std.specs.HashMap.{get}
 use Rattle.ll_bank.specs.declared.FormAt.{FormAt}
 use Rattle.ll_bank.specs.Nodes.{form_tree}
 use Rattle.ll_bank.specs.Opened.{Spot, form_parts_at, form_size_at}
-use Rattle.ll_bank.proofs.Trees.{Extends-refl, Extends-trans, AllInTerms-extends}
+use Rattle.ll_bank.proofs.Trees.{Extends-refl, Extends-trans}
 use Rattle.ll_bank.proofs.PartLemmas.{form_size-some}
-use Rattle.ll_bank.specs.Closing.{env_of, same_spot, IsTermImage, IsFormImage, IsGoodForm}
+use Rattle.ll_bank.specs.Closing.{env_in, same_spot, IsTermImage, IsFormImage, IsGoodForm}
 use Rattle.ll_bank.specs.Stacks.{visit, ready}
+use Rattle.ll_bank.proofs.closes.Values.{HasValues-extends}
 use Rattle.ll_bank.proofs.closes.Known.{images_add, images_none, form_image_extends, form_images_extend}
 use Rattle.ll_bank.proofs.closes.Stacks.{closing_begins, closing_builds, closing_found, closing_expands, closing_ends, take_none, ends_with_none}
 use Rattle.ll_bank.proofs.closes.Stacks.{work_pops, work_expands}
@@ -32,7 +33,7 @@ returns-in_err-push_part-clause-keeps c =
 pub loop-task-init : goal.loop-task-init
 loop-task-init c =
     let first = c.args.bank.now in
-    let env = env_of first c.args.values.now in
+    let env = env_in first c.args.values in
     record {
       keeps = Extends-refl first;
       terms = images_none (IsTermImage first env) (get same_spot c.new-terms.result.places) c.new-terms.ensures;
@@ -46,13 +47,13 @@ loop-task-init c =
 
 pub build_form-requires-clause-heads : goal.build_form-requires-clause-heads
 build_form-requires-clause-heads c =
-    let f = form_turn c.args.values.now c.pop.new.self.items c.in-Some.task c.loop-task.invariant.keeps c.requires.values c.in-Some.ensures.items
+    let f = form_turn c.args.values c.pop.new.self.items c.in-Some.task c.loop-task.invariant.keeps c.requires.values c.in-Some.ensures.items
     c.loop-task.invariant.closing in
     f.heads
 
 pub build_form-requires-clause-parts : goal.build_form-requires-clause-parts
 build_form-requires-clause-parts c =
-    let f = form_turn c.args.values.now c.pop.new.self.items c.in-Some.task c.loop-task.invariant.keeps c.requires.values c.in-Some.ensures.items
+    let f = form_turn c.args.values c.pop.new.self.items c.in-Some.task c.loop-task.invariant.keeps c.requires.values c.in-Some.ensures.items
     c.loop-task.invariant.closing in
     f.ends c.if-task.true
 
@@ -66,12 +67,12 @@ returns-in_err-push-clause-keeps c =
 
 pub loop-task-preserved-in-Continue-branch-4 : goal.loop-task-preserved-in-Continue-branch-4
 loop-task-preserved-in-Continue-branch-4 c =
-    let f = form_turn c.args.values.now c.pop.new.self.items c.in-Some.task c.loop-task.invariant.keeps c.requires.values c.in-Some.ensures.items
+    let f = form_turn c.args.values c.pop.new.self.items c.in-Some.task c.loop-task.invariant.keeps c.requires.values c.in-Some.ensures.items
     c.loop-task.invariant.closing in
     let first = c.args.bank.now in
     let now = c.loop-task.bank in
-    let vs = c.args.values.now in
-    let env = env_of first vs in
+    let vs = c.args.values in
+    let env = env_in first vs in
     let inv = c.loop-task.invariant in
     let rest = c.pop.new.self.items in
     let task = c.in-Some.task in
@@ -113,7 +114,7 @@ loop-task-preserved-in-Continue-branch-5 c =
 
 pub loop-task-smaller : goal.loop-task-smaller
 loop-task-smaller c =
-    let f = form_turn c.args.values.now c.pop.new.self.items c.in-Some.task c.loop-task.invariant.keeps c.requires.values c.in-Some.ensures.items
+    let f = form_turn c.args.values c.pop.new.self.items c.in-Some.task c.loop-task.invariant.keeps c.requires.values c.in-Some.ensures.items
     c.loop-task.invariant.closing in
     let first = c.args.bank.now in
     let now = c.loop-task.bank in
@@ -129,12 +130,12 @@ loop-task-smaller c =
 
 pub loop-task-preserved : goal.loop-task-preserved
 loop-task-preserved c =
-    let f = form_turn c.args.values.now c.pop.new.self.items c.in-Some.task c.loop-task.invariant.keeps c.requires.values c.in-Some.ensures.items
+    let f = form_turn c.args.values c.pop.new.self.items c.in-Some.task c.loop-task.invariant.keeps c.requires.values c.in-Some.ensures.items
     c.loop-task.invariant.closing in
     let first = c.args.bank.now in
     let now = c.loop-task.bank in
-    let vs = c.args.values.now in
-    let env = env_of first vs in
+    let vs = c.args.values in
+    let env = env_in first vs in
     let inv = c.loop-task.invariant in
     let rest = c.pop.new.self.items in
     let task = c.in-Some.task in
@@ -153,27 +154,27 @@ pub returns-clause-shows : goal.returns-clause-shows
 returns-clause-shows c =
     let first = c.args.bank.now in
     let now = c.loop-task.bank in
-    let env = env_of first c.args.values.now in
+    let env = env_in first c.args.values in
     let inv = c.loop-task.invariant in
-    form_left first now inv.keeps c.args.values.now c.requires.values (c.args.form.0, 0) c.loop-task.made.items c.index.result.now c.index.ensures
+    form_left first now inv.keeps c.args.values c.requires.values (c.args.form.0, 0) c.loop-task.made.items c.index.result.now c.index.ensures
     c.requires.inside
     (closing_ends (form_parts_at first) (IsGoodForm first (env, c.args.form.0)) (c.args.form.0, 0) (λ q (x : FormAt). IsFormImage now env q x.0)
     c.loop-task.made.items c.loop-task.tasks.items (let h = c.in_default.ensures.cases.0 in search rules) inv.closing)
 
 pub build_form-requires-clause-terms : goal.build_form-requires-clause-terms
 build_form-requires-clause-terms c =
-    images_now c.args.bank.now c.loop-task.bank c.loop-task.invariant.keeps c.args.values.now c.requires.values
+    images_now c.args.bank.now c.loop-task.bank c.loop-task.invariant.keeps c.args.values c.requires.values
     (get same_spot c.loop-task.terms.places) c.loop-task.invariant.terms
 
 pub push_form-requires-clause-inside : goal.push_form-requires-clause-inside
 push_form-requires-clause-inside c =
-    let f = form_turn c.args.values.now c.pop.new.self.items c.in-Some.task c.loop-task.invariant.keeps c.requires.values c.in-Some.ensures.items
+    let f = form_turn c.args.values c.pop.new.self.items c.in-Some.task c.loop-task.invariant.keeps c.requires.values c.in-Some.ensures.items
     c.loop-task.invariant.closing in
     f.inside
 
 pub push_form-requires-clause-level : goal.push_form-requires-clause-level
 push_form-requires-clause-level c =
-    let f = form_turn c.args.values.now c.pop.new.self.items c.in-Some.task c.loop-task.invariant.keeps c.requires.values c.in-Some.ensures.items
+    let f = form_turn c.args.values c.pop.new.self.items c.in-Some.task c.loop-task.invariant.keeps c.requires.values c.in-Some.ensures.items
     c.loop-task.invariant.closing in
     level_fits _ c.args.form.0 c.place_of.result f.good.level c.place_of.ensures.fits c.place_of.ensures.is
 
@@ -183,13 +184,13 @@ returns-in_err-image-clause-keeps c =
 
 pub build_form-requires-then-is_single-clause-heads : goal.build_form-requires-then-is_single-clause-heads
 build_form-requires-then-is_single-clause-heads c =
-    let f = form_turn c.args.values.now c.pop.new.self.items c.in-Some.task c.loop-task.invariant.keeps c.requires.values c.in-Some.ensures.items
+    let f = form_turn c.args.values c.pop.new.self.items c.in-Some.task c.loop-task.invariant.keeps c.requires.values c.in-Some.ensures.items
     c.loop-task.invariant.closing in
     f.heads
 
 pub build_form-requires-then-is_single-clause-terms : goal.build_form-requires-then-is_single-clause-terms
 build_form-requires-then-is_single-clause-terms c =
-    images_now c.args.bank.now c.loop-task.bank c.loop-task.invariant.keeps c.args.values.now c.requires.values
+    images_now c.args.bank.now c.loop-task.bank c.loop-task.invariant.keeps c.args.values c.requires.values
     (get same_spot c.loop-task.terms.places) c.loop-task.invariant.terms
 
 pub returns-in_err-image-2-clause-keeps : goal.returns-in_err-image-2-clause-keeps
@@ -207,12 +208,12 @@ loop-task-smaller-in-Continue-branch-7 c =
 
 pub loop-task-preserved-in-Continue-branch-7 : goal.loop-task-preserved-in-Continue-branch-7
 loop-task-preserved-in-Continue-branch-7 c =
-    let f = form_turn c.args.values.now c.pop.new.self.items c.in-Some.task c.loop-task.invariant.keeps c.requires.values c.in-Some.ensures.items
+    let f = form_turn c.args.values c.pop.new.self.items c.in-Some.task c.loop-task.invariant.keeps c.requires.values c.in-Some.ensures.items
     c.loop-task.invariant.closing in
     let first = c.args.bank.now in
     let now = c.loop-task.bank in
-    let vs = c.args.values.now in
-    let env = env_of first vs in
+    let vs = c.args.values in
+    let env = env_in first vs in
     let inv = c.loop-task.invariant in
     let rest = c.pop.new.self.items in
     let task = c.in-Some.task in
@@ -234,33 +235,33 @@ loop-task-preserved-in-Continue-branch-7 c =
 
 pub build_form-requires-clause-inside : goal.build_form-requires-clause-inside
 build_form-requires-clause-inside c =
-    let f = form_turn c.args.values.now c.pop.new.self.items c.in-Some.task c.loop-task.invariant.keeps c.requires.values c.in-Some.ensures.items
+    let f = form_turn c.args.values c.pop.new.self.items c.in-Some.task c.loop-task.invariant.keeps c.requires.values c.in-Some.ensures.items
     c.loop-task.invariant.closing in
     f.inside
 
 pub build_form-requires-clause-values : goal.build_form-requires-clause-values
 build_form-requires-clause-values c =
-    AllInTerms-extends c.loop-task.invariant.keeps c.args.values.now c.requires.values
+    HasValues-extends c.loop-task.invariant.keeps c.args.values c.requires.values
 
 pub build_form-requires-then-is_single-clause-inside : goal.build_form-requires-then-is_single-clause-inside
 build_form-requires-then-is_single-clause-inside c =
-    let f = form_turn c.args.values.now c.pop.new.self.items c.in-Some.task c.loop-task.invariant.keeps c.requires.values c.in-Some.ensures.items
+    let f = form_turn c.args.values c.pop.new.self.items c.in-Some.task c.loop-task.invariant.keeps c.requires.values c.in-Some.ensures.items
     c.loop-task.invariant.closing in
     f.inside
 
 pub build_form-requires-then-is_single-clause-values : goal.build_form-requires-then-is_single-clause-values
 build_form-requires-then-is_single-clause-values c =
-    AllInTerms-extends c.loop-task.invariant.keeps c.args.values.now c.requires.values
+    HasValues-extends c.loop-task.invariant.keeps c.args.values c.requires.values
 
 pub build_form-requires-then-is_single-clause-parts : goal.build_form-requires-then-is_single-clause-parts
 build_form-requires-then-is_single-clause-parts c =
     let now = c.loop-task.bank in
-    ends_with_none (λ k (x : FormAt). IsFormImage now (env_of now c.args.values.now) k x.0)
+    ends_with_none (λ k (x : FormAt). IsFormImage now (env_in now c.args.values) k x.0)
     (form_parts_at now (c.in-Some.task.place, c.in-Some.task.level)) c.loop-task.made.items (c.is_single.ensures c.if-is_single.true)
 
 pub is_single-requires : goal.is_single-requires
 is_single-requires c =
-    let f = form_turn c.args.values.now c.pop.new.self.items c.in-Some.task c.loop-task.invariant.keeps c.requires.values c.in-Some.ensures.items
+    let f = form_turn c.args.values c.pop.new.self.items c.in-Some.task c.loop-task.invariant.keeps c.requires.values c.in-Some.ensures.items
     c.loop-task.invariant.closing in
     f.inside
 
@@ -285,7 +286,7 @@ pub index-requires : goal.index-requires
 index-requires c =
     let first = c.args.bank.now in
     let now = c.loop-task.bank in
-    let env = env_of first c.args.values.now in
+    let env = env_in first c.args.values in
     let left = closing_ends (form_parts_at first) (IsGoodForm first (env, c.args.form.0)) (c.args.form.0, 0) (λ q (x : FormAt). IsFormImage now env q x.0)
     c.loop-task.made.items c.loop-task.tasks.items (let h = c.in_default.ensures.cases.0 in search rules) c.loop-task.invariant.closing in
     one_left {x = left.0} _ c.loop-task.made.ok.0 left.1

@@ -1,25 +1,24 @@
-use Rattle.std.proofs.Common.{ap, sym, subst, ◌∙◌, length}
+use Rattle.std.proofs.Common.{ap, sym, subst, ◌∙◌}
 use Rattle.std.specs.Prelude.{IfOk}
-use Rattle.std.proofs.lemmas.Bool.{eqb-true}
 use Rattle.std.proofs.lemmas.Result.{IfOk-from_err, IfOk-weaker}
 use Rattle.ll_bank.specs.Form.{Atom, close_form, form_applies_heads}
 use Rattle.ll_bank.specs.Nodes.{form_tree, ShowsForm}
-use Rattle.ll_bank.proofs.Trees.{Extends-refl, Extends-trans, HasForm-extends, AllInTerms-extends}
-use Rattle.ll_bank.specs.Closing.{env_of}
-use Rattle.ll_bank.proofs.closes.Values.{form_empty}
+use Rattle.ll_bank.proofs.Trees.{Extends-refl, Extends-trans, HasForm-extends}
+use Rattle.ll_bank.specs.Closing.{env_in}
+use Rattle.ll_bank.proofs.closes.Values.{HasValues-extends, form_empty}
 use Rattle.ll_bank.proofs.closes.Steps.{form_heads_kept, form_shown}
 use Rattle.ll_bank.proofs.closing.form.close_form.Goals as goal
 
-pub returns-then-is_empty-clause-shows : goal.returns-then-is_empty-clause-shows
-returns-then-is_empty-clause-shows c =
+pub returns-then-count-eq0-clause-shows : goal.returns-then-count-eq0-clause-shows
+returns-then-count-eq0-clause-shows c =
     record {
       inside = c.requires.inside;
-      tree = sym (form_empty c.args.bank.now c.args.values.now (form_tree c.args.bank.now c.args.form.0)
-          (eqb-true (length c.args.values.now) 0 (sym c.is_empty.ensures ∙ c.if-is_empty.true)));
+      tree = sym (form_empty (env_in c.args.bank.now c.args.values) (form_tree c.args.bank.now c.args.form.0)
+          (sym (c.count.ensures c.args.bank.now) ∙ c.if-count-eq0.true));
     }
 
-pub returns-then-is_empty-clause-keeps : goal.returns-then-is_empty-clause-keeps
-returns-then-is_empty-clause-keeps c =
+pub returns-then-count-eq0-clause-keeps : goal.returns-then-count-eq0-clause-keeps
+returns-then-count-eq0-clause-keeps c =
     Extends-refl c.args.bank.now
 
 pub form_at-requires : goal.form_at-requires
@@ -33,7 +32,7 @@ close_term-requires-clause-values c = c.requires.values
 
 pub close_term-requires-clause-heads : goal.close_term-requires-clause-heads
 close_term-requires-clause-heads c =
-    let env = env_of c.args.bank.now c.args.values.now in
+    let env = env_in c.args.bank.now c.args.values in
     sym (ap (λ f. form_applies_heads (close_form env f)) c.in-Atom.ensures.shown.tree) ∙ c.requires.heads
 
 pub returns-in_err-atom-in-Atom-clause-shows : goal.returns-in_err-atom-in-Atom-clause-shows
@@ -53,14 +52,14 @@ close_deep-requires c =
     let more = c.closed_flat.ensures.keeps in
     record {
       inside = HasForm-extends more c.args.form.0 c.requires.inside;
-      values = AllInTerms-extends more c.args.values.now c.requires.values;
-      heads = form_heads_kept c.args.bank.now c.closed_flat.new.bank more c.args.values.now c.requires.values (c.args.form.0, 0) c.requires.inside
+      values = HasValues-extends more c.args.values c.requires.values;
+      heads = form_heads_kept c.args.bank.now c.closed_flat.new.bank more c.args.values c.requires.values (c.args.form.0, 0) c.requires.inside
           c.requires.heads;
     }
 
 pub returns-in_ok-atom-in-Atom-clause-shows : goal.returns-in_ok-atom-in-Atom-clause-shows
 returns-in_ok-atom-in-Atom-clause-shows c =
-    let env = env_of c.args.bank.now c.args.values.now in
+    let env = env_in c.args.bank.now c.args.values in
     subst (λ f. IfOk c.share_form.result (λ made. ShowsForm c.share_form.new.bank made.0 f))
     (ap Atom c.in_ok-atom-in-Atom.ensures.shows.tree ∙ sym (ap (close_form env) c.in-Atom.ensures.shown.tree)) c.share_form.ensures.shows
 
@@ -71,7 +70,7 @@ pub returns-in-None : goal.returns-in-None
 returns-in-None c =
     let more = c.closed_flat.ensures.keeps in
     record {
-      shows = IfOk-weaker c.close_deep.result _ _ (λ made h. form_shown c.args.bank.now c.closed_flat.new.bank more c.args.values.now c.requires.values
+      shows = IfOk-weaker c.close_deep.result _ _ (λ made h. form_shown c.args.bank.now c.closed_flat.new.bank more c.args.values c.requires.values
           (c.args.form.0, 0) c.close_deep.new.bank made.0 c.requires.inside h) c.close_deep.ensures.shows;
       keeps = Extends-trans more c.close_deep.ensures.keeps;
     }

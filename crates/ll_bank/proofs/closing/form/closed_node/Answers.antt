@@ -11,7 +11,7 @@ use Rattle.ll_bank.specs.Form.{Atom, With, Tensor, Plus, Bang, Lolli, Imp, Foral
 use Rattle.ll_bank.specs.Nodes.{term_tree, term_trees, form_tree, node_of, AllInTerms, ShowsForm}
 use Rattle.ll_bank.proofs.Trees.{Extends-refl, Extends-trans, HasForm-extends, form_tree-extends}
 use Rattle.ll_bank.proofs.PartLemmas.{load_heads}
-use Rattle.ll_bank.specs.Closing.{env_of, under, same_spot, IsNum}
+use Rattle.ll_bank.specs.Closing.{env_in, under, same_spot, IsNum}
 use Rattle.ll_bank.proofs.closes.Known.{on_ok, term_images_extend}
 use Rattle.ll_bank.proofs.closes.Parts.{one_image, two_inside, first_inside, second_inside, joins_one, joins_two}
 use Rattle.std.proofs.lemmas.Result.{IfOk-from_err}
@@ -23,7 +23,7 @@ form_at-requires c =
 
 pub returns-in-Top-clause-shows : goal.returns-in-Top-clause-shows
 returns-in-Top-clause-shows c =
-    let e = under (env_of c.args.bank.now c.args.values.now) c.args.task.level in
+    let e = under (env_in c.args.bank.now c.args.values) c.args.task.level in
     record {
       inside = c.requires.inside;
       tree = c.in-Top.ensures.shown.tree ∙ sym (ap (close_form e) c.in-Top.ensures.shown.tree);
@@ -39,7 +39,7 @@ returns-in-Top-clause-keeps c =
 
 pub returns-in-One-clause-shows : goal.returns-in-One-clause-shows
 returns-in-One-clause-shows c =
-    let e = under (env_of c.args.bank.now c.args.values.now) c.args.task.level in
+    let e = under (env_in c.args.bank.now c.args.values) c.args.task.level in
     record {
       inside = c.requires.inside;
       tree = c.in-One.ensures.shown.tree ∙ sym (ap (close_form e) c.in-One.ensures.shown.tree);
@@ -56,14 +56,14 @@ returns-in-One-clause-keeps c =
 pub bounds-parts-0 : goal.bounds-parts-0
 bounds-parts-0 c =
     let bank = c.args.bank.now in
-    let env = env_of bank c.args.values.now in
+    let env = env_in bank c.args.values in
     first_inside bank env c.args.task.place c.args.task.level c.args.parts.now c.requires.parts
     (node_of (WithView c.in-With.field-0 c.in-With.field-1)) c.in-With.ensures.node 1 refl
 
 pub bounds-parts-1 : goal.bounds-parts-1
 bounds-parts-1 c =
     let bank = c.args.bank.now in
-    let env = env_of bank c.args.values.now in
+    let env = env_in bank c.args.values in
     second_inside bank env c.args.task.place c.args.task.level c.args.parts.now c.requires.parts
     (node_of (WithView c.in-With.field-0 c.in-With.field-1)) c.in-With.ensures.node 0 refl
 
@@ -74,7 +74,7 @@ share_form-requires-in-With-clause-inside c =
 pub share_form-requires-in-With-clause-parts : goal.share_form-requires-in-With-clause-parts
 share_form-requires-in-With-clause-parts c =
     let bank = c.args.bank.now in
-    let env = env_of bank c.args.values.now in
+    let env = env_in bank c.args.values in
     two_inside bank env c.args.task.place c.args.task.level c.args.parts.now c.requires.parts
     (node_of (WithView c.in-With.field-0 c.in-With.field-1)) c.in-With.ensures.node
     c.in-With.field-0.0 c.in-With.field-1.0 c.args.task.level (record { 0 = 0 }) refl
@@ -82,7 +82,7 @@ share_form-requires-in-With-clause-parts c =
 pub returns-in-With-clause-shows : goal.returns-in-With-clause-shows
 returns-in-With-clause-shows c =
     let bank = c.args.bank.now in
-    let env = env_of bank c.args.values.now in
+    let env = env_in bank c.args.values in
     subst (λ u. IfOk c.share_form-in-With.result (λ image. ShowsForm c.share_form-in-With.new.bank image.0 u))
     (joins_two bank env c.args.task.place c.args.task.level c.args.parts.now c.requires.parts
     (node_of (WithView c.in-With.field-0 c.in-With.field-1)) c.in-With.ensures.node With c.in-With.field-0.0 c.in-With.field-1.0 (record { 0 = 0 }) refl
@@ -92,7 +92,7 @@ returns-in-With-clause-shows c =
 pub returns-in-With-clause-terms : goal.returns-in-With-clause-terms
 returns-in-With-clause-terms c =
     let bank = c.args.bank.now in
-    let env = env_of bank c.args.values.now in
+    let env = env_in bank c.args.values in
     on_ok c.share_form-in-With.result
     (term_images_extend bank c.share_form-in-With.new.bank c.share_form-in-With.ensures.keeps env (get same_spot c.args.terms.now.places)
     c.requires.terms)
@@ -104,14 +104,14 @@ returns-in-With-clause-keeps c =
 pub bounds-parts-0-in-Tensor : goal.bounds-parts-0-in-Tensor
 bounds-parts-0-in-Tensor c =
     let bank = c.args.bank.now in
-    let env = env_of bank c.args.values.now in
+    let env = env_in bank c.args.values in
     first_inside bank env c.args.task.place c.args.task.level c.args.parts.now c.requires.parts
     (node_of (TensorView c.in-Tensor.field-0 c.in-Tensor.field-1)) c.in-Tensor.ensures.node 1 refl
 
 pub bounds-parts-1-in-Tensor : goal.bounds-parts-1-in-Tensor
 bounds-parts-1-in-Tensor c =
     let bank = c.args.bank.now in
-    let env = env_of bank c.args.values.now in
+    let env = env_in bank c.args.values in
     second_inside bank env c.args.task.place c.args.task.level c.args.parts.now c.requires.parts
     (node_of (TensorView c.in-Tensor.field-0 c.in-Tensor.field-1)) c.in-Tensor.ensures.node 0 refl
 
@@ -122,7 +122,7 @@ share_form-requires-in-Tensor-clause-inside c =
 pub share_form-requires-in-Tensor-clause-parts : goal.share_form-requires-in-Tensor-clause-parts
 share_form-requires-in-Tensor-clause-parts c =
     let bank = c.args.bank.now in
-    let env = env_of bank c.args.values.now in
+    let env = env_in bank c.args.values in
     two_inside bank env c.args.task.place c.args.task.level c.args.parts.now c.requires.parts
     (node_of (TensorView c.in-Tensor.field-0 c.in-Tensor.field-1)) c.in-Tensor.ensures.node
     c.in-Tensor.field-0.0 c.in-Tensor.field-1.0 c.args.task.level (record { 0 = 0 }) refl
@@ -130,7 +130,7 @@ share_form-requires-in-Tensor-clause-parts c =
 pub returns-in-Tensor-clause-shows : goal.returns-in-Tensor-clause-shows
 returns-in-Tensor-clause-shows c =
     let bank = c.args.bank.now in
-    let env = env_of bank c.args.values.now in
+    let env = env_in bank c.args.values in
     subst (λ u. IfOk c.share_form-in-Tensor.result (λ image. ShowsForm c.share_form-in-Tensor.new.bank image.0 u))
     (joins_two bank env c.args.task.place c.args.task.level c.args.parts.now c.requires.parts
     (node_of (TensorView c.in-Tensor.field-0 c.in-Tensor.field-1)) c.in-Tensor.ensures.node
@@ -141,7 +141,7 @@ returns-in-Tensor-clause-shows c =
 pub returns-in-Tensor-clause-terms : goal.returns-in-Tensor-clause-terms
 returns-in-Tensor-clause-terms c =
     let bank = c.args.bank.now in
-    let env = env_of bank c.args.values.now in
+    let env = env_in bank c.args.values in
     on_ok c.share_form-in-Tensor.result
     (term_images_extend bank c.share_form-in-Tensor.new.bank c.share_form-in-Tensor.ensures.keeps env (get same_spot c.args.terms.now.places)
     c.requires.terms)
@@ -153,14 +153,14 @@ returns-in-Tensor-clause-keeps c =
 pub bounds-parts-0-in-Plus : goal.bounds-parts-0-in-Plus
 bounds-parts-0-in-Plus c =
     let bank = c.args.bank.now in
-    let env = env_of bank c.args.values.now in
+    let env = env_in bank c.args.values in
     first_inside bank env c.args.task.place c.args.task.level c.args.parts.now c.requires.parts
     (node_of (PlusView c.in-Plus.field-0 c.in-Plus.field-1)) c.in-Plus.ensures.node 1 refl
 
 pub bounds-parts-1-in-Plus : goal.bounds-parts-1-in-Plus
 bounds-parts-1-in-Plus c =
     let bank = c.args.bank.now in
-    let env = env_of bank c.args.values.now in
+    let env = env_in bank c.args.values in
     second_inside bank env c.args.task.place c.args.task.level c.args.parts.now c.requires.parts
     (node_of (PlusView c.in-Plus.field-0 c.in-Plus.field-1)) c.in-Plus.ensures.node 0 refl
 
@@ -171,7 +171,7 @@ share_form-requires-in-Plus-clause-inside c =
 pub share_form-requires-in-Plus-clause-parts : goal.share_form-requires-in-Plus-clause-parts
 share_form-requires-in-Plus-clause-parts c =
     let bank = c.args.bank.now in
-    let env = env_of bank c.args.values.now in
+    let env = env_in bank c.args.values in
     two_inside bank env c.args.task.place c.args.task.level c.args.parts.now c.requires.parts
     (node_of (PlusView c.in-Plus.field-0 c.in-Plus.field-1)) c.in-Plus.ensures.node
     c.in-Plus.field-0.0 c.in-Plus.field-1.0 c.args.task.level (record { 0 = 0 }) refl
@@ -179,7 +179,7 @@ share_form-requires-in-Plus-clause-parts c =
 pub returns-in-Plus-clause-shows : goal.returns-in-Plus-clause-shows
 returns-in-Plus-clause-shows c =
     let bank = c.args.bank.now in
-    let env = env_of bank c.args.values.now in
+    let env = env_in bank c.args.values in
     subst (λ u. IfOk c.share_form-in-Plus.result (λ image. ShowsForm c.share_form-in-Plus.new.bank image.0 u))
     (joins_two bank env c.args.task.place c.args.task.level c.args.parts.now c.requires.parts
     (node_of (PlusView c.in-Plus.field-0 c.in-Plus.field-1)) c.in-Plus.ensures.node Plus c.in-Plus.field-0.0 c.in-Plus.field-1.0 (record { 0 = 0 }) refl
@@ -189,7 +189,7 @@ returns-in-Plus-clause-shows c =
 pub returns-in-Plus-clause-terms : goal.returns-in-Plus-clause-terms
 returns-in-Plus-clause-terms c =
     let bank = c.args.bank.now in
-    let env = env_of bank c.args.values.now in
+    let env = env_in bank c.args.values in
     on_ok c.share_form-in-Plus.result
     (term_images_extend bank c.share_form-in-Plus.new.bank c.share_form-in-Plus.ensures.keeps env (get same_spot c.args.terms.now.places)
     c.requires.terms)
@@ -201,14 +201,14 @@ returns-in-Plus-clause-keeps c =
 pub bounds-parts-0-in-Lolli : goal.bounds-parts-0-in-Lolli
 bounds-parts-0-in-Lolli c =
     let bank = c.args.bank.now in
-    let env = env_of bank c.args.values.now in
+    let env = env_in bank c.args.values in
     first_inside bank env c.args.task.place c.args.task.level c.args.parts.now c.requires.parts
     (node_of (LolliView c.in-Lolli.field-0 c.in-Lolli.field-1)) c.in-Lolli.ensures.node 1 refl
 
 pub bounds-parts-1-in-Lolli : goal.bounds-parts-1-in-Lolli
 bounds-parts-1-in-Lolli c =
     let bank = c.args.bank.now in
-    let env = env_of bank c.args.values.now in
+    let env = env_in bank c.args.values in
     second_inside bank env c.args.task.place c.args.task.level c.args.parts.now c.requires.parts
     (node_of (LolliView c.in-Lolli.field-0 c.in-Lolli.field-1)) c.in-Lolli.ensures.node 0 refl
 
@@ -219,7 +219,7 @@ share_form-requires-in-Lolli-clause-inside c =
 pub share_form-requires-in-Lolli-clause-parts : goal.share_form-requires-in-Lolli-clause-parts
 share_form-requires-in-Lolli-clause-parts c =
     let bank = c.args.bank.now in
-    let env = env_of bank c.args.values.now in
+    let env = env_in bank c.args.values in
     two_inside bank env c.args.task.place c.args.task.level c.args.parts.now c.requires.parts
     (node_of (LolliView c.in-Lolli.field-0 c.in-Lolli.field-1)) c.in-Lolli.ensures.node
     c.in-Lolli.field-0.0 c.in-Lolli.field-1.0 c.args.task.level (record { 0 = 0 }) refl
@@ -227,7 +227,7 @@ share_form-requires-in-Lolli-clause-parts c =
 pub returns-in-Lolli-clause-shows : goal.returns-in-Lolli-clause-shows
 returns-in-Lolli-clause-shows c =
     let bank = c.args.bank.now in
-    let env = env_of bank c.args.values.now in
+    let env = env_in bank c.args.values in
     subst (λ u. IfOk c.share_form-in-Lolli.result (λ image. ShowsForm c.share_form-in-Lolli.new.bank image.0 u))
     (joins_two bank env c.args.task.place c.args.task.level c.args.parts.now c.requires.parts
     (node_of (LolliView c.in-Lolli.field-0 c.in-Lolli.field-1)) c.in-Lolli.ensures.node Lolli c.in-Lolli.field-0.0 c.in-Lolli.field-1.0 (record { 0 = 0 }) refl
@@ -237,7 +237,7 @@ returns-in-Lolli-clause-shows c =
 pub returns-in-Lolli-clause-terms : goal.returns-in-Lolli-clause-terms
 returns-in-Lolli-clause-terms c =
     let bank = c.args.bank.now in
-    let env = env_of bank c.args.values.now in
+    let env = env_in bank c.args.values in
     on_ok c.share_form-in-Lolli.result
     (term_images_extend bank c.share_form-in-Lolli.new.bank c.share_form-in-Lolli.ensures.keeps env (get same_spot c.args.terms.now.places)
     c.requires.terms)
@@ -249,14 +249,14 @@ returns-in-Lolli-clause-keeps c =
 pub bounds-parts-0-in-Imp : goal.bounds-parts-0-in-Imp
 bounds-parts-0-in-Imp c =
     let bank = c.args.bank.now in
-    let env = env_of bank c.args.values.now in
+    let env = env_in bank c.args.values in
     first_inside bank env c.args.task.place c.args.task.level c.args.parts.now c.requires.parts
     (node_of (ImpView c.in-Imp.field-0 c.in-Imp.field-1)) c.in-Imp.ensures.node 1 refl
 
 pub bounds-parts-1-in-Imp : goal.bounds-parts-1-in-Imp
 bounds-parts-1-in-Imp c =
     let bank = c.args.bank.now in
-    let env = env_of bank c.args.values.now in
+    let env = env_in bank c.args.values in
     second_inside bank env c.args.task.place c.args.task.level c.args.parts.now c.requires.parts
     (node_of (ImpView c.in-Imp.field-0 c.in-Imp.field-1)) c.in-Imp.ensures.node 0 refl
 
@@ -267,14 +267,14 @@ share_form-requires-in-Imp-clause-inside c =
 pub share_form-requires-in-Imp-clause-parts : goal.share_form-requires-in-Imp-clause-parts
 share_form-requires-in-Imp-clause-parts c =
     let bank = c.args.bank.now in
-    let env = env_of bank c.args.values.now in
+    let env = env_in bank c.args.values in
     two_inside bank env c.args.task.place c.args.task.level c.args.parts.now c.requires.parts
     (node_of (ImpView c.in-Imp.field-0 c.in-Imp.field-1)) c.in-Imp.ensures.node c.in-Imp.field-0.0 c.in-Imp.field-1.0 c.args.task.level (record { 0 = 0 }) refl
 
 pub returns-in-Imp-clause-shows : goal.returns-in-Imp-clause-shows
 returns-in-Imp-clause-shows c =
     let bank = c.args.bank.now in
-    let env = env_of bank c.args.values.now in
+    let env = env_in bank c.args.values in
     subst (λ u. IfOk c.share_form-in-Imp.result (λ image. ShowsForm c.share_form-in-Imp.new.bank image.0 u))
     (joins_two bank env c.args.task.place c.args.task.level c.args.parts.now c.requires.parts
     (node_of (ImpView c.in-Imp.field-0 c.in-Imp.field-1)) c.in-Imp.ensures.node Imp c.in-Imp.field-0.0 c.in-Imp.field-1.0 (record { 0 = 0 }) refl
@@ -284,7 +284,7 @@ returns-in-Imp-clause-shows c =
 pub returns-in-Imp-clause-terms : goal.returns-in-Imp-clause-terms
 returns-in-Imp-clause-terms c =
     let bank = c.args.bank.now in
-    let env = env_of bank c.args.values.now in
+    let env = env_in bank c.args.values in
     on_ok c.share_form-in-Imp.result
     (term_images_extend bank c.share_form-in-Imp.new.bank c.share_form-in-Imp.ensures.keeps env (get same_spot c.args.terms.now.places)
     c.requires.terms)
@@ -296,7 +296,7 @@ returns-in-Imp-clause-keeps c =
 pub bounds-parts-0-in-Bang : goal.bounds-parts-0-in-Bang
 bounds-parts-0-in-Bang c =
     let bank = c.args.bank.now in
-    let env = env_of bank c.args.values.now in
+    let env = env_in bank c.args.values in
     first_inside bank env c.args.task.place c.args.task.level c.args.parts.now c.requires.parts
     (node_of (BangView c.in-Bang.field-0)) c.in-Bang.ensures.node 0 refl
 
@@ -307,14 +307,14 @@ share_form-requires-in-Bang-clause-inside c =
 pub share_form-requires-in-Bang-clause-parts : goal.share_form-requires-in-Bang-clause-parts
 share_form-requires-in-Bang-clause-parts c =
     let bank = c.args.bank.now in
-    let env = env_of bank c.args.values.now in
+    let env = env_in bank c.args.values in
     (one_image bank env c.args.task.place c.args.task.level c.args.parts.now c.requires.parts
     (node_of (BangView c.in-Bang.field-0)) c.in-Bang.ensures.node c.in-Bang.field-0.0 c.args.task.level (record { 0 = 0 }) refl).inside
 
 pub returns-in-Bang-clause-shows : goal.returns-in-Bang-clause-shows
 returns-in-Bang-clause-shows c =
     let bank = c.args.bank.now in
-    let env = env_of bank c.args.values.now in
+    let env = env_in bank c.args.values in
     subst (λ u. IfOk c.share_form-in-Bang.result (λ image. ShowsForm c.share_form-in-Bang.new.bank image.0 u))
     (joins_one bank env c.args.task.place c.args.task.level c.args.parts.now c.requires.parts
     (node_of (BangView c.in-Bang.field-0)) c.in-Bang.ensures.node Bang c.in-Bang.field-0.0 c.args.task.level (record { 0 = 0 }) refl
@@ -324,7 +324,7 @@ returns-in-Bang-clause-shows c =
 pub returns-in-Bang-clause-terms : goal.returns-in-Bang-clause-terms
 returns-in-Bang-clause-terms c =
     let bank = c.args.bank.now in
-    let env = env_of bank c.args.values.now in
+    let env = env_in bank c.args.values in
     on_ok c.share_form-in-Bang.result
     (term_images_extend bank c.share_form-in-Bang.new.bank c.share_form-in-Bang.ensures.keeps env (get same_spot c.args.terms.now.places)
     c.requires.terms)
@@ -336,7 +336,7 @@ returns-in-Bang-clause-keeps c =
 pub bounds-parts-0-in-Forall : goal.bounds-parts-0-in-Forall
 bounds-parts-0-in-Forall c =
     let bank = c.args.bank.now in
-    let env = env_of bank c.args.values.now in
+    let env = env_in bank c.args.values in
     first_inside bank env c.args.task.place c.args.task.level c.args.parts.now c.requires.parts
     (node_of (ForallView c.in-Forall.field-0)) c.in-Forall.ensures.node 0 refl
 
@@ -347,14 +347,14 @@ share_form-requires-in-Forall-clause-inside c =
 pub share_form-requires-in-Forall-clause-parts : goal.share_form-requires-in-Forall-clause-parts
 share_form-requires-in-Forall-clause-parts c =
     let bank = c.args.bank.now in
-    let env = env_of bank c.args.values.now in
+    let env = env_in bank c.args.values in
     (one_image bank env c.args.task.place c.args.task.level c.args.parts.now c.requires.parts
     (node_of (ForallView c.in-Forall.field-0)) c.in-Forall.ensures.node c.in-Forall.field-0.0 (c.args.task.level + 1) (record { 0 = 0 }) refl).inside
 
 pub returns-in-Forall-clause-shows : goal.returns-in-Forall-clause-shows
 returns-in-Forall-clause-shows c =
     let bank = c.args.bank.now in
-    let env = env_of bank c.args.values.now in
+    let env = env_in bank c.args.values in
     subst (λ u. IfOk c.share_form-in-Forall.result (λ image. ShowsForm c.share_form-in-Forall.new.bank image.0 u))
     (joins_one bank env c.args.task.place c.args.task.level c.args.parts.now c.requires.parts
     (node_of (ForallView c.in-Forall.field-0)) c.in-Forall.ensures.node Forall c.in-Forall.field-0.0 (c.args.task.level + 1) (record { 0 = 0 }) refl
@@ -364,7 +364,7 @@ returns-in-Forall-clause-shows c =
 pub returns-in-Forall-clause-terms : goal.returns-in-Forall-clause-terms
 returns-in-Forall-clause-terms c =
     let bank = c.args.bank.now in
-    let env = env_of bank c.args.values.now in
+    let env = env_in bank c.args.values in
     on_ok c.share_form-in-Forall.result
     (term_images_extend bank c.share_form-in-Forall.new.bank c.share_form-in-Forall.ensures.keeps env (get same_spot c.args.terms.now.places)
     c.requires.terms)
@@ -376,7 +376,7 @@ returns-in-Forall-clause-keeps c =
 pub bounds-parts-0-in-Exists : goal.bounds-parts-0-in-Exists
 bounds-parts-0-in-Exists c =
     let bank = c.args.bank.now in
-    let env = env_of bank c.args.values.now in
+    let env = env_in bank c.args.values in
     first_inside bank env c.args.task.place c.args.task.level c.args.parts.now c.requires.parts
     (node_of (ExistsView c.in-Exists.field-0)) c.in-Exists.ensures.node 0 refl
 
@@ -387,14 +387,14 @@ share_form-requires-in-Exists-clause-inside c =
 pub share_form-requires-in-Exists-clause-parts : goal.share_form-requires-in-Exists-clause-parts
 share_form-requires-in-Exists-clause-parts c =
     let bank = c.args.bank.now in
-    let env = env_of bank c.args.values.now in
+    let env = env_in bank c.args.values in
     (one_image bank env c.args.task.place c.args.task.level c.args.parts.now c.requires.parts
     (node_of (ExistsView c.in-Exists.field-0)) c.in-Exists.ensures.node c.in-Exists.field-0.0 (c.args.task.level + 1) (record { 0 = 0 }) refl).inside
 
 pub returns-in-Exists-clause-shows : goal.returns-in-Exists-clause-shows
 returns-in-Exists-clause-shows c =
     let bank = c.args.bank.now in
-    let env = env_of bank c.args.values.now in
+    let env = env_in bank c.args.values in
     subst (λ u. IfOk c.share_form-in-Exists.result (λ image. ShowsForm c.share_form-in-Exists.new.bank image.0 u))
     (joins_one bank env c.args.task.place c.args.task.level c.args.parts.now c.requires.parts
     (node_of (ExistsView c.in-Exists.field-0)) c.in-Exists.ensures.node Exists c.in-Exists.field-0.0 (c.args.task.level + 1) (record { 0 = 0 }) refl
@@ -404,7 +404,7 @@ returns-in-Exists-clause-shows c =
 pub returns-in-Exists-clause-terms : goal.returns-in-Exists-clause-terms
 returns-in-Exists-clause-terms c =
     let bank = c.args.bank.now in
-    let env = env_of bank c.args.values.now in
+    let env = env_in bank c.args.values in
     on_ok c.share_form-in-Exists.result
     (term_images_extend bank c.share_form-in-Exists.new.bank c.share_form-in-Exists.ensures.keeps env (get same_spot c.args.terms.now.places)
     c.requires.terms)
@@ -423,7 +423,7 @@ closed_term-requires-clause-values c =
 
 pub closed_term-requires-clause-heads : goal.closed_term-requires-clause-heads
 closed_term-requires-clause-heads c =
-    let e = under (env_of c.args.bank.now c.args.values.now) c.args.task.level in
+    let e = under (env_in c.args.bank.now c.args.values) c.args.task.level in
     sym (ap (λ x. form_applies_heads (close_form e x)) c.in-Atom.ensures.shown.tree) ∙ c.requires.heads
 
 pub closed_term-requires-clause-images : goal.closed_term-requires-clause-images
@@ -444,14 +444,14 @@ share_form-requires-clause-parts c =
 
 pub returns-in_ok-atom-in-Atom-clause-shows : goal.returns-in_ok-atom-in-Atom-clause-shows
 returns-in_ok-atom-in-Atom-clause-shows c =
-    let e = under (env_of c.args.bank.now c.args.values.now) c.args.task.level in
+    let e = under (env_in c.args.bank.now c.args.values) c.args.task.level in
     subst (λ u. IfOk c.share_form.result (λ image. ShowsForm c.share_form.new.bank image.0 u))
     (ap Atom c.in_ok-atom-in-Atom.ensures.shows.tree ∙ sym (ap (close_form e) c.in-Atom.ensures.shown.tree))
     c.share_form.ensures.shows
 
 pub returns-in_ok-atom-in-Atom-clause-terms : goal.returns-in_ok-atom-in-Atom-clause-terms
 returns-in_ok-atom-in-Atom-clause-terms c =
-    let env = env_of c.args.bank.now c.args.values.now in
+    let env = env_in c.args.bank.now c.args.values in
     on_ok c.share_form.result
     (term_images_extend c.closed_term.new.bank c.share_form.new.bank c.share_form.ensures.keeps env (get same_spot c.closed_term.new.images.places)
     c.in_ok-atom-in-Atom.ensures.images)
@@ -508,7 +508,7 @@ closed_number_goal-requires-in-Most-clause-number c = subst IsNum (sym c.in-Most
 pub bounds-parts-0-in-Use : goal.bounds-parts-0-in-Use
 bounds-parts-0-in-Use c =
     let bank = c.args.bank.now in
-    let env = env_of bank c.args.values.now in
+    let env = env_in bank c.args.values in
     first_inside bank env c.args.task.place c.args.task.level c.args.parts.now c.requires.parts
     (node_of (UseView c.in-Use.module c.in-Use.args c.in-Use.field-2)) c.in-Use.ensures.node 0 refl
 
@@ -539,7 +539,7 @@ share_form-requires-in-Use-clause-inside c =
 pub share_form-requires-in-Use-clause-parts : goal.share_form-requires-in-Use-clause-parts
 share_form-requires-in-Use-clause-parts c =
     let bank = c.args.bank.now in
-    let env = env_of bank c.args.values.now in (
+    let env = env_in bank c.args.values in (
       subst (AllInTerms c.closed_terms.new.bank) (sym c.deref-in-Use.ensures.value) c.in_ok-args-in-Use-2.ensures.places,
       HasForm-extends c.closed_terms.ensures.keeps _ (one_image bank env c.args.task.place c.args.task.level c.args.parts.now c.requires.parts
           (node_of (UseView c.in-Use.module c.in-Use.args c.in-Use.field-2)) c.in-Use.ensures.node
@@ -548,7 +548,7 @@ share_form-requires-in-Use-clause-parts c =
 
 pub returns-in_ok-args-in-Use-2-clause-terms : goal.returns-in_ok-args-in-Use-2-clause-terms
 returns-in_ok-args-in-Use-2-clause-terms c =
-    let env = env_of c.args.bank.now c.args.values.now in
+    let env = env_in c.args.bank.now c.args.values in
     on_ok c.share_form-in-Use.result
     (term_images_extend c.closed_terms.new.bank c.share_form-in-Use.new.bank c.share_form-in-Use.ensures.keeps env
     (get same_spot c.closed_terms.new.terms.places) c.in_ok-args-in-Use-2.ensures.terms)
@@ -559,7 +559,7 @@ returns-in_ok-args-in-Use-2-clause-keeps c =
 
 pub closed_terms-requires-clause-heads : goal.closed_terms-requires-clause-heads
 closed_terms-requires-clause-heads c =
-    let e = (under (env_of c.args.bank.now c.args.values.now) c.args.task.level) in
+    let e = (under (env_in c.args.bank.now c.args.values) c.args.task.level) in
     let p = and_parts (list_all applies_heads (map (close e) (term_trees c.args.bank.now c.in-Use.args.now)))
     (form_applies_heads (close_form e (form_tree c.args.bank.now c.in-Use.field-2.0)))
     (sym (ap (λ x. form_applies_heads (close_form e x)) c.in-Use.ensures.shown.tree) ∙ c.requires.heads) in
@@ -568,8 +568,8 @@ closed_terms-requires-clause-heads c =
 
 pub returns-in_ok-args-in-Use-2-clause-shows : goal.returns-in_ok-args-in-Use-2-clause-shows
 returns-in_ok-args-in-Use-2-clause-shows c =
-    let e = (under (env_of c.args.bank.now c.args.values.now) c.args.task.level) in
-    let t = one_image c.args.bank.now (env_of c.args.bank.now c.args.values.now) c.args.task.place c.args.task.level c.args.parts.now c.requires.parts
+    let e = (under (env_in c.args.bank.now c.args.values) c.args.task.level) in
+    let t = one_image c.args.bank.now (env_in c.args.bank.now c.args.values) c.args.task.place c.args.task.level c.args.parts.now c.requires.parts
     (node_of (UseView c.in-Use.module c.in-Use.args c.in-Use.field-2)) c.in-Use.ensures.node c.in-Use.field-2.0 c.args.task.level (record { 0 = 0 }) refl in
     let a = ap (term_trees c.closed_terms.new.bank) c.deref-in-Use.ensures.value
     ∙ (c.in_ok-args-in-Use-2.ensures.shows ∙ ap (λ xs. map (close e) (term_trees c.args.bank.now xs))

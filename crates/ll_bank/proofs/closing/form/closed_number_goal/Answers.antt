@@ -12,7 +12,7 @@ use Rattle.ll_bank.specs.Term.{close, applies_heads}
 use Rattle.ll_bank.specs.Form.{Num, Is, Less, Most, close_form, form_applies_heads}
 use Rattle.ll_bank.specs.Nodes.{Nodes, term_tree, form_of, ShowsForm}
 use Rattle.ll_bank.proofs.Trees.{Extends-trans, HasForm-extends}
-use Rattle.ll_bank.specs.Closing.{env_of, under, same_spot, IsNum}
+use Rattle.ll_bank.specs.Closing.{env_in, under, same_spot, IsNum}
 use Rattle.ll_bank.proofs.closes.Known.{on_ok, term_images_extend}
 use Rattle.ll_bank.proofs.closing.form.closed_number_goal.Goals as goal
 
@@ -57,7 +57,7 @@ closed_two-requires-clause-values c =
 pub closed_two-requires-clause-left_heads : goal.closed_two-requires-clause-left_heads
 closed_two-requires-clause-left_heads c =
     let bank = c.args.bank.now in
-    let e = under (env_of bank c.args.values.now) c.args.task.level in
+    let e = under (env_in bank c.args.values) c.args.task.level in
     (and_parts (applies_heads (close e (term_tree bank c.in-Is.left.0)))
     (applies_heads (close e (term_tree bank c.in-Is.right.0)))
     (sym (ap (λ x. form_applies_heads (close_form e x)) c.in-Is.ensures.shown.tree) ∙ c.requires.heads)).0
@@ -65,7 +65,7 @@ closed_two-requires-clause-left_heads c =
 pub closed_two-requires-clause-right_heads : goal.closed_two-requires-clause-right_heads
 closed_two-requires-clause-right_heads c =
     let bank = c.args.bank.now in
-    let e = under (env_of bank c.args.values.now) c.args.task.level in
+    let e = under (env_in bank c.args.values) c.args.task.level in
     (and_parts (applies_heads (close e (term_tree bank c.in-Is.left.0)))
     (applies_heads (close e (term_tree bank c.in-Is.right.0)))
     (sym (ap (λ x. form_applies_heads (close_form e x)) c.in-Is.ensures.shown.tree) ∙ c.requires.heads)).1
@@ -88,7 +88,7 @@ share_form-requires-clause-parts c =
 
 pub returns-in_ok-left-in-Is-clause-shows : goal.returns-in_ok-left-in-Is-clause-shows
 returns-in_ok-left-in-Is-clause-shows c =
-    let e = under (env_of c.args.bank.now c.args.values.now) c.args.task.level in
+    let e = under (env_in c.args.bank.now c.args.values) c.args.task.level in
     subst (λ u. IfOk c.share_form.result (λ image. ShowsForm c.share_form.new.bank image.0 u))
     ((λ i. Num Is (c.in_ok-left-in-Is.ensures.left.tree i) (c.in_ok-left-in-Is.ensures.right.tree i))
     ∙ sym (ap (close_form e) c.in-Is.ensures.shown.tree))
@@ -96,7 +96,7 @@ returns-in_ok-left-in-Is-clause-shows c =
 
 pub returns-in_ok-left-in-Is-clause-terms : goal.returns-in_ok-left-in-Is-clause-terms
 returns-in_ok-left-in-Is-clause-terms c =
-    let env = env_of c.args.bank.now c.args.values.now in
+    let env = env_in c.args.bank.now c.args.values in
     on_ok c.share_form.result
     (term_images_extend c.closed_two.new.bank c.share_form.new.bank c.share_form.ensures.keeps env
     (get same_spot c.closed_two.new.terms.places) c.in_ok-left-in-Is.ensures.terms)
@@ -120,7 +120,7 @@ closed_two-requires-in-Less-clause-values c =
 pub closed_two-requires-in-Less-clause-left_heads : goal.closed_two-requires-in-Less-clause-left_heads
 closed_two-requires-in-Less-clause-left_heads c =
     let bank = c.args.bank.now in
-    let e = under (env_of bank c.args.values.now) c.args.task.level in
+    let e = under (env_in bank c.args.values) c.args.task.level in
     (and_parts (applies_heads (close e (term_tree bank c.in-Less.left.0)))
     (applies_heads (close e (term_tree bank c.in-Less.right.0)))
     (sym (ap (λ x. form_applies_heads (close_form e x)) c.in-Less.ensures.shown.tree) ∙ c.requires.heads)).0
@@ -128,7 +128,7 @@ closed_two-requires-in-Less-clause-left_heads c =
 pub closed_two-requires-in-Less-clause-right_heads : goal.closed_two-requires-in-Less-clause-right_heads
 closed_two-requires-in-Less-clause-right_heads c =
     let bank = c.args.bank.now in
-    let e = under (env_of bank c.args.values.now) c.args.task.level in
+    let e = under (env_in bank c.args.values) c.args.task.level in
     (and_parts (applies_heads (close e (term_tree bank c.in-Less.left.0)))
     (applies_heads (close e (term_tree bank c.in-Less.right.0)))
     (sym (ap (λ x. form_applies_heads (close_form e x)) c.in-Less.ensures.shown.tree) ∙ c.requires.heads)).1
@@ -151,7 +151,7 @@ share_form-requires-in-Less-clause-parts c =
 
 pub returns-in_ok-left-in-Less-clause-shows : goal.returns-in_ok-left-in-Less-clause-shows
 returns-in_ok-left-in-Less-clause-shows c =
-    let e = under (env_of c.args.bank.now c.args.values.now) c.args.task.level in
+    let e = under (env_in c.args.bank.now c.args.values) c.args.task.level in
     subst (λ u. IfOk c.share_form-in-Less.result (λ image. ShowsForm c.share_form-in-Less.new.bank image.0 u))
     ((λ i. Num Less (c.in_ok-left-in-Less.ensures.left.tree i) (c.in_ok-left-in-Less.ensures.right.tree i))
     ∙ sym (ap (close_form e) c.in-Less.ensures.shown.tree))
@@ -159,7 +159,7 @@ returns-in_ok-left-in-Less-clause-shows c =
 
 pub returns-in_ok-left-in-Less-clause-terms : goal.returns-in_ok-left-in-Less-clause-terms
 returns-in_ok-left-in-Less-clause-terms c =
-    let env = env_of c.args.bank.now c.args.values.now in
+    let env = env_in c.args.bank.now c.args.values in
     on_ok c.share_form-in-Less.result
     (term_images_extend c.closed_two-in-Less.new.bank c.share_form-in-Less.new.bank c.share_form-in-Less.ensures.keeps env
     (get same_spot c.closed_two-in-Less.new.terms.places) c.in_ok-left-in-Less.ensures.terms)
@@ -183,7 +183,7 @@ closed_two-requires-in-Most-clause-values c =
 pub closed_two-requires-in-Most-clause-left_heads : goal.closed_two-requires-in-Most-clause-left_heads
 closed_two-requires-in-Most-clause-left_heads c =
     let bank = c.args.bank.now in
-    let e = under (env_of bank c.args.values.now) c.args.task.level in
+    let e = under (env_in bank c.args.values) c.args.task.level in
     (and_parts (applies_heads (close e (term_tree bank c.in-Most.left.0)))
     (applies_heads (close e (term_tree bank c.in-Most.right.0)))
     (sym (ap (λ x. form_applies_heads (close_form e x)) c.in-Most.ensures.shown.tree) ∙ c.requires.heads)).0
@@ -191,7 +191,7 @@ closed_two-requires-in-Most-clause-left_heads c =
 pub closed_two-requires-in-Most-clause-right_heads : goal.closed_two-requires-in-Most-clause-right_heads
 closed_two-requires-in-Most-clause-right_heads c =
     let bank = c.args.bank.now in
-    let e = under (env_of bank c.args.values.now) c.args.task.level in
+    let e = under (env_in bank c.args.values) c.args.task.level in
     (and_parts (applies_heads (close e (term_tree bank c.in-Most.left.0)))
     (applies_heads (close e (term_tree bank c.in-Most.right.0)))
     (sym (ap (λ x. form_applies_heads (close_form e x)) c.in-Most.ensures.shown.tree) ∙ c.requires.heads)).1
@@ -214,7 +214,7 @@ share_form-requires-in-Most-clause-parts c =
 
 pub returns-in_ok-left-in-Most-clause-shows : goal.returns-in_ok-left-in-Most-clause-shows
 returns-in_ok-left-in-Most-clause-shows c =
-    let e = under (env_of c.args.bank.now c.args.values.now) c.args.task.level in
+    let e = under (env_in c.args.bank.now c.args.values) c.args.task.level in
     subst (λ u. IfOk c.share_form-in-Most.result (λ image. ShowsForm c.share_form-in-Most.new.bank image.0 u))
     ((λ i. Num Most (c.in_ok-left-in-Most.ensures.left.tree i) (c.in_ok-left-in-Most.ensures.right.tree i))
     ∙ sym (ap (close_form e) c.in-Most.ensures.shown.tree))
@@ -222,7 +222,7 @@ returns-in_ok-left-in-Most-clause-shows c =
 
 pub returns-in_ok-left-in-Most-clause-terms : goal.returns-in_ok-left-in-Most-clause-terms
 returns-in_ok-left-in-Most-clause-terms c =
-    let env = env_of c.args.bank.now c.args.values.now in
+    let env = env_in c.args.bank.now c.args.values in
     on_ok c.share_form-in-Most.result
     (term_images_extend c.closed_two-in-Most.new.bank c.share_form-in-Most.new.bank c.share_form-in-Most.ensures.keeps env
     (get same_spot c.closed_two-in-Most.new.terms.places) c.in_ok-left-in-Most.ensures.terms)

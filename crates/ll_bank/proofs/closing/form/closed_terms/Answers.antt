@@ -5,9 +5,10 @@ use Rattle.std.proofs.lemmas.Result.{IfOk-from_err}
 use Rattle.ll_bank.specs.declared.At.{At}
 use Rattle.ll_bank.specs.Term.{close}
 use Rattle.ll_bank.specs.Nodes.{term_trees}
-use Rattle.ll_bank.proofs.Trees.{Extends-refl, Extends-trans, HasTerm-extends, AllInTerms-extends}
-use Rattle.ll_bank.specs.Closing.{env_of, under, same_spot}
+use Rattle.ll_bank.proofs.Trees.{Extends-refl, Extends-trans, HasTerm-extends}
+use Rattle.ll_bank.specs.Closing.{env_in, under, same_spot}
 use Rattle.ll_bank.proofs.closes.Steps.{images_now, images_then, term_heads_now, term_shown, terms_more}
+use Rattle.ll_bank.proofs.closes.Values.{HasValues-extends}
 use Rattle.ll_bank.proofs.closing.form.closed_terms.Goals as goal
 
 pub loop-arg-init : goal.loop-arg-init
@@ -24,7 +25,7 @@ pub closed_term-requires-clause-inside : goal.closed_term-requires-clause-inside
 closed_term-requires-clause-inside c =
     let first = c.args.bank.now in
     let now = c.loop-arg.bank in
-    let vs = c.args.values.now in
+    let vs = c.args.values in
     let inv = c.loop-arg.invariant in
     let none : At = record { 0 = 0 } in
     let i = c.loop-arg.arg-index in
@@ -36,19 +37,19 @@ pub closed_term-requires-clause-values : goal.closed_term-requires-clause-values
 closed_term-requires-clause-values c =
     let first = c.args.bank.now in
     let now = c.loop-arg.bank in
-    let vs = c.args.values.now in
+    let vs = c.args.values in
     let inv = c.loop-arg.invariant in
     let none : At = record { 0 = 0 } in
     let i = c.loop-arg.arg-index in
     let a = get_or c.args.args.now i none in
     let h = c.requires.inside i none (omega arith) in
-    AllInTerms-extends inv.keeps vs c.requires.values
+    HasValues-extends inv.keeps vs c.requires.values
 
 pub closed_term-requires-clause-heads : goal.closed_term-requires-clause-heads
 closed_term-requires-clause-heads c =
     let first = c.args.bank.now in
     let now = c.loop-arg.bank in
-    let vs = c.args.values.now in
+    let vs = c.args.values in
     let inv = c.loop-arg.invariant in
     let none : At = record { 0 = 0 } in
     let i = c.loop-arg.arg-index in
@@ -60,7 +61,7 @@ pub closed_term-requires-clause-images : goal.closed_term-requires-clause-images
 closed_term-requires-clause-images c =
     let first = c.args.bank.now in
     let now = c.loop-arg.bank in
-    let vs = c.args.values.now in
+    let vs = c.args.values in
     let inv = c.loop-arg.invariant in
     let none : At = record { 0 = 0 } in
     let i = c.loop-arg.arg-index in
@@ -76,7 +77,7 @@ pub loop-arg-preserved : goal.loop-arg-preserved
 loop-arg-preserved c =
     let first = c.args.bank.now in
     let now = c.loop-arg.bank in
-    let vs = c.args.values.now in
+    let vs = c.args.values in
     let inv = c.loop-arg.invariant in
     let none : At = record { 0 = 0 } in
     let i = c.loop-arg.arg-index in
@@ -84,7 +85,7 @@ loop-arg-preserved c =
     let h = c.requires.inside i none (omega arith) in
     let next = c.closed_term.new.bank in
     let shown = term_shown first now inv.keeps vs c.requires.values (a.0, c.args.level) next c.in_ok-image.image.0 h c.in_ok-image.ensures.shows in
-    let more = terms_more first now next c.closed_term.ensures.keeps (env_of first vs) c.args.level c.args.args.now c.loop-arg.made.items c.push.new.self.items
+    let more = terms_more first now next c.closed_term.ensures.keeps (env_in first vs) c.args.level c.args.args.now c.loop-arg.made.items c.push.new.self.items
     i none c.in_ok-image.image (omega arith) inv.places inv.shows shown c.in_ok-push.ensures.items in
     record {
       keeps = Extends-trans inv.keeps c.closed_term.ensures.keeps;
@@ -121,7 +122,7 @@ pub returns-clause-shows : goal.returns-clause-shows
 returns-clause-shows c =
     let first = c.args.bank.now in
     c.loop-arg.invariant.shows
-    ∙ ap (λ args. map (close (under (env_of first c.args.values.now) c.args.level)) (term_trees first args))
+    ∙ ap (λ args. map (close (under (env_in first c.args.values) c.args.level)) (term_trees first args))
     (take_all c.loop-arg.arg-index c.args.args.now (omega arith))
 
 pub returns-clause-terms : goal.returns-clause-terms

@@ -1,7 +1,8 @@
 use Rattle.std.specs.HashMap.{get}
 use Rattle.std.proofs.lemmas.Result.{IfOk-from_err}
-use Rattle.ll_bank.proofs.Trees.{Extends-trans, HasTerm-extends, AllInTerms-extends, ShowsTerm-extends}
+use Rattle.ll_bank.proofs.Trees.{Extends-trans, HasTerm-extends, ShowsTerm-extends}
 use Rattle.ll_bank.specs.Closing.{same_spot}
+use Rattle.ll_bank.proofs.closes.Values.{HasValues-extends}
 use Rattle.ll_bank.proofs.closes.Steps.{images_now, images_then, term_heads_now, term_shown}
 use Rattle.ll_bank.proofs.closing.form.closed_two.Goals as goal
 
@@ -9,14 +10,14 @@ pub closed_term-requires-2-clause-heads : goal.closed_term-requires-2-clause-hea
 closed_term-requires-2-clause-heads c =
     let first = c.args.bank.now in
     let now = c.closed_term.new.bank in
-    let vs = c.args.values.now in
+    let vs = c.args.values in
     term_heads_now first now c.closed_term.ensures.keeps vs c.requires.values (c.args.right.0, c.args.level) (c.requires.right, c.requires.right_heads)
 
 pub closed_term-requires-2-clause-images : goal.closed_term-requires-2-clause-images
 closed_term-requires-2-clause-images c =
     let first = c.args.bank.now in
     let now = c.closed_term.new.bank in
-    let vs = c.args.values.now in
+    let vs = c.args.values in
     images_now first now c.closed_term.ensures.keeps vs c.requires.values (get same_spot c.closed_term.new.images.places) c.in_ok-first.ensures.images
 
 pub returns-clause-left : goal.returns-clause-left
@@ -27,7 +28,7 @@ pub returns-clause-right : goal.returns-clause-right
 returns-clause-right c =
     let first = c.args.bank.now in
     let now = c.closed_term.new.bank in
-    let vs = c.args.values.now in
+    let vs = c.args.values in
     term_shown first now c.closed_term.ensures.keeps vs c.requires.values (c.args.right.0, c.args.level) c.closed_term-2.new.bank c.in_ok-second.second.0
     c.requires.right c.in_ok-second.ensures.shows
 
@@ -35,7 +36,7 @@ pub returns-clause-terms : goal.returns-clause-terms
 returns-clause-terms c =
     let first = c.args.bank.now in
     let now = c.closed_term.new.bank in
-    let vs = c.args.values.now in
+    let vs = c.args.values in
     images_then first now c.closed_term.ensures.keeps vs c.requires.values c.closed_term-2.new.bank (get same_spot c.closed_term-2.new.images.places)
     c.in_ok-second.ensures.images
 
@@ -67,7 +68,7 @@ pub closed_term-requires-2-clause-inside : goal.closed_term-requires-2-clause-in
 closed_term-requires-2-clause-inside c = HasTerm-extends c.closed_term.ensures.keeps c.args.right.0 c.requires.right
 
 pub closed_term-requires-2-clause-values : goal.closed_term-requires-2-clause-values
-closed_term-requires-2-clause-values c = AllInTerms-extends c.closed_term.ensures.keeps c.args.values.now c.requires.values
+closed_term-requires-2-clause-values c = HasValues-extends c.closed_term.ensures.keeps c.args.values c.requires.values
 
 pub returns-in_err-second-clause-left : goal.returns-in_err-second-clause-left
 returns-in_err-second-clause-left c = IfOk-from_err c.from_residual-in_err-second.result _ c.from_residual-in_err-second.ensures.0

@@ -6,7 +6,7 @@ use Rattle.ll_bank.specs.Nodes.{term_tree, term_trees, AllInTerms, ShowsTerm, no
 use Rattle.ll_bank.specs.Opened.{term_parts, term_parts_at}
 use Rattle.ll_bank.proofs.Trees.{Extends-refl}
 use Rattle.ll_bank.proofs.PartLemmas.{node_seen, opened_app}
-use Rattle.ll_bank.specs.Closing.{env_of, under}
+use Rattle.ll_bank.specs.Closing.{env_in, under}
 use Rattle.ll_bank.proofs.closes.Stacks.{take_none}
 use Rattle.ll_bank.proofs.closes.Parts.{args_made, args_count}
 use Rattle.ll_bank.proofs.closing.term.build_term.Goals as goal
@@ -14,7 +14,7 @@ use Rattle.ll_bank.proofs.closing.term.build_term.Goals as goal
 pub overflow_sub-from : goal.overflow_sub-from
 overflow_sub-from c =
     let bank = c.args.bank.now in
-    let env = env_of bank c.args.values.now in
+    let env = env_in bank c.args.values in
     let f = args_made bank env c.args.task.place c.args.task.level c.in-App.head c.in-App.args.now c.in-App.ensures.node c.requires.parts in
     let l = f.enough in
     omega arith
@@ -22,14 +22,14 @@ overflow_sub-from c =
 pub closed_head-requires-clause-places : goal.closed_head-requires-clause-places
 closed_head-requires-clause-places c =
     let bank = c.args.bank.now in
-    let env = env_of bank c.args.values.now in
+    let env = env_in bank c.args.values in
     let f = args_made bank env c.args.task.place c.args.task.level c.in-App.head c.in-App.args.now c.in-App.ensures.node c.requires.parts in
     subst (AllInTerms bank) (sym (f.read c.deref.result.now _ c.deref.ensures.value (search rules))) f.inside
 
 pub closed_head-requires-clause-heads : goal.closed_head-requires-clause-heads
 closed_head-requires-clause-heads c =
     let bank = c.args.bank.now in
-    let env = env_of bank c.args.values.now in
+    let env = env_in bank c.args.values in
     let f = args_made bank env c.args.task.place c.args.task.level c.in-App.head c.in-App.args.now c.in-App.ensures.node c.requires.parts in
     let s = f.read c.deref.result.now _ c.deref.ensures.value (search rules) in
     sym (ap applies_heads (opened_app (under env c.args.task.level) (term_tree bank c.args.task.place) c.in-App.head (term_trees bank c.in-App.args.now) _
@@ -56,7 +56,7 @@ returns-in-Int-clause-keeps c = Extends-refl c.args.bank.now
 pub returns-in_ok-image-in-App-clause-shows : goal.returns-in_ok-image-in-App-clause-shows
 returns-in_ok-image-in-App-clause-shows c =
     let bank = c.args.bank.now in
-    let env = env_of bank c.args.values.now in
+    let env = env_in bank c.args.values in
     let f = args_made bank env c.args.task.place c.args.task.level c.in-App.head c.in-App.args.now c.in-App.ensures.node c.requires.parts in
     let s = f.read c.deref.result.now _ c.deref.ensures.value (search rules) in
     subst (λ t. ShowsTerm c.closed_head.new.bank c.in_ok-image-in-App.image.0 t)
@@ -65,7 +65,7 @@ returns-in_ok-image-in-App-clause-shows c =
 
 pub returns-in_ok-image-in-App-clause-made : goal.returns-in_ok-image-in-App-clause-made
 returns-in_ok-image-in-App-clause-made c =
-    let n = args_count c.args.bank.now (env_of c.args.bank.now c.args.values.now) c.args.task.place c.args.task.level c.in-App.head c.in-App.args.now
+    let n = args_count c.args.bank.now (env_in c.args.bank.now c.args.values) c.args.task.place c.args.task.level c.in-App.head c.in-App.args.now
     c.in-App.ensures.node in
     let q : c.len.result - length c.in-App.args.now ≡ length c.args.made.now.items - length c.in-App.args.now = search rules in
     c.truncate.ensures.items ∙ ap (λ m. take m c.args.made.now.items) (q ∙ ap (λ m. length c.args.made.now.items - m) (sym n))

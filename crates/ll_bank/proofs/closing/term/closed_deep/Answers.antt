@@ -4,10 +4,11 @@ use Rattle.std.specs.HashMap.{get}
 use Rattle.ll_bank.specs.declared.At.{At}
 use Rattle.ll_bank.specs.Nodes.{term_tree}
 use Rattle.ll_bank.specs.Opened.{Spot, term_parts_at, term_size_at}
-use Rattle.ll_bank.proofs.Trees.{Extends-refl, Extends-trans, HasTerm-extends, AllInTerms-extends}
+use Rattle.ll_bank.proofs.Trees.{Extends-refl, Extends-trans, HasTerm-extends}
 use Rattle.ll_bank.proofs.PartLemmas.{term_size-some}
-use Rattle.ll_bank.specs.Closing.{env_of, same_spot, IsTermImage, IsGoodTerm}
+use Rattle.ll_bank.specs.Closing.{env_in, same_spot, IsTermImage, IsGoodTerm}
 use Rattle.ll_bank.specs.Stacks.{visit, ready}
+use Rattle.ll_bank.proofs.closes.Values.{HasValues-extends}
 use Rattle.ll_bank.proofs.closes.Known.{images_add, term_image_extends, term_images_extend}
 use Rattle.ll_bank.proofs.closes.Stacks.{closing_begins, closing_builds, closing_found, closing_expands, closing_ends, take_none, ends_with_none}
 use Rattle.ll_bank.proofs.closes.Stacks.{work_pops, work_expands}
@@ -26,7 +27,7 @@ returns-in_err-push_part-clause-keeps c =
 pub loop-task-init : goal.loop-task-init
 loop-task-init c =
     let first = c.args.bank.now in
-    let env = env_of first c.args.values.now in
+    let env = env_in first c.args.values in
     record {
       keeps = Extends-refl first;
       images = c.requires.images;
@@ -37,13 +38,13 @@ loop-task-init c =
 
 pub build_term-requires-clause-heads : goal.build_term-requires-clause-heads
 build_term-requires-clause-heads c =
-    let f = term_turn c.args.values.now c.pop.new.self.items c.in-Some.task c.loop-task.invariant.keeps c.requires.values c.in-Some.ensures.items
+    let f = term_turn c.args.values c.pop.new.self.items c.in-Some.task c.loop-task.invariant.keeps c.requires.values c.in-Some.ensures.items
     c.loop-task.invariant.closing in
     f.heads
 
 pub build_term-requires-clause-parts : goal.build_term-requires-clause-parts
 build_term-requires-clause-parts c =
-    let f = term_turn c.args.values.now c.pop.new.self.items c.in-Some.task c.loop-task.invariant.keeps c.requires.values c.in-Some.ensures.items
+    let f = term_turn c.args.values c.pop.new.self.items c.in-Some.task c.loop-task.invariant.keeps c.requires.values c.in-Some.ensures.items
     c.loop-task.invariant.closing in
     f.ends c.if-task.true
 
@@ -57,12 +58,12 @@ returns-in_err-push-clause-keeps c =
 
 pub loop-task-preserved-in-Continue-branch-4 : goal.loop-task-preserved-in-Continue-branch-4
 loop-task-preserved-in-Continue-branch-4 c =
-    let f = term_turn c.args.values.now c.pop.new.self.items c.in-Some.task c.loop-task.invariant.keeps c.requires.values c.in-Some.ensures.items
+    let f = term_turn c.args.values c.pop.new.self.items c.in-Some.task c.loop-task.invariant.keeps c.requires.values c.in-Some.ensures.items
     c.loop-task.invariant.closing in
     let first = c.args.bank.now in
     let now = c.loop-task.bank in
-    let vs = c.args.values.now in
-    let env = env_of first vs in
+    let vs = c.args.values in
+    let env = env_in first vs in
     let inv = c.loop-task.invariant in
     let rest = c.pop.new.self.items in
     let task = c.in-Some.task in
@@ -102,7 +103,7 @@ loop-task-preserved-in-Continue-branch-5 c =
 
 pub loop-task-smaller : goal.loop-task-smaller
 loop-task-smaller c =
-    let f = term_turn c.args.values.now c.pop.new.self.items c.in-Some.task c.loop-task.invariant.keeps c.requires.values c.in-Some.ensures.items
+    let f = term_turn c.args.values c.pop.new.self.items c.in-Some.task c.loop-task.invariant.keeps c.requires.values c.in-Some.ensures.items
     c.loop-task.invariant.closing in
     let first = c.args.bank.now in
     let now = c.loop-task.bank in
@@ -118,12 +119,12 @@ loop-task-smaller c =
 
 pub loop-task-preserved : goal.loop-task-preserved
 loop-task-preserved c =
-    let f = term_turn c.args.values.now c.pop.new.self.items c.in-Some.task c.loop-task.invariant.keeps c.requires.values c.in-Some.ensures.items
+    let f = term_turn c.args.values c.pop.new.self.items c.in-Some.task c.loop-task.invariant.keeps c.requires.values c.in-Some.ensures.items
     c.loop-task.invariant.closing in
     let first = c.args.bank.now in
     let now = c.loop-task.bank in
-    let vs = c.args.values.now in
-    let env = env_of first vs in
+    let vs = c.args.values in
+    let env = env_in first vs in
     let inv = c.loop-task.invariant in
     let rest = c.pop.new.self.items in
     let task = c.in-Some.task in
@@ -141,16 +142,16 @@ pub returns-clause-shows : goal.returns-clause-shows
 returns-clause-shows c =
     let first = c.args.bank.now in
     let now = c.loop-task.bank in
-    let env = env_of first c.args.values.now in
+    let env = env_in first c.args.values in
     let inv = c.loop-task.invariant in
-    term_left first now inv.keeps c.args.values.now c.requires.values (c.args.at.0, c.args.level) c.loop-task.made.items c.index.result.now c.index.ensures
+    term_left first now inv.keeps c.args.values c.requires.values (c.args.at.0, c.args.level) c.loop-task.made.items c.index.result.now c.index.ensures
     c.requires.inside
     (closing_ends (term_parts_at first) (IsGoodTerm first env) (c.args.at.0, c.args.level) (λ q (x : At). IsTermImage now env q x.0) c.loop-task.made.items
     c.loop-task.tasks.items (let h = c.in_default.ensures.cases.0 in search rules) inv.closing)
 
 pub build_term-requires-then-is_leaf-clause-heads : goal.build_term-requires-then-is_leaf-clause-heads
 build_term-requires-then-is_leaf-clause-heads c =
-    let f = term_turn c.args.values.now c.pop.new.self.items c.in-Some.task c.loop-task.invariant.keeps c.requires.values c.in-Some.ensures.items
+    let f = term_turn c.args.values c.pop.new.self.items c.in-Some.task c.loop-task.invariant.keeps c.requires.values c.in-Some.ensures.items
     c.loop-task.invariant.closing in
     f.heads
 
@@ -169,12 +170,12 @@ loop-task-smaller-in-Continue-branch-7 c =
 
 pub loop-task-preserved-in-Continue-branch-7 : goal.loop-task-preserved-in-Continue-branch-7
 loop-task-preserved-in-Continue-branch-7 c =
-    let f = term_turn c.args.values.now c.pop.new.self.items c.in-Some.task c.loop-task.invariant.keeps c.requires.values c.in-Some.ensures.items
+    let f = term_turn c.args.values c.pop.new.self.items c.in-Some.task c.loop-task.invariant.keeps c.requires.values c.in-Some.ensures.items
     c.loop-task.invariant.closing in
     let first = c.args.bank.now in
     let now = c.loop-task.bank in
-    let vs = c.args.values.now in
-    let env = env_of first vs in
+    let vs = c.args.values in
+    let env = env_in first vs in
     let inv = c.loop-task.invariant in
     let rest = c.pop.new.self.items in
     let task = c.in-Some.task in
@@ -194,39 +195,39 @@ loop-task-preserved-in-Continue-branch-7 c =
 
 pub build_term-requires-clause-inside : goal.build_term-requires-clause-inside
 build_term-requires-clause-inside c =
-    let f = term_turn c.args.values.now c.pop.new.self.items c.in-Some.task c.loop-task.invariant.keeps c.requires.values c.in-Some.ensures.items
+    let f = term_turn c.args.values c.pop.new.self.items c.in-Some.task c.loop-task.invariant.keeps c.requires.values c.in-Some.ensures.items
     c.loop-task.invariant.closing in
     HasTerm-extends c.loop-task.invariant.keeps c.in-Some.task.place f.good.0
 
 pub build_term-requires-clause-values : goal.build_term-requires-clause-values
 build_term-requires-clause-values c =
-    AllInTerms-extends c.loop-task.invariant.keeps c.args.values.now c.requires.values
+    HasValues-extends c.loop-task.invariant.keeps c.args.values c.requires.values
 
 pub build_term-requires-then-is_leaf-clause-inside : goal.build_term-requires-then-is_leaf-clause-inside
 build_term-requires-then-is_leaf-clause-inside c =
-    let f = term_turn c.args.values.now c.pop.new.self.items c.in-Some.task c.loop-task.invariant.keeps c.requires.values c.in-Some.ensures.items
+    let f = term_turn c.args.values c.pop.new.self.items c.in-Some.task c.loop-task.invariant.keeps c.requires.values c.in-Some.ensures.items
     c.loop-task.invariant.closing in
     HasTerm-extends c.loop-task.invariant.keeps c.in-Some.task.place f.good.0
 
 pub build_term-requires-then-is_leaf-clause-values : goal.build_term-requires-then-is_leaf-clause-values
 build_term-requires-then-is_leaf-clause-values c =
-    AllInTerms-extends c.loop-task.invariant.keeps c.args.values.now c.requires.values
+    HasValues-extends c.loop-task.invariant.keeps c.args.values c.requires.values
 
 pub build_term-requires-then-is_leaf-clause-parts : goal.build_term-requires-then-is_leaf-clause-parts
 build_term-requires-then-is_leaf-clause-parts c =
     let now = c.loop-task.bank in
-    ends_with_none (λ k (x : At). IsTermImage now (env_of now c.args.values.now) k x.0)
+    ends_with_none (λ k (x : At). IsTermImage now (env_in now c.args.values) k x.0)
     (term_parts_at now (c.in-Some.task.place, c.in-Some.task.level)) c.loop-task.made.items (c.is_leaf.ensures c.if-is_leaf.true)
 
 pub is_leaf-requires : goal.is_leaf-requires
 is_leaf-requires c =
-    let f = term_turn c.args.values.now c.pop.new.self.items c.in-Some.task c.loop-task.invariant.keeps c.requires.values c.in-Some.ensures.items
+    let f = term_turn c.args.values c.pop.new.self.items c.in-Some.task c.loop-task.invariant.keeps c.requires.values c.in-Some.ensures.items
     c.loop-task.invariant.closing in
     HasTerm-extends c.loop-task.invariant.keeps c.in-Some.task.place f.good.0
 
 pub push_term-requires : goal.push_term-requires
 push_term-requires c =
-    let f = term_turn c.args.values.now c.pop.new.self.items c.in-Some.task c.loop-task.invariant.keeps c.requires.values c.in-Some.ensures.items
+    let f = term_turn c.args.values c.pop.new.self.items c.in-Some.task c.loop-task.invariant.keeps c.requires.values c.in-Some.ensures.items
     c.loop-task.invariant.closing in
     HasTerm-extends c.loop-task.invariant.keeps c.in-Some.task.place f.good.0
 
@@ -259,7 +260,7 @@ pub index-requires : goal.index-requires
 index-requires c =
     let first = c.args.bank.now in
     let now = c.loop-task.bank in
-    let env = env_of first c.args.values.now in
+    let env = env_in first c.args.values in
     let left = closing_ends (term_parts_at first) (IsGoodTerm first env) (c.args.at.0, c.args.level) (λ q (x : At). IsTermImage now env q x.0)
     c.loop-task.made.items c.loop-task.tasks.items (let h = c.in_default.ensures.cases.0 in search rules) c.loop-task.invariant.closing in
     one_left {x = left.0} _ c.loop-task.made.ok.0 left.1

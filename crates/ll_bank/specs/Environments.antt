@@ -1,7 +1,7 @@
 -- Environments: variables that were made one after another, for which bound places stand.
 use Rattle.std.specs.Prelude.{ℕ, zero, suc, ◌-◌, ◌≤◌, [], ◌∷◌, Some}
 use Rattle.ll_bank.specs.Term.{Var, Env}
-use Rattle.ll_store.specs.declared.environment.Environment.{Environment}
+use Rattle.ll_bank.specs.declared.environment.Environment.{Environment}
 
 -- what the bound places stand for, the innermost first: the variables before a number, so many, the last one first
 abbrev pub values_before : ℕ → ℕ → Env

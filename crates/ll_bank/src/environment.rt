@@ -1,7 +1,7 @@
 //! Environments.
 ghost use Rattle.std.specs.Prelude.{◌≡◌, ◌≤◌, ◌<◌, ℕ, IfSome, IfNone};
 ghost use Rattle.ll_bank.specs.Term.{Var, place};
-ghost use Rattle.ll_store.specs.Environments.{values_in};
+ghost use Rattle.ll_bank.specs.Environments.{values_in};
 
 /// What the free bound places of a term or a formula stand for: variables that were made one after another. The outermost bound place
 /// stands for the first of them.

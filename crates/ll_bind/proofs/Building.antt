@@ -2,21 +2,24 @@
 use Rattle.std.proofs.Common.{◌≡◌, ℕ, zero, suc, ◌+◌, ◌<◌, ◌≤◌, Bool, true, false, List, [], ◌∷◌, ◌++◌}
 use Rattle.std.proofs.Common.{length, map, take, get_or, All, refl, ap, sym, subst, ◌∙◌}
 use Rattle.std.proofs.Common.{arith}
-use Rattle.std.specs.Prelude.{Option, Some, slice_set}
-use Rattle.std.proofs.lemmas.Bool.{eq-eqb}
+use Rattle.std.specs.Prelude.{◌&&◌, nat_le, Option, Some, slice_set}
+use Rattle.std.specs.List.{list_all}
+use Rattle.std.proofs.lemmas.Bool.{eq-eqb, leb-true}
 use Rattle.std.proofs.lemmas.List.{length-set, get_or-set_other, map_push, take_all, take_more, take_more_set}
 use Rattle.std.proofs.lemmas.List.Elements.{All-cons}
-use Rattle.ll_list_laws.proofs.CallerLemmas.{or_elim as or_cases}
+use Rattle.std.proofs.lemmas.List.Sums.{AllPass-from_list_all}
+use Rattle.ll_list_laws.proofs.CallerLemmas.{or_elim as or_cases, and_true_left, and_true_right}
 use Rattle.ll_bank.specs.declared.At.{At}
 use Rattle.ll_bank.specs.declared.Head.{Head}
-use Rattle.ll_bank.specs.Term.{Term, Var, Con, Ap, Env, sub, app, apply, close, occurs, not_bound}
+use Rattle.ll_bank.specs.Term.{Term, Var, Con, Ap, Env, sub, app, apply, close, occurs, head_of, not_bound}
 use Rattle.ll_bank.specs.Nodes.{Nodes, HasTerm, AllInTerms, ShowsTerm, Extends, term_tree, term_trees}
-use Rattle.ll_bank.proofs.CallerLemmas.{Extends-refl, Extends-trans, term_tree-extends, sub-apply}
+use Rattle.ll_bank.proofs.CallerLemmas.{Extends-refl, Extends-trans, term_tree-extends, sub-apply, head_of-app, length-term_trees}
 use Rattle.ll_unify.specs.Bindings.{Table, cell, stands, through, HasCells, IsTable, AreSame, Obeys}
 use Rattle.ll_laws.specs.Unify.{and_then, diff, diff_lists, Solved}
 use Rattle.ll_unify.specs.Solving.{Solves, Settles}
-use Rattle.ll_unify.proofs.CallerLemmas.{place-extends, table-extends, solves-alike}
-use Rattle.ll_bind.specs.Built.{ShowsSame, AreBuilt, is_bare}
+use Rattle.ll_unify.specs.Spines.{args_in}
+use Rattle.ll_unify.proofs.CallerLemmas.{place-extends, table-extends, solves-alike, args_in-app}
+use Rattle.ll_bind.specs.Built.{ShowsSame, AreBuilt, IsFlat, is_bare, is_fixed, is_flat}
 use Rattle.ll_bind.proofs.Heads.{AllCells, place_made, close_fixed, cells_apply}
 
 -- ---- one term
@@ -123,6 +126,27 @@ bare-head count h (t ∷ ts) b = let f : false ≡ true = sym (bare-apply count 
 -- a term that is bare and begins with a head is the head
 pub bare-shown : (count : ℕ) (u : Term) (h : Head) (ts : List Term) → u ≡ app h ts → is_bare count u ≡ true → u ≡ Con h
 bare-shown count u h ts e b = e ∙ bare-head count h ts (ap (is_bare count) (sym e) ∙ b)
+
+-- ---- patterns with few arguments, each of which is bare
+
+-- the head and the arguments of a pattern say whether it is flat
+pub flat-shown : (nodes : Nodes) (count : ℕ) (u : Term) (h : Head) (ats : List At) → u ≡ app h (term_trees nodes ats)
+    → is_flat count u ≡ (not_bound h && nat_le (length ats) 8 && list_all (is_bare count) (term_trees nodes ats))
+flat-shown nodes count u h ats e =
+    let us = term_trees nodes ats in let head = ap head_of e ∙ head_of-app h us in let args = ap args_in e ∙ args_in-app h us in
+    let many = ap (λ ts. length ts) args ∙ length-term_trees nodes ats in
+    λ i. is_fixed (head i) && nat_le (many i) 8 && list_all (is_bare count) (args i)
+
+-- and where it is, it has what is asked of one
+pub flat-parts : (count : ℕ) (u : Term) → is_flat count u ≡ true → IsFlat count u
+flat-parts count u e =
+    let fixed = is_fixed (head_of u) in let few = nat_le (length (args_in u)) 8 in let bare = list_all (is_bare count) (args_in u) in
+    let front = and_true_left (fixed && few) bare e in
+    record {
+      fixed = λ h q. ap is_fixed (sym q) ∙ and_true_left fixed few front;
+      few = leb-true (length (args_in u)) 8 (and_true_right fixed few front);
+      bare = AllPass-from_list_all (is_bare count) (args_in u) (and_true_right (fixed && few) bare e);
+    }
 
 -- ---- places that are put in the place of patterns, one by one
 

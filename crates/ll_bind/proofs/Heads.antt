@@ -249,6 +249,11 @@ marks_more old new e g =
     let mid : Stored = record { nodes = new.bank; cells = old.cells.cells; changes = old.cells.changes } in
     marks_then (stored old) mid (stored new) (marks-extend (stored old) new.bank e) (marks-grow mid (stored new) g.more refl g.changes g.back)
 
+pub marks_bank : (old new : Store) → Extends old.bank new.bank → new.cells ≡ old.cells → KeepsMarks (stored old) (stored new)
+marks_bank old new e same =
+    subst (λ cs. KeepsMarks (stored old) (record { nodes = new.bank; cells = cs.cells; changes = cs.changes })) (sym same)
+    (marks-extend (stored old) new.bank e)
+
 -- the equations are those of a later table
 keep_cells : (nodes : Nodes) (old new : Table) (env : Env) (es : List Equation) → KeepsCells nodes old new → AreEquations nodes old env es
     → AreEquations nodes new env es

@@ -1,5 +1,6 @@
 -- Patterns with their bound places closed, and terms that are the same as these under bindings.
-use Rattle.std.specs.Prelude.{◌≡◌, ◌≤◌, ℕ, Bool, true, false, List, [], ◌∷◌, length, nat_lt, All, Some}
+use Rattle.std.specs.Prelude.{◌≡◌, ◌≤◌, ℕ, Bool, true, false, ◌&&◌, List, [], ◌∷◌, length, nat_lt, nat_le, All, Option, Some, None}
+use Rattle.std.specs.List.{list_all}
 use Rattle.ll_bank.specs.declared.At.{At}
 use Rattle.ll_bank.specs.declared.Head.{Head}
 use Rattle.ll_bank.specs.declared.Head.TheVariants.{Bound}
@@ -27,7 +28,16 @@ is_bare count (Con (Bound k)) = nat_lt k count
 is_bare count (Con h) = true
 is_bare count (Ap f a) = false
 
--- the head is no bound place, and there are few arguments, each of which is bare
+-- there is a head, and it is no bound place
+abbrev pub is_fixed : Option Head → Bool
+is_fixed None = false
+is_fixed (Some h) = not_bound h
+
+-- the term has a head that is no bound place, and few arguments, each of which is bare
+abbrev pub is_flat : ℕ → Term → Bool
+is_flat count u = is_fixed (head_of u) && nat_le (length (args_in u)) 8 && list_all (is_bare count) (args_in u)
+
+-- a head, if there is one, is no bound place, and there are few arguments, each of which is bare
 pub record IsFlat (count : ℕ) (u : Term) : Type 0 where
   pub fixed : (h : Head) → head_of u ≡ Some h → not_bound h ≡ true
   pub few : length (args_in u) ≤ 8

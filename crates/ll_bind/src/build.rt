@@ -1,12 +1,13 @@
 //! Patterns with their bound places closed.
 ghost use Rattle.std.specs.Prelude.{◌≡◌, ◌<◌, ◌≤◌, true, All, IfOk, OnOk};
+ghost use Rattle.std.specs.List.{list_all};
 ghost use Rattle.ll_bank.specs.Term.{Var, Con, close, applies_heads, not_bound};
 ghost use Rattle.ll_bank.specs.Nodes.{term_tree, term_trees, HasTerm, AllInTerms, Extends, ShowsTerm};
 ghost use Rattle.ll_bank.specs.Closing.{env_of};
 ghost use Rattle.ll_unify.specs.Bindings.{IsTable, HasCells, count};
 ghost use Rattle.ll_bank.specs.Environments.{values_in, IsWithin};
 ghost use Rattle.ll_store.specs.Tables.{table_of};
-ghost use Rattle.ll_bind.specs.Built.{ShowsSame, IsFlat, is_bare, AreBuilt};
+ghost use Rattle.ll_bind.specs.Built.{ShowsSame, IsFlat, is_flat, is_bare, AreBuilt};
 
 use ll_bank::{At, Bank, Environment, Head, OutOfMemory, TermView, Values, close_term};
 use ll_store::Store;
@@ -54,7 +55,7 @@ pub fn build(store: &mut Store, pattern: At, environment: Environment) -> Result
 /// Whether a pattern has a head that is no bound place, and few arguments, none of which has arguments or is a bound place past so many.
 fn is_flat(bank: &Bank, pattern: At, count: u32) -> bool
     requires { HasTerm bank.now pattern.0 }
-    ensures { result ≡ true → IsFlat count (term_tree bank.now pattern.0) }
+    ensures { result ≡ is_flat count (term_tree bank.now pattern.0) }
 {
     match bank.term_at(pattern) {
         TermView::Var(_) => false,
@@ -85,7 +86,7 @@ fn is_fixed(head: Head) -> bool
 /// Whether no term has arguments or is a bound place past so many.
 fn are_bare(bank: &Bank, args: &[At], count: u32) -> bool
     requires { AllInTerms bank.now args.now }
-    ensures { result ≡ true → All (λ u. is_bare count u ≡ true) (term_trees bank.now args.now) }
+    ensures { result ≡ list_all (is_bare count) (term_trees bank.now args.now) }
 {
     for arg in args {
         if !is_bare(bank, *arg, count) {

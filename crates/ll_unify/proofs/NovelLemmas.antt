@@ -6,7 +6,7 @@ use Rattle.std.proofs.lemmas.Bool.{or_left, eq-eqb, lt-ltb, cases_lt}
 use Rattle.ll_bank.specs.declared.At.{At}
 use Rattle.ll_bank.specs.Term.{Term, Var, Int, Con, Ap, sub}
 use Rattle.ll_bank.specs.Nodes.{Nodes, term_tree}
-use Rattle.ll_laws.specs.Unify.{Binding, bind, is_older, diff}
+use Rattle.ll_laws.specs.Unify.{bind, is_older, diff}
 use Rattle.ll_unify.specs.declared.fresh.Fresh.{Fresh}
 use Rattle.ll_unify.specs.Bindings.{Table, cell, count, found, is_var, IsTable, IsPlaceOf, IsEnd, IsMeeting, IsSet, Binds, Meets}
 use Rattle.ll_unify.specs.Scanned.{is_bad}

@@ -6,7 +6,7 @@ use Rattle.ll_unify.specs.declared.fresh.Fresh.{Fresh}
 use Rattle.ll_unify.specs.Bindings.{Table, cell}
 use Rattle.ll_unify.specs.Fresh.{IsFresh}
 
--- the variable is unbound, and one of the new ones that were not met, and no variable with a greater number stands at the place
+-- the variable is unbound, and one of the new ones that were not met, and neither it nor a variable with a greater number stands at the place
 pub record IsNew (nodes : Nodes) (t : Table) (f : Fresh) (at x : ℕ) : Type 0 where
   pub free : cell t x ≡ None
   pub is : IsFresh f x

@@ -1,5 +1,5 @@
 //! How a variable is bound.
-ghost use Rattle.std.specs.Prelude.{◌≡◌, ◌<◌, ℕ, true, false, None, length, All, IfOk, IfSome, OnOk, [], ◌∷◌};
+ghost use Rattle.std.specs.Prelude.{◌≡◌, ◌<◌, ◌↔◌, ℕ, true, false, None, length, All, IfOk, IfSome, IsTrue, OnOk, [], ◌∷◌};
 ghost use Rattle.ll_bank.specs.Term.{Var, sub};
 ghost use Rattle.ll_bank.specs.Nodes.{term_tree, HasTerm};
 ghost use Rattle.ll_laws.specs.Unify.{bind, is_older};
@@ -139,7 +139,7 @@ pub fn is_met<T: Bindings>(bank: &Bank, table: &T, left: At, right: At) -> bool
 // Whether no variable stands at a place, or one with a smaller number.
 fn is_before(bank: &Bank, at: At, var: usize) -> bool
     requires { HasTerm bank.now at.0 }
-    ensures { result ≡ true → (x : ℕ) → term_tree bank.now at.0 ≡ Var x → x < var }
+    ensures { IsTrue result ↔ ((x : ℕ) → term_tree bank.now at.0 ≡ Var x → x < var) }
 {
     match bank.term_at(at) {
         TermView::Var(other) => (other as usize) < var,
@@ -148,13 +148,13 @@ fn is_before(bank: &Bank, at: At, var: usize) -> bool
     }
 }
 
-/// Whether a variable is unbound, and a new one that was not met, where no variable with a greater number stands at an end. What stands there
-/// is what it is bound to then.
+/// Whether a variable is unbound, and known as a new one that was not met, where neither it nor a variable with a greater number stands at
+/// an end. What stands there is what it is bound to then.
 pub fn is_new<T: Bindings>(bank: &Bank, table: &T, fresh: &Fresh, end: At, var: usize) -> bool
     requires table { IsTable bank.now (T.table table.now) }
     requires end { HasTerm bank.now end.0 }
     requires below { var < count (T.table table.now) }
-    ensures { result ≡ true → IsNew bank.now (T.table table.now) fresh.now end.0 var }
+    ensures { IsTrue result ↔ IsNew bank.now (T.table table.now) fresh.now end.0 var }
 {
     if !fresh.has(var) {
         return false;

@@ -1,5 +1,5 @@
 //! New variables that stand in no term yet.
-ghost use Rattle.std.specs.Prelude.{◌≡◌, ◌≤◌, ℕ, true, false};
+ghost use Rattle.std.specs.Prelude.{◌≡◌, ◌≤◌, ◌↔◌, ℕ, false, IsTrue};
 ghost use Rattle.ll_unify.specs.Scanned.{is_among};
 ghost use Rattle.ll_unify.specs.Fresh.{IsFresh, IsOther};
 
@@ -36,7 +36,7 @@ impl Fresh {
 
     /// Whether it is known of a variable that it is one of them.
     pub fn has(&self, var: usize) -> bool
-        ensures { result ≡ true → IsFresh self.now var }
+        ensures { IsTrue result ↔ IsFresh self.now var }
     {
         if var < self.first {
             return false;

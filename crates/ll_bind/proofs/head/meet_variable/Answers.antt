@@ -7,8 +7,9 @@ use Rattle.ll_unify.specs.Fresh.{AreFresh, LeavesFresh}
 use Rattle.ll_unify.specs.Solving.{Settles}
 use Rattle.ll_unify.proofs.CallerLemmas.{table-extends, var-below}
 use Rattle.ll_store.specs.declared.store.Store.{Store}
+use Rattle.ll_store.specs.Stored.{stored}
 use Rattle.ll_store.specs.Tables.{table_of}
-use Rattle.ll_bind.proofs.Heads.{end_more, fresh_more, marks_more}
+use Rattle.ll_bind.proofs.Heads.{end_more, fresh_more, marks_bank, marks_more, marks_then}
 use Rattle.ll_bind.proofs.Building.{settles-shown}
 use Rattle.ll_bind.proofs.head.meet_variable.Goals as goal
 
@@ -39,6 +40,15 @@ pub returns-then-is_new-clause-marks : goal.returns-then-is_new-clause-marks
 returns-then-is_new-clause-marks c =
     let new : Store = record { bank = c.args.store.now.bank; cells = c.bind_new.new.table } in
     marks_more c.args.store.now new (Extends-refl c.args.store.now.bank) c.bind_new.ensures.grows
+
+pub returns-in_err-right-clause-marks : goal.returns-in_err-right-clause-marks
+returns-in_err-right-clause-marks c = marks_bank c.args.store.now c.value_of.new.store c.value_of.ensures.keeps c.value_of.ensures.cells
+
+pub returns-clause-marks : goal.returns-clause-marks
+returns-clause-marks c =
+    let old = c.args.store.now in let made = c.value_of.new.store in
+    marks_then (stored old) (stored made) (stored c.meet.new.store) (marks_bank old made c.value_of.ensures.keeps c.value_of.ensures.cells)
+    c.meet.ensures.marks
 
 pub meet-requires-clause-store : goal.meet-requires-clause-store
 meet-requires-clause-store c =

@@ -1,5 +1,5 @@
 use Rattle.std.proofs.lemmas.Result.{IfOk-from_err}
-use Rattle.std.proofs.Common.{ℕ, ◌<◌, ◌-◌, get_or, map, refl, ap, ◌∙◌, ◌+◌, arith}
+use Rattle.std.proofs.Common.{get_or, map, refl, ap, ◌∙◌, ◌+◌}
 use Rattle.ll_list_laws.proofs.CallerLemmas.{fewer_left}
 use Rattle.ll_bank.specs.declared.At.{At}
 use Rattle.ll_bank.proofs.CallerLemmas.{Extends-refl, Extends-trans}

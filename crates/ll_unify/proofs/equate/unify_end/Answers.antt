@@ -1,4 +1,4 @@
-use Rattle.std.proofs.Common.{refl, true}
+use Rattle.std.proofs.Common.{refl}
 use Rattle.std.proofs.lemmas.Result.{IfOk-weaker}
 use Rattle.ll_bank.specs.Nodes.{term_tree}
 use Rattle.ll_unify.proofs.Settling.{settles-meet}

@@ -1,6 +1,6 @@
 -- What a piece owes once a batch was split off its engine.
 use Rattle.std.proofs.Common.{◌≡◌, ◌<◌, List, [], ◌∷◌, ◌++◌, length, refl, sym, ap, ◌∙◌, subst, arith, append_assoc, append-nil, Option, Some, None}
-use Rattle.std.proofs.Common.{◌≤◌, le_trans, IsSomeAnd}
+use Rattle.std.proofs.Common.{◌≤◌, le_refl, le_trans, IsSomeAnd}
 use Rattle.std.specs.Arc.{arc_value}
 use Rattle.std.specs.declared.sync.Arc.{Arc}
 use Rattle.std.specs.declared.alloc.Global.{Global}
@@ -80,6 +80,18 @@ module _ (events : List Event) (old new : Owing) (b : FrozenSight) (s : SplitsTo
     of = λ other f. let same : batch ≡ other = some_of batch other f in
         ap (λ (n : Arc FrozenSight Global). (arc_value n).problem) (sym same) ∙ (ap (λ (n : FrozenSight). n.problem) is ∙ s.of);
   })
+
+-- where nothing was split off the piece owes what it did
+pub nothing_after : (piece : Option OpenPiece) (events : List Event) (old new : Owing) (o : Option FrozenSight) → o ≡ None → Splits old o new
+    → OwesAll piece events old [] → OwesAfter piece events old new None
+nothing_after piece events old new o e s owes =
+    let same : new ≡ old = (subst (λ x. Splits old x new) e s).0 in
+    subst (λ n. OwesAfter piece events old n None) (sym same) (record {
+      owes = owes;
+      problem = refl;
+      work = le_refl old.work;
+      of = λ batch f. absurd (cc);
+    })
 
 -- the oldest choice point was published
 pub published : (piece : Option OpenPiece) (events : List Event) (old new : Owing) (shared : Shared) → shared ≡ Published → SharesTo piece events old new shared

@@ -1,5 +1,5 @@
 -- What worker 0 has told the outlet.
-use Rattle.std.specs.Prelude.{◌≡◌, ◌↔◌, ◌≤◌, List, ◌++◌, true, None, IsSome, MatchOption}
+use Rattle.std.specs.Prelude.{◌≡◌, ◌↔◌, ◌≤◌, List, ◌++◌, Bool, true, None, IsSome, MatchOption}
 use Rattle.ll_laws.specs.declared.Event.{Event}
 use Rattle.ll_laws.specs.declared.Counts.{Counts}
 use Rattle.ll_laws.specs.Pool.{Owed, PoolData}
@@ -15,6 +15,10 @@ use Rattle.ll_crew.specs.Alternatives.{events_in, cost_in}
 use Rattle.ll_crew.specs.Seats.{Sat, IsSound, of_batch}
 use Rattle.ll_crew.specs.declared.job.Job.{Job}
 use Rattle.ll_crew.specs.declared.lead.Delivery.{Delivery}
+
+-- nothing was told yet
+abbrev pub nothing_told : Bool → Delivery
+nothing_told leads = record { leads = leads; counts = record { answers = 0; reached = 0; inferences = 0 }; fault = None }
 
 -- the worker leads, and the outlet refused an event
 abbrev pub WasRefused : Delivery → Type 0

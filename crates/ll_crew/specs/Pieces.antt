@@ -1,5 +1,5 @@
 -- What the piece of a worker owes, while its engine runs.
-use Rattle.std.specs.Prelude.{◌≡◌, ℕ, ◌+◌, ◌-◌, ◌<◌, ◌≤◌, List, [], ◌++◌, Bool, true, false, Option, Some, None, IsSomeAnd}
+use Rattle.std.specs.Prelude.{◌≡◌, ℕ, ◌+◌, ◌-◌, ◌<◌, ◌≤◌, List, [], ◌++◌, Bool, true, false, Option, Some, None, IsSomeAnd, slice_get}
 use Rattle.std.specs.Arc.{arc_value}
 use Rattle.std.specs.declared.sync.Arc.{Arc}
 use Rattle.std.specs.declared.alloc.Global.{Global}
@@ -11,11 +11,16 @@ use Rattle.ll_pool.specs.declared.data.OpenPiece.{OpenPiece}
 use Rattle.ll_freeze.specs.Frozen.{FrozenSight, alternatives_in}
 use Rattle.ll_engine.specs.Seen.{Owing}
 use Rattle.ll_crew.specs.Alternatives.{events_in, cost_in}
+use Rattle.ll_crew.specs.declared.piece.Alternative.{Alternative}
 
 -- a worker has kept no engine, or one of this problem
 abbrev pub IsKeptOf : ProblemTree → Option Owing → Type 0
 IsKeptOf problem None = Unit {0}
 IsKeptOf problem (Some engine) = engine.problem ≡ problem
+
+-- an alternative that was claimed owes this
+abbrev pub IsOwed : Alternative → Owed Event → Type 0
+IsOwed claimed owes = slice_get (alternatives_in (arc_value claimed.batch)) claimed.k ≡ Some owes
 
 -- an engine went on for a while, and its events were put behind those that there were
 pub record Stretched (done : Bool) (before : List Event) (old : Owing) (after : List Event) (new : Owing) : Type 0 where

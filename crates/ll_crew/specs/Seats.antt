@@ -1,7 +1,7 @@
 -- What workers know of their seats.
-use Rattle.std.specs.Prelude.{◌≡◌, ◌+◌, ◌<◌, length, Some, None}
+use Rattle.std.specs.Prelude.{◌≡◌, ◌+◌, ◌<◌, List, length, Some, None}
 use Rattle.ll_laws.specs.declared.Event.{Event}
-use Rattle.ll_laws.specs.Pool.{PoolData}
+use Rattle.ll_laws.specs.Pool.{Owed, PoolData}
 use Rattle.ll_laws.specs.Sound.{Sound}
 use Rattle.ll_laws.specs.Later.{Later}
 use Rattle.ll_pool.specs.Turns.{PoolSight, SeatSight, HasQuit}
@@ -48,9 +48,14 @@ pub record Calm (before after : Sat) : Type 0 where
 abbrev pub HasLeft : Sat → Type 0
 HasLeft seat = HasQuit seat.mine.seen
 
--- The pool that the seat has last seen has no place for the batch: a pool has at most 4294967295 alternatives
+module _ {N Of : Type 0} where
+  -- The pool that the seat has last seen has no place for so many alternatives: a pool has at most 4294967295
+  abbrev pub HasNoPlaceFor : List (Owed Event) → SeatSight N Of → Type 0
+  HasNoPlaceFor alternatives seat = 4294967295 < seat.mine.seen.total + length alternatives
+
+-- the same of the alternatives of a batch
 abbrev pub HasNoPlace : FrozenSight → Sat → Type 0
-HasNoPlace batch seat = 4294967295 < seat.mine.seen.total + length (alternatives_in batch)
+HasNoPlace batch seat = HasNoPlaceFor (alternatives_in batch) seat
 
 -- nothing is untried or open in the pool that the seat has last seen, which is sound, and the seat has no open piece
 pub record IsOver (problem : ProblemTree) (seat : Sat) : Type 0 where

@@ -4,16 +4,17 @@ ghost use Rattle.std.specs.Vec.{vec_capacity};
 ghost use Rattle.std.specs.Thread.{IsSync};
 ghost use Rattle.ll_laws.specs.Sound.{Every};
 ghost use Rattle.ll_crew.specs.Crews.{EachWorked};
-ghost use Rattle.ll_crew.specs.Leading.{Stands, Stopped, WasRefused};
+ghost use Rattle.ll_crew.specs.Crowds.{AllCanWork};
+ghost use Rattle.ll_crew.specs.Leading.{nothing_told, Stands, Stopped, WasRefused};
 ghost use Rattle.ll_crew.specs.Turns.{Ended, LeavesPool, Fails, CanWork, Worked};
 
 use crate::bell::Bell;
 use crate::beside::join_beside;
+use crate::giving::Lead;
 use crate::job::{Job, Sharing};
 use crate::lead::{Delivery, Mute};
 use crate::offer::Offer;
 use crate::worker::work_as;
-use ll_bank::OutOfMemory;
 use ll_edge::Gate;
 use ll_laws::{Notice, Problem};
 use ll_order::Outlet;
@@ -80,7 +81,7 @@ fn help<'t, 'a, 'p, R: Wait, G: Gate, E: Notice>(
 fn work_all<'t, 'a, 'p, R: Threads + Wait + Sync, G: Gate, E: Notice>(
     mut crowd: Crowd<'t, 'a, 'p, R, G, E>,
 ) -> Vec<Seat<Offer<'p, E>>>
-    requires can { Every (CanWork crowd.tools.now.pool.now crowd.tools.now.problem.now) crowd.seats.items }
+    requires can { AllCanWork crowd }
     requires suits { E.suits crowd.tools.now.problem.now }
     ensures each { EachWorked crowd.entry.seats.items result.items }
     ensures len { vec_len result ≡ vec_len crowd.entry.seats }
@@ -101,8 +102,7 @@ fn work_all<'t, 'a, 'p, R: Threads + Wait + Sync, G: Gate, E: Notice>(
     let (mut back, seat) = join(
         crowd.tools.rt,
         move ||
-            requires { IsSync R.row × IsSync G.row
-                × Every (CanWork crowd.tools.now.pool.now crowd.tools.now.problem.now) crowd.seats.items
+            requires { IsSync R.row × IsSync G.row × AllCanWork crowd
                 × E.suits crowd.tools.now.problem.now }
             ensures { EachWorked crowd.entry.seats.items result.items × (vec_len result ≡ vec_len crowd.entry.seats)
                 × (vec_capacity crowd.entry.seats ≤ vec_capacity result) }
@@ -117,29 +117,49 @@ fn work_all<'t, 'a, 'p, R: Threads + Wait + Sync, G: Gate, E: Notice>(
     back
 }
 
-/// All workers at work: the caller is the first. The other seats come back.
+// The work of the worker that leads.
+fn work_leading<'p, R: Wait, G: Gate, O: Outlet>(
+    job: &Job<'_, 'p, R, G, O>,
+    seat: &mut Seat<Offer<'p, O::Found>>,
+    out: &mut O,
+) -> Lead
+    requires can { CanWork job.now.pool.now job.now.problem.now seat.old }
+    requires stands { Stands O.Outlet job.now seat.old out.old (nothing_told true) }
+    requires suits { O.Found.suits job.now.problem.now }
+    ensures leads { result.told.leads ≡ true }
+    ensures done { IfOk result.done (λ done. done ≡ true → Ended
+        (Stands O.Outlet job.now seat.new out.new result.told) job.now.problem.now seat.old seat.new) }
+    ensures left { IfOk result.done (λ done. done ≡ false → LeavesPool (Stopped O.Outlet job.now out.new result.told)
+        (WasRefused result.told) seat.old seat.new) }
+    ensures failed { OnErr result.done (Fails (Stopped O.Outlet job.now out.new result.told) seat.old seat.new) }
+{
+    let mut told = Delivery::new(true);
+    let (done, _woken) = work_as(job, seat, &mut told, out);
+    Lead { told, done }
+}
+
+/// All workers at work: the caller is the first, and leads. The other seats come back.
 pub(crate) fn work_together<'a, 'p, R: Threads + Wait + Sync, G: Gate, O: Outlet>(
     job: &Job<'a, 'p, R, G, O>,
     first: &mut Seat<Offer<'p, O::Found>>,
-    told: &mut Delivery,
     out: &mut O,
     seats: Vec<Seat<Offer<'p, O::Found>>>,
-) -> (Vec<Seat<Offer<'p, O::Found>>>, Result<bool, OutOfMemory>)
+) -> (Vec<Seat<Offer<'p, O::Found>>>, Lead)
     requires first { CanWork job.now.pool.now job.now.problem.now first.old }
-    requires stands { Stands O.Outlet job.now first.old out.old told.old }
+    requires stands { Stands O.Outlet job.now first.old out.old (nothing_told true) }
     requires seats { Every (CanWork job.now.pool.now job.now.problem.now) seats.items }
     requires suits { O.Found.suits job.now.problem.now }
-    ensures leads { told.new.leads ≡ told.old.leads }
-    ensures done { IfOk result.1 (λ done. done ≡ true → Ended
-        (Stands O.Outlet job.now first.new out.new told.new) job.now.problem.now first.old first.new) }
-    ensures left { IfOk result.1 (λ done. done ≡ false → LeavesPool (Stopped O.Outlet job.now out.new told.new)
-        (WasRefused told.new) first.old first.new) }
-    ensures failed { OnErr result.1 (Fails (Stopped O.Outlet job.now out.new told.new) first.old first.new) }
+    ensures leads { result.1.told.leads ≡ true }
+    ensures done { IfOk result.1.done (λ done. done ≡ true → Ended
+        (Stands O.Outlet job.now first.new out.new result.1.told) job.now.problem.now first.old first.new) }
+    ensures left { IfOk result.1.done (λ done. done ≡ false → LeavesPool
+        (Stopped O.Outlet job.now out.new result.1.told) (WasRefused result.1.told) first.old first.new) }
+    ensures failed { OnErr result.1.done
+        (Fails (Stopped O.Outlet job.now out.new result.1.told) first.old first.new) }
     ensures seats { EachWorked seats.entry.items result.0.items }
 {
     if seats.is_empty() {
-        let (done, _woken) = work_as(job, first, told, out);
-        return (seats, done);
+        return (seats, work_leading(job, first, out));
     }
     let tools = Tools {
         rt: job.rt,
@@ -157,24 +177,20 @@ pub(crate) fn work_together<'a, 'p, R: Threads + Wait + Sync, G: Gate, O: Outlet
     join_beside(
         job.rt,
         move ||
-            requires { IsSync R.row × IsSync G.row
-                × Every (CanWork crowd.tools.now.pool.now crowd.tools.now.problem.now) crowd.seats.items
+            requires { IsSync R.row × IsSync G.row × AllCanWork crowd
                 × O.Found.suits crowd.tools.now.problem.now }
             ensures { EachWorked crowd.entry.seats.items result.items }
         { work_all(crowd) },
         &mut ||
             requires { IsSync G.row × CanWork job.now.pool.now job.now.problem.now first.now
-                × O.Found.suits job.now.problem.now × Stands O.Outlet job.now first.now out.now told.now }
-            ensures leads { told.exit.now.leads ≡ told.entry.now.leads }
-            ensures done { IfOk result (λ done. done ≡ true → Ended (Stands O.Outlet job.entry.now first.exit.now
-                out.exit.now told.exit.now) job.entry.now.problem.now first.entry.now first.exit.now) }
-            ensures left { IfOk result (λ done. done ≡ false → LeavesPool (Stopped O.Outlet job.entry.now out.exit.now
-                told.exit.now) (WasRefused told.exit.now) first.entry.now first.exit.now) }
-            ensures failed { OnErr result
-                (Fails (Stopped O.Outlet job.entry.now out.exit.now told.exit.now) first.entry.now first.exit.now) }
-        {
-            let (done, _woken) = work_as(job, first, told, out);
-            done
-        },
+                × O.Found.suits job.now.problem.now × Stands O.Outlet job.now first.now out.now (nothing_told true) }
+            ensures leads { result.told.leads ≡ true }
+            ensures done { IfOk result.done (λ done. done ≡ true → Ended (Stands O.Outlet job.entry.now first.exit.now
+                out.exit.now result.told) job.entry.now.problem.now first.entry.now first.exit.now) }
+            ensures left { IfOk result.done (λ done. done ≡ false → LeavesPool (Stopped O.Outlet job.entry.now
+                out.exit.now result.told) (WasRefused result.told) first.entry.now first.exit.now) }
+            ensures failed { OnErr result.done
+                (Fails (Stopped O.Outlet job.entry.now out.exit.now result.told) first.entry.now first.exit.now) }
+        { work_leading(job, first, out) },
     )
 }

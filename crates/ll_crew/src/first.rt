@@ -120,8 +120,7 @@ fn give_until<'p, 's, R: Threads + Wait + Sync, G: Gate, E: Enough>(
         (first_of (problem_events problem.entry.now) (E.limit until.old.out.now)) until.new.out.now) }
     ensures counts { IfOk result (λ o. IfSome o (λ counts. CountsOf counts (problem_events problem.entry.now)
         (problem_cost problem.entry.now))) }
-    ensures refused { OnErr result
-        (GivesPrefix E.takes E.breaks until.old.out.now
+    ensures refused { OnErr result (GivesPrefix E.takes E.breaks until.old.out.now
         (first_of (problem_events problem.entry.now) (E.limit until.old.out.now)) until.new.out.now) }
     ensures fewer { OnErr result (E.answers until.new.out.now < E.limit until.old.out.now) }
     ensures write { result ≡ Err CrewFault.Write → Rose (E.faults until.old.out.now) (E.faults until.new.out.now) }

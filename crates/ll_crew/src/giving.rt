@@ -53,25 +53,34 @@ fn sum_of(one: Counts, other: Counts) -> Counts
     }
 }
 
+/// What a search started with.
+#[derive(Drop)]
+pub struct Start<'a, 'p, O> {
+    /// What is searched.
+    pub problem: &'p Problem,
+    /// The outlet as the crew was given it.
+    pub out: &'a Snapshot<O>,
+}
+
 // Gives the outlet what worker 0 has not given, once nothing is untried or open.
 fn give_rest<'p, O: Outlet>(
-    problem: &'p Problem,
+    start: &Start<'_, 'p, O>,
     mut pool: Pool<Offer<'p, O::Found>>,
-    start: &Snapshot<O>,
     counts: Counts,
     out: &mut O,
 ) -> Result<Counts, CrewFault>
     requires done { (pool.untried ≡ 0) × (pool.busy ≡ 0) }
-    requires leads { Leads O.Outlet start.now.value problem.now pool out.old counts }
-    ensures given { OnOk result (Gives O.takes start.now.value (problem_events problem.entry.now) out.new) }
-    ensures counts { IfOk result (λ counts. CountsOf counts (problem_events problem.entry.now)
-        (problem_cost problem.entry.now)) }
+    requires leads { Leads O.Outlet start.now.out.now.value start.now.problem.now pool out.old counts }
+    ensures given { OnOk result
+        (Gives O.takes start.now.out.now.value (problem_events start.now.problem.now) out.new) }
+    ensures counts { IfOk result (λ counts. CountsOf counts (problem_events start.now.problem.now)
+        (problem_cost start.now.problem.now)) }
     ensures refused { OnErr result
-        (Refuses O.takes O.breaks start.now.value (problem_events problem.entry.now) out.new) }
-    ensures write { result ≡ Err CrewFault.Write → Rose (O.faults start.now.value) (O.faults out.new) }
-    ensures kept { Kept O.Outlet start.now.value out.new }
+        (Refuses O.takes O.breaks start.now.out.now.value (problem_events start.now.problem.now) out.new) }
+    ensures write { result ≡ Err CrewFault.Write → Rose (O.faults start.now.out.now.value) (O.faults out.new) }
+    ensures kept { Kept O.Outlet start.now.out.now.value out.new }
 {
-    let _problem = problem;
+    let _start = start;
     match drain(&mut pool, out) {
         Ok(rest) => Ok(sum_of(counts, rest)),
         Err(fault) => Err(fault_of(fault)),
@@ -89,28 +98,29 @@ pub struct Lead {
 
 /// Gives the outlet what is left, where the workers came to the end, and says else why they stopped.
 pub fn finish<'p, O: Outlet>(
-    problem: &'p Problem,
+    start: &Start<'_, 'p, O>,
     pool: Pool<Offer<'p, O::Found>>,
-    start: &Snapshot<O>,
     lead: &Lead,
     out: &mut O,
 ) -> Result<Counts, CrewFault>
     requires leads { lead.now.told.leads ≡ true }
     requires done { lead.now.done ≡ Ok true → (pool.untried ≡ 0) × (pool.busy ≡ 0)
-        × Leads O.Outlet start.now.value problem.now pool out.old lead.now.told.counts }
-    requires left { IfOk lead.now.done
-        (λ done. done ≡ false → StoppedOf O.Outlet start.now.value problem.now out.old lead.now.told) }
-    requires failed { OnErr lead.now.done (StoppedOf O.Outlet start.now.value problem.now out.old lead.now.told) }
-    ensures given { OnOk result (Gives O.takes start.now.value (problem_events problem.entry.now) out.new) }
-    ensures counts { IfOk result (λ counts. CountsOf counts (problem_events problem.entry.now)
-        (problem_cost problem.entry.now)) }
+        × Leads O.Outlet start.now.out.now.value start.now.problem.now pool out.old lead.now.told.counts }
+    requires left { IfOk lead.now.done (λ done. done ≡ false
+        → StoppedOf O.Outlet start.now.out.now.value start.now.problem.now out.old lead.now.told) }
+    requires failed { OnErr lead.now.done
+        (StoppedOf O.Outlet start.now.out.now.value start.now.problem.now out.old lead.now.told) }
+    ensures given { OnOk result
+        (Gives O.takes start.now.out.now.value (problem_events start.now.problem.now) out.new) }
+    ensures counts { IfOk result (λ counts. CountsOf counts (problem_events start.now.problem.now)
+        (problem_cost start.now.problem.now)) }
     ensures refused { OnErr result
-        (GivesPrefix O.takes O.breaks start.now.value (problem_events problem.entry.now) out.new) }
-    ensures write { result ≡ Err CrewFault.Write → Rose (O.faults start.now.value) (O.faults out.new) }
-    ensures kept { Kept O.Outlet start.now.value out.new }
+        (GivesPrefix O.takes O.breaks start.now.out.now.value (problem_events start.now.problem.now) out.new) }
+    ensures write { result ≡ Err CrewFault.Write → Rose (O.faults start.now.out.now.value) (O.faults out.new) }
+    ensures kept { Kept O.Outlet start.now.out.now.value out.new }
 {
     if let Ok(true) = lead.done {
-        return give_rest(problem, pool, start, lead.told.counts, out);
+        return give_rest(start, pool, lead.told.counts, out);
     }
     drop(pool);
     match lead.told.fault {

@@ -3,11 +3,13 @@ ghost use Rattle.std.specs.Prelude.{◌≡◌, ◌≤◌, None, IfSome, IsSome, 
 ghost use Rattle.ll_laws.specs.Sound.{report_of};
 ghost use Rattle.ll_pool.specs.Turns.{HasQuit};
 ghost use Rattle.ll_crew.specs.Seats.{IsSeat};
-ghost use Rattle.ll_crew.specs.Leading.{Stands, Stopped, WasRefused};
-ghost use Rattle.ll_crew.specs.Turns.{KeepsPiece, LeavesPool, Stays};
+ghost use Rattle.ll_crew.specs.Leading.{nothing_told, Stands, Stopped, WasRefused};
+ghost use Rattle.ll_crew.specs.Turns.{KeepsPiece, LeavesPool};
+ghost use Rattle.ll_crew.specs.Workers.{Holds, Standing, Stays, Leaves};
 
 use crate::job::Job;
 use crate::offer::Offer;
+use crate::worker::Worker;
 use ll_core::{Look, Ready};
 use ll_laws::{Batch, Counts, Notice, Report};
 use ll_order::{OutFault, Outlet, give};
@@ -29,11 +31,7 @@ pub struct Delivery {
 impl Delivery {
     /// Nothing was told yet.
     pub fn new(leads: bool) -> Delivery
-        ensures { result ≡ record {
-          leads = leads;
-          counts = record { answers = 0; reached = 0; inferences = 0 };
-          fault = None;
-        } }
+        ensures { result ≡ nothing_told leads }
     {
         Delivery {
             leads,
@@ -172,23 +170,21 @@ pub fn look<'p, R: Wait, G, O: Outlet>(
 }
 
 /// Reports what was found for a piece that owes nothing more. False where the worker is to leave.
-pub fn report<'p, R: Wait, G, O: Outlet>(
+pub(crate) fn report<'p, R: Wait, G, O: Outlet>(
     job: &Job<'_, 'p, R, G, O>,
-    seat: &mut Seat<Offer<'p, O::Found>>,
+    worker: &mut Worker<'_, '_, 'p, O>,
     found: Report<O::Found>,
-    told: &mut Delivery,
-    out: &mut O,
 ) -> bool
-    requires seat { IsSeat job.now.pool.now job.now.problem.now seat.old }
-    requires stands { Stands O.Outlet job.now seat.old out.old told.old }
-    requires owes { IsSomeAnd seat.old.mine.piece (λ piece. found ≡ report_of piece.owes) }
-    ensures leads { told.new.leads ≡ told.old.leads }
-    ensures done { result ≡ true → Stays (Stands O.Outlet job.now seat.new out.new told.new) seat.old seat.new
-        × (seat.new.mine.piece ≡ None) }
-    ensures left { result ≡ false → LeavesPool (Stopped O.Outlet job.now out.new told.new)
-        (WasRefused told.new) seat.old seat.new }
+    requires seat { IsSeat job.now.pool.now job.now.problem.now worker.old.seat.now }
+    requires stands { Standing O.Outlet job.now worker.old }
+    requires owes { IsSomeAnd worker.old.seat.now.mine.piece (λ piece. found ≡ report_of piece.owes) }
+    ensures holds { Holds worker.old worker.new }
+    ensures kept { worker.new.kept.now ≡ worker.old.kept.now }
+    ensures done { result ≡ true → Stays O.Outlet job.now worker.old worker.new
+        × (worker.new.seat.now.mine.piece ≡ None) }
+    ensures left { result ≡ false → Leaves O.Outlet job.now worker.old worker.new }
 {
-    job.pool.report(job.rt, seat, found);
+    job.pool.report(job.rt, worker.seat, found);
     let _woken = job.bell.ring(job.rt, 0);
-    tell(job, seat, told, out)
+    tell(job, worker.seat, worker.told, worker.out)
 }

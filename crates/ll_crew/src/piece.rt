@@ -1,6 +1,6 @@
 //! The work of one piece.
 ghost use Rattle.std.specs.Prelude.{◌≡◌, ◌<◌, length, IfOk, IfSome, IfNone, IsErr, IsSomeAnd, OnOk, OnErr, Ok, Some, None, slice_get};
-ghost use Rattle.std.specs.Prelude.{[], map, true, false};
+ghost use Rattle.std.specs.Prelude.{List, [], map, true, false};
 ghost use Rattle.std.specs.Arc.{arc_value};
 ghost use Rattle.ll_laws.specs.Pool.{Owed};
 ghost use Rattle.ll_laws.specs.declared.Event.{Event as TheEvent};
@@ -8,7 +8,7 @@ ghost use Rattle.ll_freeze.specs.Frozen.{alternatives_in};
 ghost use Rattle.ll_engine.specs.Resumes.{Resumes};
 ghost use Rattle.ll_crew.specs.Runs.{SharesTo};
 ghost use Rattle.ll_crew.specs.Workers.{Holds, Standing, Stays, Leaves, RunsTo, RunsAlone, RunsOne, RunsAll, EndsTo, Reports};
-ghost use Rattle.ll_crew.specs.Pieces.{IsKeptOf, Stretched, OwesAll, OwesAfter};
+ghost use Rattle.ll_crew.specs.Pieces.{IsKeptOf, IsOwed, Stretched, OwesAll, OwesAfter};
 ghost use Rattle.ll_crew.specs.Seats.{IsSeat, Calm};
 
 use crate::job::Job;
@@ -93,13 +93,12 @@ fn share_oldest<'p, R: Wait, G: Gate, O: Outlet>(
     job: &Job<'_, 'p, R, G, O>,
     seat: &mut Seat<Offer<'p, O::Found>>,
     engine: &mut Engine<'p>,
-    events: &Vec<O::Found>,
 ) -> Result<Shared<'p>, OutOfMemory>
     requires seat { IsSeat job.now.pool.now engine.old.problem seat.old }
-    requires owes { OwesAll seat.old.mine.piece (map O.Found.stands_for events.now.items) engine.old [] }
+    requires owes { (found : List TheEvent) × OwesAll seat.old.mine.piece found engine.old [] }
     ensures calm { Calm seat.old seat.new }
-    ensures owes { IfOk result (λ shared. SharesTo seat.new.mine.piece
-        (map O.Found.stands_for events.now.items) engine.old engine.new shared) }
+    ensures owes { IfOk result (λ shared. (found : List TheEvent) → OwesAll seat.old.mine.piece found engine.old []
+        → SharesTo seat.new.mine.piece found engine.old engine.new shared) }
 {
     let Some(batch) = engine.split_oldest()? else {
         return Ok(Shared::Nothing);
@@ -116,17 +115,16 @@ fn share<'p, R: Wait, G: Gate, O: Outlet>(
     job: &Job<'_, 'p, R, G, O>,
     seat: &mut Seat<Offer<'p, O::Found>>,
     engine: &mut Engine<'p>,
-    events: &Vec<O::Found>,
     all: bool,
 ) -> Result<Option<Arc<Frozen<'p>>>, OutOfMemory>
     requires seat { IsSeat job.now.pool.now engine.old.problem seat.old }
-    requires owes { OwesAll seat.old.mine.piece (map O.Found.stands_for events.now.items) engine.old [] }
+    requires owes { (found : List TheEvent) × OwesAll seat.old.mine.piece found engine.old [] }
     ensures calm { Calm seat.old seat.new }
-    ensures owes { IfOk result (λ back. OwesAfter seat.new.mine.piece
-        (map O.Found.stands_for events.now.items) engine.old engine.new back) }
+    ensures owes { IfOk result (λ back. (found : List TheEvent) → OwesAll seat.old.mine.piece found engine.old []
+        → OwesAfter seat.new.mine.piece found engine.old engine.new back) }
 {
     'points: loop {
-        match share_oldest(job, seat, engine, events)? {
+        match share_oldest(job, seat, engine)? {
             Shared::Nothing => return Ok(None),
             Shared::Published => {
                 if !all {
@@ -158,32 +156,31 @@ enum Ran<'p> {
 // reported at once.
 fn run<'p, R: Wait, G: Gate, O: Outlet>(
     job: &Job<'_, 'p, R, G, O>,
-    worker: &mut Worker<'_, 'p, O::Found>,
+    worker: &mut Worker<'_, '_, 'p, O>,
     engine: &mut Engine<'p>,
     events: &mut Vec<O::Found>,
-    out: &mut O,
 ) -> Result<Ran<'p>, OutOfMemory>
     requires suits { O.Found.suits job.now.problem.now }
     requires seat { IsSeat job.now.pool.now job.now.problem.now worker.old.seat.now
         × (engine.old.problem ≡ job.now.problem.now) }
-    requires stands { Standing O.Outlet job.now worker.old out.old }
+    requires stands { Standing O.Outlet job.now worker.old }
     requires owes { OwesAll worker.old.seat.now.mine.piece (map O.Found.stands_for events.old.items) engine.old [] }
     ensures holds { Holds worker.old worker.new }
     ensures problem { OnOk result (engine.new.problem ≡ job.now.problem.now) }
-    ensures ran { IfOk result (λ ran. RunsTo O.Outlet job.now ran worker.old worker.new out.new
+    ensures ran { IfOk result (λ ran. RunsTo O.Outlet job.now ran worker.old worker.new
         (map O.Found.stands_for events.new.items) engine.new) }
-    ensures failed { OnErr result (Stays O.Outlet job.now worker.old worker.new out.new) }
+    ensures failed { OnErr result (Stays O.Outlet job.now worker.old worker.new) }
 {
     'stretches: loop {
         if stretch(engine, events, job.reports_at_once())? {
             return Ok(Ran::Done);
         }
-        let Some(seen) = look(job, worker.seat, worker.told, out) else {
+        let Some(seen) = look(job, worker.seat, worker.told, worker.out) else {
             return Ok(Ran::Left);
         };
         let answered = job.reports_at_once() && ends_with_answer(events);
         if is_to_share(answered, seen, job.pool.workers()) {
-            if let Some(batch) = share(job, worker.seat, engine, events, answered)? {
+            if let Some(batch) = share(job, worker.seat, engine, answered)? {
                 return Ok(Ran::Back(batch));
             }
         }
@@ -193,26 +190,25 @@ fn run<'p, R: Wait, G: Gate, O: Outlet>(
 // Runs an engine to its end, and publishes nothing. False where the pool is starved or stopped.
 fn run_alone<'p, R: Wait, G, O: Outlet>(
     job: &Job<'_, 'p, R, G, O>,
-    worker: &mut Worker<'_, 'p, O::Found>,
+    worker: &mut Worker<'_, '_, 'p, O>,
     engine: &mut Engine<'p>,
     events: &mut Vec<O::Found>,
-    out: &mut O,
 ) -> Result<bool, OutOfMemory>
     requires suits { O.Found.suits engine.old.problem }
     requires seat { IsSeat job.now.pool.now job.now.problem.now worker.old.seat.now }
-    requires stands { Standing O.Outlet job.now worker.old out.old }
+    requires stands { Standing O.Outlet job.now worker.old }
     ensures holds { Holds worker.old worker.new }
     ensures problem { OnOk result (engine.new.problem ≡ engine.old.problem) }
-    ensures done { IfOk result (λ done. done ≡ true → RunsAlone O.Outlet job.now worker.old worker.new out.new
+    ensures done { IfOk result (λ done. done ≡ true → RunsAlone O.Outlet job.now worker.old worker.new
         (map O.Found.stands_for events.old.items) engine.old (map O.Found.stands_for events.new.items) engine.new) }
-    ensures left { IfOk result (λ done. done ≡ false → Leaves O.Outlet job.now worker.old worker.new out.new) }
-    ensures failed { OnErr result (Stays O.Outlet job.now worker.old worker.new out.new) }
+    ensures left { IfOk result (λ done. done ≡ false → Leaves O.Outlet job.now worker.old worker.new) }
+    ensures failed { OnErr result (Stays O.Outlet job.now worker.old worker.new) }
 {
     'stretches: loop {
         if stretch(engine, events, false)? {
             return Ok(true);
         }
-        if look(job, worker.seat, worker.told, out).is_none() {
+        if look(job, worker.seat, worker.told, worker.out).is_none() {
             return Ok(false);
         }
     }
@@ -235,8 +231,7 @@ fn engine_for<'p, R, G, O: Outlet>(
     requires inside { claimed.k < length (alternatives_in (arc_value claimed.batch)) }
     requires of { (arc_value claimed.batch).problem ≡ job.now.problem.now }
     ensures problem { IfOk result (λ e. e.problem ≡ job.now.problem.now) }
-    ensures owes { IfOk result (λ e. (owes : Owed TheEvent)
-        → slice_get (alternatives_in (arc_value claimed.entry.batch)) claimed.entry.k ≡ Some owes
+    ensures owes { IfOk result (λ e. (owes : Owed TheEvent) → IsOwed claimed.entry owes
         → Resumes job.now.problem.now owes e) }
 {
     let Alternative { batch, k } = claimed;
@@ -259,28 +254,25 @@ where
 // stopped.
 fn run_one<'p, R: Wait, G, O: Outlet>(
     job: &Job<'_, 'p, R, G, O>,
-    worker: &mut Worker<'_, 'p, O::Found>,
+    worker: &mut Worker<'_, '_, 'p, O>,
     claimed: Alternative<'p>,
     events: &mut Vec<O::Found>,
-    out: &mut O,
 ) -> Result<Option<u64>, OutOfMemory>
     requires suits { O.Found.suits job.now.problem.now }
     requires seat { IsSeat job.now.pool.now job.now.problem.now worker.old.seat.now }
-    requires stands { Standing O.Outlet job.now worker.old out.old }
+    requires stands { Standing O.Outlet job.now worker.old }
     requires kept { IsKeptOf job.now.problem.now worker.old.kept.now }
     requires inside { claimed.k < length (alternatives_in (arc_value claimed.batch)) }
     requires of { (arc_value claimed.batch).problem ≡ job.now.problem.now }
     ensures holds { Holds worker.old worker.new }
     ensures kept { OnOk result (IsKeptOf job.now.problem.now worker.new.kept.now) }
-    ensures some { IfOk result (λ o. IfSome o (λ n. (x : Owed TheEvent)
-        → slice_get (alternatives_in (arc_value claimed.entry.batch)) claimed.entry.k ≡ Some x
-        → RunsOne O.Outlet job.now worker.old worker.new out.new (map O.Found.stands_for events.old.items) x
-        (map O.Found.stands_for events.new.items) n)) }
-    ensures none { IfOk result (λ o. IfNone o (Leaves O.Outlet job.now worker.old worker.new out.new)) }
-    ensures failed { OnErr result (Stays O.Outlet job.now worker.old worker.new out.new) }
+    ensures some { IfOk result (λ o. IfSome o (RunsOne O.Outlet job.now worker.old worker.new
+        (map O.Found.stands_for events.old.items) claimed.entry (map O.Found.stands_for events.new.items))) }
+    ensures none { IfOk result (λ o. IfNone o (Leaves O.Outlet job.now worker.old worker.new)) }
+    ensures failed { OnErr result (Stays O.Outlet job.now worker.old worker.new) }
 {
     let mut engine = engine_for(job, worker.kept, claimed)?;
-    let done = run_alone(job, worker, &mut engine, events, out);
+    let done = run_alone(job, worker, &mut engine, events);
     let inferences = engine.cost();
     keep(worker.kept, engine);
     choose(done, Some(inferences), None)
@@ -299,29 +291,27 @@ struct Rest<'p> {
 // None where the pool is starved or stopped.
 fn run_batch<'p, R: Wait, G, O: Outlet>(
     job: &Job<'_, 'p, R, G, O>,
-    worker: &mut Worker<'_, 'p, O::Found>,
+    worker: &mut Worker<'_, '_, 'p, O>,
     rest: &Rest<'p>,
     events: &mut Vec<O::Found>,
-    out: &mut O,
 ) -> Result<Option<u64>, OutOfMemory>
     requires suits { O.Found.suits job.now.problem.now }
     requires seat { IsSeat job.now.pool.now job.now.problem.now worker.old.seat.now }
-    requires stands { Standing O.Outlet job.now worker.old out.old }
+    requires stands { Standing O.Outlet job.now worker.old }
     requires kept { IsKeptOf job.now.problem.now worker.old.kept.now }
     requires of { (arc_value rest.now.batch).problem ≡ job.now.problem.now }
     ensures holds { Holds worker.old worker.new }
     ensures kept { OnOk result (IsKeptOf job.now.problem.now worker.new.kept.now) }
-    ensures some { IfOk result (λ o. IfSome o (λ n. RunsAll O.Outlet job.now worker.old worker.new out.new
-        (map O.Found.stands_for events.old.items) (alternatives_in (arc_value rest.now.batch)) rest.now.inferences
-        (map O.Found.stands_for events.new.items) n)) }
-    ensures none { IfOk result (λ o. IfNone o (Leaves O.Outlet job.now worker.old worker.new out.new)) }
-    ensures failed { OnErr result (Stays O.Outlet job.now worker.old worker.new out.new) }
+    ensures some { IfOk result (λ o. IfSome o (RunsAll O.Outlet job.now worker.old worker.new
+        (map O.Found.stands_for events.old.items) rest.now (map O.Found.stands_for events.new.items))) }
+    ensures none { IfOk result (λ o. IfNone o (Leaves O.Outlet job.now worker.old worker.new)) }
+    ensures failed { OnErr result (Stays O.Outlet job.now worker.old worker.new) }
 {
     let mut inferences = rest.inferences;
     for k in 0..rest.batch.len() {
         let shared = Arc::try_clone(&rest.batch)?;
         let next = Alternative { batch: shared, k };
-        let Some(more) = run_one(job, worker, next, events, out)? else {
+        let Some(more) = run_one(job, worker, next, events)? else {
             return Ok(None);
         };
         inferences = inferences.saturating_add(more);
@@ -343,27 +333,26 @@ enum Ending<'p> {
 // Runs the engine of a piece to its end.
 fn run_to_end<'p, R: Wait, G: Gate, O: Outlet>(
     job: &Job<'_, 'p, R, G, O>,
-    worker: &mut Worker<'_, 'p, O::Found>,
+    worker: &mut Worker<'_, '_, 'p, O>,
     engine: &mut Engine<'p>,
     events: &mut Vec<O::Found>,
-    out: &mut O,
 ) -> Result<Ending<'p>, OutOfMemory>
     requires suits { O.Found.suits job.now.problem.now }
     requires seat { IsSeat job.now.pool.now job.now.problem.now worker.old.seat.now
         × (engine.old.problem ≡ job.now.problem.now) }
-    requires stands { Standing O.Outlet job.now worker.old out.old }
+    requires stands { Standing O.Outlet job.now worker.old }
     requires owes { OwesAll worker.old.seat.now.mine.piece (map O.Found.stands_for events.old.items) engine.old [] }
     ensures holds { Holds worker.old worker.new }
     ensures problem { OnOk result (engine.new.problem ≡ job.now.problem.now) }
-    ensures ends { IfOk result (λ ending. EndsTo O.Outlet job.now ending worker.old worker.new out.new
+    ensures ends { IfOk result (λ ending. EndsTo O.Outlet job.now ending worker.old worker.new
         (map O.Found.stands_for events.new.items)) }
-    ensures failed { OnErr result (Stays O.Outlet job.now worker.old worker.new out.new) }
+    ensures failed { OnErr result (Stays O.Outlet job.now worker.old worker.new) }
 {
-    match run(job, worker, engine, events, out)? {
+    match run(job, worker, engine, events)? {
         Ran::Done => Ok(Ending::Whole(engine.cost())),
         Ran::Left => Ok(Ending::Left),
         Ran::Back(batch) => {
-            let done = run_alone(job, worker, engine, events, out);
+            let done = run_alone(job, worker, engine, events);
             choose(done, Ending::Partly(engine.cost(), batch), Ending::Left)
         }
     }
@@ -372,27 +361,25 @@ fn run_to_end<'p, R: Wait, G: Gate, O: Outlet>(
 // Runs the alternative of a piece to the end of its engine, which is kept.
 fn run_claimed<'p, R: Wait, G: Gate, O: Outlet>(
     job: &Job<'_, 'p, R, G, O>,
-    worker: &mut Worker<'_, 'p, O::Found>,
+    worker: &mut Worker<'_, '_, 'p, O>,
     claimed: Alternative<'p>,
     events: &mut Vec<O::Found>,
-    out: &mut O,
 ) -> Result<Ending<'p>, OutOfMemory>
     requires suits { O.Found.suits job.now.problem.now }
     requires seat { IsSeat job.now.pool.now job.now.problem.now worker.old.seat.now }
-    requires stands { Standing O.Outlet job.now worker.old out.old }
+    requires stands { Standing O.Outlet job.now worker.old }
     requires kept { IsKeptOf job.now.problem.now worker.old.kept.now }
-    requires owes { IsSomeAnd worker.old.seat.now.mine.piece
-        (λ piece. slice_get (alternatives_in (arc_value claimed.batch)) claimed.k ≡ Some piece.owes) }
+    requires owes { IsSomeAnd worker.old.seat.now.mine.piece (λ piece. IsOwed claimed piece.owes) }
     requires of { (arc_value claimed.batch).problem ≡ job.now.problem.now }
     requires none { events.old.items ≡ [] }
     ensures holds { Holds worker.old worker.new }
     ensures kept { OnOk result (IsKeptOf job.now.problem.now worker.new.kept.now) }
-    ensures ends { IfOk result (λ ending. EndsTo O.Outlet job.now ending worker.old worker.new out.new
+    ensures ends { IfOk result (λ ending. EndsTo O.Outlet job.now ending worker.old worker.new
         (map O.Found.stands_for events.new.items)) }
-    ensures failed { OnErr result (Stays O.Outlet job.now worker.old worker.new out.new) }
+    ensures failed { OnErr result (Stays O.Outlet job.now worker.old worker.new) }
 {
     let mut engine = engine_for(job, worker.kept, claimed)?;
-    let ending = run_to_end(job, worker, &mut engine, events, out);
+    let ending = run_to_end(job, worker, &mut engine, events);
     keep(worker.kept, engine);
     ending
 }
@@ -401,27 +388,25 @@ fn run_claimed<'p, R: Wait, G: Gate, O: Outlet>(
 // inferences. None where the pool is starved or stopped.
 fn run_piece<'p, R: Wait, G: Gate, O: Outlet>(
     job: &Job<'_, 'p, R, G, O>,
-    worker: &mut Worker<'_, 'p, O::Found>,
+    worker: &mut Worker<'_, '_, 'p, O>,
     claimed: Alternative<'p>,
     events: &mut Vec<O::Found>,
-    out: &mut O,
 ) -> Result<Option<u64>, OutOfMemory>
     requires suits { O.Found.suits job.now.problem.now }
     requires seat { IsSeat job.now.pool.now job.now.problem.now worker.old.seat.now }
-    requires stands { Standing O.Outlet job.now worker.old out.old }
+    requires stands { Standing O.Outlet job.now worker.old }
     requires kept { IsKeptOf job.now.problem.now worker.old.kept.now }
-    requires owes { IsSomeAnd worker.old.seat.now.mine.piece
-        (λ piece. slice_get (alternatives_in (arc_value claimed.batch)) claimed.k ≡ Some piece.owes) }
+    requires owes { IsSomeAnd worker.old.seat.now.mine.piece (λ piece. IsOwed claimed piece.owes) }
     requires of { (arc_value claimed.batch).problem ≡ job.now.problem.now }
     requires none { events.old.items ≡ [] }
     ensures holds { Holds worker.old worker.new }
     ensures kept { OnOk result (IsKeptOf job.now.problem.now worker.new.kept.now) }
     ensures some { IfOk result (λ o. IfSome o
-        (λ n. Reports O.Outlet job.now worker.old worker.new out.new (map O.Found.stands_for events.new.items) n)) }
-    ensures none { IfOk result (λ o. IfNone o (Leaves O.Outlet job.now worker.old worker.new out.new)) }
-    ensures failed { OnErr result (Stays O.Outlet job.now worker.old worker.new out.new) }
+        (λ n. Reports O.Outlet job.now worker.old worker.new (map O.Found.stands_for events.new.items) n)) }
+    ensures none { IfOk result (λ o. IfNone o (Leaves O.Outlet job.now worker.old worker.new)) }
+    ensures failed { OnErr result (Stays O.Outlet job.now worker.old worker.new) }
 {
-    match run_claimed(job, worker, claimed, events, out)? {
+    match run_claimed(job, worker, claimed, events)? {
         Ending::Whole(inferences) => Ok(Some(inferences)),
         Ending::Left => Ok(None),
         Ending::Partly(inferences, back) => {
@@ -429,7 +414,7 @@ fn run_piece<'p, R: Wait, G: Gate, O: Outlet>(
                 inferences,
                 batch: back,
             };
-            let ran = run_batch(job, worker, &rest, events, out);
+            let ran = run_batch(job, worker, &rest, events);
             drop(rest);
             ran
         }
@@ -439,34 +424,33 @@ fn run_piece<'p, R: Wait, G: Gate, O: Outlet>(
 /// Works an alternative that was claimed, and reports. False where the pool is starved or stopped.
 pub(crate) fn work_piece<'p, R: Wait, G: Gate, O: Outlet>(
     job: &Job<'_, 'p, R, G, O>,
-    worker: &mut Worker<'_, 'p, O::Found>,
+    worker: &mut Worker<'_, '_, 'p, O>,
     offer: Arc<Offer<'p, O::Found>>,
     k: u32,
-    out: &mut O,
 ) -> Result<bool, OutOfMemory>
     requires suits { O.Found.suits job.now.problem.now }
     requires seat { IsSeat job.now.pool.now job.now.problem.now worker.old.seat.now }
-    requires stands { Standing O.Outlet job.now worker.old out.old }
+    requires stands { Standing O.Outlet job.now worker.old }
     requires kept { IsKeptOf job.now.problem.now worker.old.kept.now }
     requires owes { IsSomeAnd worker.old.seat.now.mine.piece
         (λ piece. slice_get (alternatives_in (arc_value offer)) k ≡ Some piece.owes) }
     requires of { (arc_value offer).problem ≡ job.now.problem.now }
     ensures holds { Holds worker.old worker.new }
     ensures kept { OnOk result (IsKeptOf job.now.problem.now worker.new.kept.now) }
-    ensures done { IfOk result (λ done. done ≡ true → Stays O.Outlet job.now worker.old worker.new out.new
+    ensures done { IfOk result (λ done. done ≡ true → Stays O.Outlet job.now worker.old worker.new
         × (worker.new.seat.now.mine.piece ≡ None)) }
-    ensures left { IfOk result (λ done. done ≡ false → Leaves O.Outlet job.now worker.old worker.new out.new) }
-    ensures failed { OnErr result (Stays O.Outlet job.now worker.old worker.new out.new) }
+    ensures left { IfOk result (λ done. done ≡ false → Leaves O.Outlet job.now worker.old worker.new) }
+    ensures failed { OnErr result (Stays O.Outlet job.now worker.old worker.new) }
 {
     let choice = offer.choice();
     drop(offer);
     let batch = choice?;
     let mut events = Vec::new(job.alloc);
     let claimed = Alternative { batch, k };
-    match run_piece(job, worker, claimed, &mut events, out) {
+    match run_piece(job, worker, claimed, &mut events) {
         Ok(Some(inferences)) => {
             let found = Report { events, inferences };
-            Ok(report(job, worker.seat, found, worker.told, out))
+            Ok(report(job, worker, found))
         }
         Ok(None) => {
             drop(events);

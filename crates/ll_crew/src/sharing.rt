@@ -1,11 +1,11 @@
 //! How a batch comes to other workers.
-ghost use Rattle.std.specs.Prelude.{◌≡◌, ◌⊎◌, ◌+◌, ◌<◌, length, IfOk, IsSomeAnd, true, false};
+ghost use Rattle.std.specs.Prelude.{◌≡◌, ◌⊎◌, ◌<◌, length, IfOk, IsSomeAnd, true, false};
 ghost use Rattle.std.specs.Arc.{arc_value};
 ghost use Rattle.ll_freeze.specs.Frozen.{alternatives_in};
 ghost use Rattle.ll_laws.specs.CoreEvents.{PublishAnswer, Publish, Does};
-ghost use Rattle.ll_pool.specs.Turns.{OneTurn, EndsWith, IsRest};
-ghost use Rattle.ll_crew.specs.Seats.{IsSeat, Calm, HasNoPlace};
-ghost use Rattle.ll_crew.specs.Offers.{IfTaken, IfBack};
+ghost use Rattle.ll_pool.specs.Turns.{OneTurn, EndsWith};
+ghost use Rattle.ll_crew.specs.Seats.{IsSeat, Calm, HasNoPlace, HasNoPlaceFor};
+ghost use Rattle.ll_crew.specs.Offers.{IfTaken, IfBack, LeavesRest};
 
 use crate::heard::Woken;
 use crate::job::Job;
@@ -41,8 +41,7 @@ pub fn publish<'p, R: Wait, G: Gate, O: Outlet>(
     requires ends { IsSomeAnd seat.old.mine.piece (λ piece. EndsWith piece.owes (alternatives_in batch)) }
     ensures calm { Calm seat.old seat.new }
     ensures rest { IfOk result (λ offered. IfTaken offered
-        (λ _. IsSomeAnd seat.old.mine.piece
-        (λ whole. IsSomeAnd seat.new.mine.piece (λ rest. IsRest (alternatives_in batch.entry) whole rest)))) }
+        (λ _. LeavesRest (alternatives_in batch.entry) seat.old.mine.piece seat.new.mine.piece)) }
     ensures woken { IfOk result (λ offered. IfTaken offered (λ others. others ≡ length (alternatives_in batch.entry))) }
     ensures back { IfOk result (λ offered. IfBack offered (λ same. (arc_value same ≡ batch.entry)
         × (seat.new.mine.piece ≡ seat.old.mine.piece))) }
@@ -73,8 +72,7 @@ fn offer<'p, R: Wait, G, O: Outlet>(
         (λ piece. EndsWith piece.owes (alternatives_in (arc_value choice.now))) }
     ensures calm { Calm seat.old seat.new }
     ensures rest { IfOk result (λ done. done ≡ true
-        → IsSomeAnd seat.old.mine.piece
-        (λ whole. IsSomeAnd seat.new.mine.piece (λ rest. IsRest (alternatives_in (arc_value choice.now)) whole rest))) }
+        → LeavesRest (alternatives_in (arc_value choice.now)) seat.old.mine.piece seat.new.mine.piece) }
     ensures full { IfOk result (λ done. done ≡ false → HasNoPlace (arc_value choice.now) seat.new
         × (seat.new.mine.piece ≡ seat.old.mine.piece)) }
 {
@@ -97,10 +95,8 @@ fn put<R: Wait, N: Batch>(
     ensures turn { (answer : PublishAnswer) × OneTurn N.of N.alternatives (λ found left.
         Does N.alternatives found (Publish seat.old.mine.worker (arc_value batch) answer) left) seat.old seat.new }
     ensures rest { IfOk result (λ done. done ≡ true
-        → IsSomeAnd seat.old.mine.piece
-        (λ whole. IsSomeAnd seat.new.mine.piece (λ rest. IsRest (N.alternatives (arc_value batch)) whole rest))) }
-    ensures full { IfOk result (λ done. done ≡ false
-        → (4294967295 < seat.new.mine.seen.total + length (N.alternatives (arc_value batch)))
+        → LeavesRest (N.alternatives (arc_value batch)) seat.old.mine.piece seat.new.mine.piece) }
+    ensures full { IfOk result (λ done. done ≡ false → HasNoPlaceFor (N.alternatives (arc_value batch)) seat.new
         × (seat.new.mine.piece ≡ seat.old.mine.piece)) }
 {
     match pool.publish(rt, seat, batch) {

@@ -16,9 +16,8 @@ use crate::alone::search_alone;
 use crate::bell::Bell;
 use crate::crowd::work_together;
 use crate::fault::CrewFault;
-use crate::giving::{Lead, finish};
+use crate::giving::{Start, finish};
 use crate::job::{Job, Sharing};
-use crate::lead::Delivery;
 use crate::offer::Offer;
 use crate::pool::{close, crew_of};
 use crate::team::Team;
@@ -32,19 +31,19 @@ use std::snapshot::Snapshot;
 use std::sync::{Arc, Wait};
 use std::thread::Threads;
 
-// The pool of a search, and the seats of all its workers, of which the first stands by itself.
+// The pool of a search, the seats of all its workers, of which the first stands by itself, and what these leave to others.
 #[derive(Drop)]
 struct Seats<'p, E: Notice> {
     pool: SharedPool<Offer<'p, E>>,
     first: Seat<Offer<'p, E>>,
     others: Vec<Seat<Offer<'p, E>>>,
+    sharing: Sharing,
 }
 
 // Searches with these seats, and gives the outlet what was found.
 fn search<'p, R: Threads + Wait + Sync, G: Gate, O: Outlet>(
     team: &Team<'_, R, G>,
     problem: &'p Problem,
-    sharing: Sharing,
     seats: Seats<'p, O::Found>,
     out: &mut O,
 ) -> Result<Counts, CrewFault>
@@ -65,9 +64,9 @@ fn search<'p, R: Threads + Wait + Sync, G: Gate, O: Outlet>(
         pool,
         mut first,
         others,
+        sharing,
     } = seats;
     let start = Snapshot::of(&*out);
-    let mut told = Delivery::new(true);
     let bell = if others.is_empty() {
         Bell::silent()
     } else {
@@ -83,10 +82,13 @@ fn search<'p, R: Threads + Wait + Sync, G: Gate, O: Outlet>(
         sharing,
         start: &start,
     };
-    let (others, done) = work_together(&job, &mut first, &mut told, out, others);
+    let (others, lead) = work_together(&job, &mut first, out, others);
     let closed = close(problem, pool, first, others);
-    let lead = Lead { told, done };
-    finish(problem, closed, &start, &lead, out)
+    let begun = Start {
+        problem,
+        out: &start,
+    };
+    finish(&begun, closed, &lead, out)
 }
 
 /// Searches a valid problem with 1 to 64 workers, of which the caller is the first, and gives the outlet the events of the search in
@@ -163,8 +165,9 @@ pub fn crew_with<'p, R: Threads + Wait + Sync, G: Gate, O: Outlet>(
                 pool,
                 first,
                 others,
+                sharing,
             };
-            search(team, problem, sharing, seats, out)
+            search(team, problem, seats, out)
         }
         Err(_) => Err(CrewFault::OutOfMemory),
     }

@@ -32,13 +32,15 @@ const YIELDS: u32 = 4;
 
 /// What a worker has at hand. Its engine goes on from one claim to the next.
 #[derive(Drop)]
-pub(crate) struct Worker<'w, 'p, E: Notice> {
+pub(crate) struct Worker<'w, 'o, 'p, O: Outlet> {
     /// Its seat at the pool.
-    pub(crate) seat: &'w mut Seat<Offer<'p, E>>,
+    pub(crate) seat: &'w mut Seat<Offer<'p, O::Found>>,
     /// The engine that it keeps between two pieces.
     pub(crate) kept: &'w mut Option<Engine<'p>>,
     /// What it has told the outlet.
     pub(crate) told: &'w mut Delivery,
+    /// The outlet.
+    pub(crate) out: &'o mut O,
 }
 
 // How a claim went.
@@ -56,28 +58,27 @@ enum ClaimOutcome {
 // Claims an alternative and works it, if there is one. Where there is none a worker that leads gives the outlet what is ready.
 fn claim_one<'p, R: Wait, G: Gate, O: Outlet>(
     job: &Job<'_, 'p, R, G, O>,
-    worker: &mut Worker<'_, 'p, O::Found>,
-    out: &mut O,
+    worker: &mut Worker<'_, '_, 'p, O>,
 ) -> Result<ClaimOutcome, OutOfMemory>
     requires suits { O.Found.suits job.now.problem.now }
     requires seat { CanWork job.now.pool.now job.now.problem.now worker.old.seat.now }
-    requires stands { Standing O.Outlet job.now worker.old out.old }
+    requires stands { Standing O.Outlet job.now worker.old }
     requires kept { IsKeptOf job.now.problem.now worker.old.kept.now }
     ensures holds { Holds worker.old worker.new }
     ensures kept { OnOk result (IsKeptOf job.now.problem.now worker.new.kept.now) }
-    ensures went { IfOk result (λ went. WentTo O.Outlet job.now went worker.old worker.new out.new) }
+    ensures went { IfOk result (λ went. WentTo O.Outlet job.now went worker.old worker.new) }
     ensures turns { IfOk result (λ went. TakesTurn went worker.old.seat.now worker.new.seat.now) }
-    ensures failed { OnErr result (workers.Stays O.Outlet job.now worker.old worker.new out.new) }
+    ensures failed { OnErr result (workers.Stays O.Outlet job.now worker.old worker.new) }
 {
     match job.pool.claim(job.rt, worker.seat) {
         Claimed::Work { piece: _, batch, k } => {
-            if work_piece(job, worker, batch, k, out)? {
+            if work_piece(job, worker, batch, k)? {
                 return Ok(ClaimOutcome::Worked);
             }
             Ok(ClaimOutcome::Left)
         }
         Claimed::Idle { busy: _ } => {
-            if tell(job, worker.seat, worker.told, out) {
+            if tell(job, worker.seat, worker.told, worker.out) {
                 return Ok(ClaimOutcome::Idle);
             }
             Ok(ClaimOutcome::Left)
@@ -92,24 +93,23 @@ fn claim_one<'p, R: Wait, G: Gate, O: Outlet>(
 // claim is kept for the next.
 fn work_with<'p, R: Wait, G: Gate, O: Outlet>(
     job: &Job<'_, 'p, R, G, O>,
-    worker: &mut Worker<'_, 'p, O::Found>,
-    out: &mut O,
+    worker: &mut Worker<'_, '_, 'p, O>,
 ) -> Result<bool, OutOfMemory>
     requires suits { O.Found.suits job.now.problem.now }
     requires seat { CanWork job.now.pool.now job.now.problem.now worker.old.seat.now }
-    requires stands { Standing O.Outlet job.now worker.old out.old }
+    requires stands { Standing O.Outlet job.now worker.old }
     requires kept { IsKeptOf job.now.problem.now worker.old.kept.now }
     ensures holds { Holds worker.old worker.new }
-    ensures done { IfOk result (λ done. done ≡ true → workers.Ended O.Outlet job.now worker.old worker.new out.new) }
-    ensures left { IfOk result (λ done. done ≡ false → workers.Leaves O.Outlet job.now worker.old worker.new out.new) }
-    ensures failed { OnErr result (workers.Stays O.Outlet job.now worker.old worker.new out.new) }
+    ensures done { IfOk result (λ done. done ≡ true → workers.Ended O.Outlet job.now worker.old worker.new) }
+    ensures left { IfOk result (λ done. done ≡ false → workers.Leaves O.Outlet job.now worker.old worker.new) }
+    ensures failed { OnErr result (workers.Stays O.Outlet job.now worker.old worker.new) }
 {
     let mut claims = 0u64;
     let mut misses = 0u32;
     'claims: for _ in job.rt.forever() {
         job.gate.pause(worker.seat.worker(), claims);
         let heard = job.bell.heard(job.rt, worker.seat);
-        match claim_one(job, worker, out)? {
+        match claim_one(job, worker)? {
             ClaimOutcome::Worked => {
                 claims = claims.saturating_add(1);
                 misses = 0;
@@ -151,8 +151,9 @@ fn work_on<'p, R: Wait, G: Gate, O: Outlet>(
         seat,
         kept: &mut kept,
         told,
+        out,
     };
-    let done = work_with(job, &mut worker, out);
+    let done = work_with(job, &mut worker);
     drop(kept);
     done
 }

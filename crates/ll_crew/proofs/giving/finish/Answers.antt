@@ -7,35 +7,39 @@ use Rattle.ll_crew.proofs.giving.finish.Goals as goal
 pub returns-in-Some-clause-refused : goal.returns-in-Some-clause-refused
 returns-in-Some-clause-refused g c =
     let not : c.args.lead.now.done ≡ Ok true → ⊥ = search rules in
-    let s = left_or_failed c.args.lead.now.done (StoppedOf g.O.Outlet c.args.start.now.value c.args.problem.now c.args.out.now c.args.lead.now.told)
+    let s = left_or_failed c.args.lead.now.done
+    (StoppedOf g.O.Outlet c.args.start.now.out.now.value c.args.start.now.problem.now c.args.out.now c.args.lead.now.told)
     not c.requires.left c.requires.failed in
-    stopped_prefix g.O.Outlet c.args.start.now.value
-    c.args.problem.now c.args.out.now c.args.lead.now.told c.requires.leads s
+    stopped_prefix g.O.Outlet c.args.start.now.out.now.value
+    c.args.start.now.problem.now c.args.out.now c.args.lead.now.told c.requires.leads s
 
 pub returns-in-Some-clause-write : goal.returns-in-Some-clause-write
 returns-in-Some-clause-write g c = λ e.
     let not : c.args.lead.now.done ≡ Ok true → ⊥ = search rules in
-    let s = left_or_failed c.args.lead.now.done (StoppedOf g.O.Outlet c.args.start.now.value c.args.problem.now c.args.out.now c.args.lead.now.told)
+    let s = left_or_failed c.args.lead.now.done
+    (StoppedOf g.O.Outlet c.args.start.now.out.now.value c.args.start.now.problem.now c.args.out.now c.args.lead.now.told)
     not c.requires.left c.requires.failed in
     let is : c.fault_of.result ≡ Write = cc in
-    stopped_write g.O.Outlet c.args.start.now.value
-    c.args.problem.now c.args.out.now c.args.lead.now.told c.in-Some.fault c.requires.leads c.in-Some.is s (c.fault_of.ensures.0 is)
+    stopped_write g.O.Outlet c.args.start.now.out.now.value
+    c.args.start.now.problem.now c.args.out.now c.args.lead.now.told c.in-Some.fault c.requires.leads c.in-Some.is s (c.fault_of.ensures.0 is)
 
 pub returns-in-Some-clause-kept : goal.returns-in-Some-clause-kept
 returns-in-Some-clause-kept g c =
     let not : c.args.lead.now.done ≡ Ok true → ⊥ = search rules in
-    let s = left_or_failed c.args.lead.now.done (StoppedOf g.O.Outlet c.args.start.now.value c.args.problem.now c.args.out.now c.args.lead.now.told)
+    let s = left_or_failed c.args.lead.now.done
+    (StoppedOf g.O.Outlet c.args.start.now.out.now.value c.args.start.now.problem.now c.args.out.now c.args.lead.now.told)
     not c.requires.left c.requires.failed in
-    stopped_kept g.O.Outlet c.args.start.now.value
-    c.args.problem.now c.args.out.now c.args.lead.now.told c.requires.leads s
+    stopped_kept g.O.Outlet c.args.start.now.out.now.value
+    c.args.start.now.problem.now c.args.out.now c.args.lead.now.told c.requires.leads s
 
 pub returns-in-None-clause-refused : goal.returns-in-None-clause-refused
 returns-in-None-clause-refused g c =
     let not : c.args.lead.now.done ≡ Ok true → ⊥ = search rules in
-    let s = left_or_failed c.args.lead.now.done (StoppedOf g.O.Outlet c.args.start.now.value c.args.problem.now c.args.out.now c.args.lead.now.told)
+    let s = left_or_failed c.args.lead.now.done
+    (StoppedOf g.O.Outlet c.args.start.now.out.now.value c.args.start.now.problem.now c.args.out.now c.args.lead.now.told)
     not c.requires.left c.requires.failed in
-    stopped_prefix g.O.Outlet c.args.start.now.value
-    c.args.problem.now c.args.out.now c.args.lead.now.told c.requires.leads s
+    stopped_prefix g.O.Outlet c.args.start.now.out.now.value
+    c.args.start.now.problem.now c.args.out.now c.args.lead.now.told c.requires.leads s
 
 pub returns-in-None-clause-write : goal.returns-in-None-clause-write
 returns-in-None-clause-write g c = λ e. absurd (cc)
@@ -43,10 +47,11 @@ returns-in-None-clause-write g c = λ e. absurd (cc)
 pub returns-in-None-clause-kept : goal.returns-in-None-clause-kept
 returns-in-None-clause-kept g c =
     let not : c.args.lead.now.done ≡ Ok true → ⊥ = search rules in
-    let s = left_or_failed c.args.lead.now.done (StoppedOf g.O.Outlet c.args.start.now.value c.args.problem.now c.args.out.now c.args.lead.now.told)
+    let s = left_or_failed c.args.lead.now.done
+    (StoppedOf g.O.Outlet c.args.start.now.out.now.value c.args.start.now.problem.now c.args.out.now c.args.lead.now.told)
     not c.requires.left c.requires.failed in
-    stopped_kept g.O.Outlet c.args.start.now.value
-    c.args.problem.now c.args.out.now c.args.lead.now.told c.requires.leads s
+    stopped_kept g.O.Outlet c.args.start.now.out.now.value
+    c.args.start.now.problem.now c.args.out.now c.args.lead.now.told c.requires.leads s
 
 pub returns-in-Some-clause-given : goal.returns-in-Some-clause-given
 returns-in-Some-clause-given g c = _

@@ -62,7 +62,7 @@ look-requires-clause-stands g c κs within = let i = c.stretches.invariant in le
 
 pub returns-then-is_none-clause-holds : goal.returns-then-is_none-clause-holds
 returns-then-is_none-clause-holds g c = let i = c.stretches.invariant in
-    (let h = i.0 in record { leads = c.look.ensures.leads ∙ h.leads; seat = h.seat; told = h.told; kept = h.kept })
+    (let h = i.0 in record { leads = c.look.ensures.leads ∙ h.leads; seat = h.seat; told = h.told; kept = h.kept; out = h.out })
 
 pub returns-then-is_none-clause-problem : goal.returns-then-is_none-clause-problem
 returns-then-is_none-clause-problem g c =
@@ -84,7 +84,7 @@ stretches-preserved g c =
     let some : IsSome c.look.result = search rules in
     let last = c.in_ok-stretch.ensures in
     let less = last.less c.if-branch.false in (
-      (let h = i.0 in record { leads = c.look.ensures.leads ∙ h.leads; seat = h.seat; told = h.told; kept = h.kept }),
+      (let h = i.0 in record { leads = c.look.ensures.leads ∙ h.leads; seat = h.seat; told = h.told; kept = h.kept; out = h.out }),
       goes_on g.O.Outlet c.args.job.now.start.now.value c.args.job.now.problem.now
           c.args.worker.now.seat.now c.stretches.worker.seat.now c.look.new.seat _ _ i.1 (c.look.ensures.on some),
       stretch_on c.in_ok-stretch.field-0 (map g.O.Found.Notice.stands_for c.args.events.now.items)

@@ -22,7 +22,7 @@ loop-k-preserved g c =
     let one = (rw c.in-Some.is at c.in_ok-more.ensures.some) at.0 (ap (λ (b : FrozenSight). slice_get (alternatives_in b) c.loop-k.k) same ∙ at.1) in (
       holds_on _ _ _ i.0 c.run_one.ensures.holds,
       c.in_ok-more.ensures.kept,
-      runs_more (Standing g.O.Outlet c.args.job.now c.loop-k.worker c.loop-k.out) (Standing g.O.Outlet c.args.job.now c.run_one.new.worker c.run_one.new.out)
+      runs_more (Standing g.O.Outlet c.args.job.now c.loop-k.worker) (Standing g.O.Outlet c.args.job.now c.run_one.new.worker)
           c.args.worker.now.seat.now c.loop-k.worker.seat.now c.run_one.new.worker.seat.now (map g.O.Found.Notice.stands_for c.args.events.now.items)
           c.args.rest.now.inferences
           (alternatives_in (arc_value c.args.rest.now.batch)) c.loop-k.k

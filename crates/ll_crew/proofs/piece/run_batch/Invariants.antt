@@ -10,7 +10,7 @@ abbrev pub invariant-loop-k : goal.invariant-loop-k
 invariant-loop-k g l =
     Holds l.initial.worker l.worker
     × IsKeptOf l.job.problem.now l.worker.kept.now
-    × RunsFirst (Standing g.O.Outlet l.job l.worker l.out)
+    × RunsFirst (Standing g.O.Outlet l.job l.worker)
     l.initial.worker.seat.now l.worker.seat.now
     (map g.O.Found.Notice.stands_for l.initial.events.items) l.initial.inferences (alternatives_in (arc_value l.rest.batch)) l.k
     (map g.O.Found.Notice.stands_for l.events.items) l.inferences

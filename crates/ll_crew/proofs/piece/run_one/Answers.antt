@@ -1,14 +1,12 @@
-use Rattle.std.specs.Prelude.{map, slice_get, IfSome, IfNone}
+use Rattle.std.specs.Prelude.{map, IfSome, IfNone}
 use Rattle.std.proofs.Common.{◌≡◌, ℕ, ◌∙◌, subst, sym, refl, true, false, Option, Some, None}
 use Rattle.std.proofs.lemmas.Result.{IfOk-from_err}
-use Rattle.std.specs.Arc.{arc_value}
 use Rattle.ll_list_laws.proofs.CallerLemmas.{OnOk-weaker, OnErr-always}
 use Rattle.ll_laws.specs.declared.Event.{Event}
 use Rattle.ll_laws.specs.Pool.{Owed}
-use Rattle.ll_freeze.specs.Frozen.{alternatives_in}
 use Rattle.ll_crew.specs.Leading.{WasRefused}
 use Rattle.ll_crew.specs.Turns.{LeavesPool}
-use Rattle.ll_crew.specs.Pieces.{IsKeptOf}
+use Rattle.ll_crew.specs.Pieces.{IsKeptOf, IsOwed}
 use Rattle.ll_crew.specs.Runs.{RunsOne}
 use Rattle.ll_crew.proofs.Claiming.{stays_here}
 use Rattle.ll_crew.specs.Workers.{Standing, Stopping}
@@ -16,7 +14,7 @@ use Rattle.ll_crew.proofs.Finishing.{one_run, chosen_holds, chosen_on, chosen_fa
 use Rattle.ll_crew.proofs.piece.run_one.Goals as goal
 
 pub returns-in_err-engine-clause-holds : goal.returns-in_err-engine-clause-holds
-returns-in_err-engine-clause-holds g c = record { leads = refl; seat = refl; told = refl; kept = refl }
+returns-in_err-engine-clause-holds g c = record { leads = refl; seat = refl; told = refl; kept = refl; out = refl }
 
 pub returns-in_err-engine-clause-kept : goal.returns-in_err-engine-clause-kept
 returns-in_err-engine-clause-kept g c = IfOk-from_err c.from_residual.result _ c.from_residual.ensures.0
@@ -31,7 +29,7 @@ pub returns-in_err-engine-clause-failed : goal.returns-in_err-engine-clause-fail
 returns-in_err-engine-clause-failed g c = OnErr-always c.from_residual.result (stays_here _ c.args.worker.now.seat.now c.requires.stands)
 
 pub returns-clause-holds : goal.returns-clause-holds
-returns-clause-holds g c = let h = c.run_alone-done.ensures.holds in record { leads = h.leads; seat = h.seat; told = h.told; kept = h.kept }
+returns-clause-holds g c = let h = c.run_alone-done.ensures.holds in record { leads = h.leads; seat = h.seat; told = h.told; kept = h.kept; out = h.out }
 
 pub returns-clause-kept : goal.returns-clause-kept
 returns-clause-kept g c =
@@ -44,8 +42,8 @@ pub returns-clause-some : goal.returns-clause-some
 returns-clause-some g c =
     let alone = c.run_alone-done.ensures in let chosen = c.choose.ensures in
     chosen_holds
-    (λ (x : Option ℕ). IfSome x (λ n. (owes : Owed Event) → slice_get (alternatives_in (arc_value c.args.claimed.batch)) c.args.claimed.k ≡ Some owes → RunsOne
-    (Standing g.O.Outlet c.args.job.now c.run_alone-done.new.worker c.run_alone-done.new.out)
+    (λ (x : Option ℕ). IfSome x (λ n. (owes : Owed Event) → IsOwed c.args.claimed owes → RunsOne
+    (Standing g.O.Outlet c.args.job.now c.run_alone-done.new.worker)
     c.args.worker.now.seat.now c.run_alone-done.new.worker.seat.now (map g.O.Found.Notice.stands_for c.args.events.now.items) owes
     (map g.O.Found.Notice.stands_for c.run_alone-done.new.events.items) n))
     c.run_alone-done.result c.choose.result (Some c.cost-inferences.result) None chosen.yes chosen.no chosen.failed
@@ -58,7 +56,7 @@ returns-clause-none g c =
     let alone = c.run_alone-done.ensures in let chosen = c.choose.ensures in
     chosen_holds
     (λ (x : Option ℕ). IfNone x (LeavesPool
-    (Stopping g.O.Outlet c.args.job.now c.run_alone-done.new.worker c.run_alone-done.new.out) (WasRefused c.run_alone-done.new.worker.told.now)
+    (Stopping g.O.Outlet c.args.job.now c.run_alone-done.new.worker) (WasRefused c.run_alone-done.new.worker.told.now)
     c.args.worker.now.seat.now
     c.run_alone-done.new.worker.seat.now))
     c.run_alone-done.result c.choose.result (Some c.cost-inferences.result) None chosen.yes chosen.no chosen.failed

@@ -19,8 +19,8 @@ use Rattle.ll_crew.proofs.piece.run_to_end.Goals as goal
 use Rattle.ll_crew.proofs.piece.run_to_end.Goals.{In-Back}
 
 came_back : (g : _) (c : In-Back g)
-    → RunsTo (Standing g.O.Outlet c.args.job.now c.run.new.worker c.run.new.out)
-    (Stopping g.O.Outlet c.args.job.now c.run.new.worker c.run.new.out)
+    → RunsTo (Standing g.O.Outlet c.args.job.now c.run.new.worker)
+    (Stopping g.O.Outlet c.args.job.now c.run.new.worker)
     (WasRefused c.run.new.worker.told.now) c.args.job.now.problem.now (Back c.in-Back.batch) c.args.worker.now.seat.now c.run.new.worker.seat.now
     (map g.O.Found.Notice.stands_for c.run.new.events.items) c.run.new.engine
 came_back g c = ran_back _ _ _ _ c.in_ok-run.field-0 c.in-Back.batch _ _ _ _ c.in-Back.is c.in_ok-run.ensures.ran
@@ -29,8 +29,8 @@ pub returns-in-Back-clause-ends : goal.returns-in-Back-clause-ends
 returns-in-Back-clause-ends g c =
     let first = came_back g (goal.at.returns-in-Back-clause-ends g c).In-Back in
     let e = c.run_alone-done.ensures in let o = c.choose.ensures in
-    chosen_holds (λ (x : Ending). EndsTo (Standing g.O.Outlet c.args.job.now c.run_alone-done.new.worker c.run_alone-done.new.out)
-    (Stopping g.O.Outlet c.args.job.now c.run_alone-done.new.worker c.run_alone-done.new.out)
+    chosen_holds (λ (x : Ending). EndsTo (Standing g.O.Outlet c.args.job.now c.run_alone-done.new.worker)
+    (Stopping g.O.Outlet c.args.job.now c.run_alone-done.new.worker)
     (WasRefused c.run_alone-done.new.worker.told.now) c.args.job.now.problem.now x c.args.worker.now.seat.now c.run_alone-done.new.worker.seat.now
     (map g.O.Found.Notice.stands_for c.run_alone-done.new.events.items))
     c.run_alone-done.result c.choose.result (ending.Partly c.cost-in-Back.result c.in-Back.batch) ending.Left o.yes o.no o.failed
@@ -38,8 +38,8 @@ returns-in-Back-clause-ends g c =
     let alone = done_of _ c.run_alone-done.result true is e.done refl in let go = alone.goes in (
       stays_goes g.O.Outlet c.args.job.now.start.now.value c.args.job.now.problem.now
           c.args.worker.now.seat.now c.run.new.worker.seat.now c.run_alone-done.new.worker.seat.now
-          (Standing g.O.Outlet c.args.job.now c.run.new.worker c.run.new.out)
-          (Standing g.O.Outlet c.args.job.now c.run_alone-done.new.worker c.run_alone-done.new.out) first.0 go,
+          (Standing g.O.Outlet c.args.job.now c.run.new.worker)
+          (Standing g.O.Outlet c.args.job.now c.run_alone-done.new.worker) first.0 go,
       all_lacks c.run.new.worker.seat.now.mine.piece c.run_alone-done.new.worker.seat.now.mine.piece (map g.O.Found.Notice.stands_for c.run.new.events.items)
           (map g.O.Found.Notice.stands_for c.run_alone-done.new.events.items) c.run.new.engine
           (alternatives_in (arc_value c.in-Back.batch)) c.cost-in-Back.result go.piece first.1 alone.whole

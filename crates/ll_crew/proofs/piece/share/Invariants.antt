@@ -1,5 +1,5 @@
-use Rattle.std.specs.Prelude.{map}
-use Rattle.std.proofs.Common.{◌≡◌, ◌≤◌, []}
+use Rattle.std.proofs.Common.{◌≡◌, ◌≤◌, List, []}
+use Rattle.ll_laws.specs.declared.Event.{Event}
 use Rattle.ll_crew.specs.Seats.{Calm}
 use Rattle.ll_crew.specs.Pieces.{OwesAll}
 use Rattle.ll_crew.proofs.piece.share.Given as goal
@@ -9,7 +9,7 @@ invariant-points g l =
     Calm l.initial.seat l.seat
     × (l.engine.problem ≡ l.initial.engine.problem)
     × (l.engine.work ≤ l.initial.engine.work)
-    × OwesAll l.seat.mine.piece (map g.O.Found.Notice.stands_for l.events.items) l.engine []
+    × ((found : List Event) → OwesAll l.initial.seat.mine.piece found l.initial.engine [] → OwesAll l.seat.mine.piece found l.engine [])
 
 abbrev pub decreases-points : goal.decreases-points
 decreases-points g l = l.engine.points

@@ -1,11 +1,10 @@
 use Rattle.std.proofs.lemmas.Result.{IfOk-from_err}
-use Rattle.std.specs.Prelude.{map}
 use Rattle.std.proofs.Common.{sym, subst, arith}
 use Rattle.ll_engine.specs.Splits.{SplitsTo}
 use Rattle.ll_crew.specs.Seats.{IsSeat}
 use Rattle.ll_crew.proofs.Calms.{calm_itself}
 use Rattle.ll_crew.proofs.Arms.{taken_of, back_of}
-use Rattle.ll_crew.proofs.SharingLemmas.{split_some, ends_for, shared_after, back_after}
+use Rattle.ll_crew.proofs.SharingLemmas.{split_some, ends_for, shared_after, back_after, nothing_after}
 use Rattle.ll_crew.proofs.piece.share_oldest.Goals as goal
 use Rattle.ll_crew.proofs.piece.share_oldest.Goals.{In-Some}
 
@@ -23,25 +22,30 @@ publish-requires-clause-some g c κs within = let s = splits g (goal.at.publish-
 
 pub publish-requires-clause-ends : goal.publish-requires-clause-ends
 publish-requires-clause-ends g c κs within =
-    ends_for (map g.O.Found.Notice.stands_for c.args.events.now.items) c.args.engine.now c.split_oldest.new.self c.in-Some.batch
-    (splits g (goal.at.publish-requires-clause-ends g c).In-Some) c.args.seat.now.mine.piece c.requires.owes
+    ends_for c.requires.owes.0 c.args.engine.now c.split_oldest.new.self c.in-Some.batch
+    (splits g (goal.at.publish-requires-clause-ends g c).In-Some) c.args.seat.now.mine.piece c.requires.owes.1
 
 pub returns-in-Taken-clause-owes : goal.returns-in-Taken-clause-owes
-returns-in-Taken-clause-owes g c =
+returns-in-Taken-clause-owes g c = λ found owes.
     let split = splits g (goal.at.returns-in-Taken-clause-owes g c).In-Some in
     let fewer = split.points in (
-      shared_after (map g.O.Found.Notice.stands_for c.args.events.now.items) c.args.engine.now c.split_oldest.new.self c.in-Some.batch split
-          c.args.seat.now.mine.piece c.publish.new.seat.mine.piece c.requires.owes
+      shared_after found c.args.engine.now c.split_oldest.new.self c.in-Some.batch split
+          c.args.seat.now.mine.piece c.publish.new.seat.mine.piece owes
           (taken_of _ c.in_ok-publish.field-0 c.in-Taken.field-0 c.in-Taken.is c.in_ok-publish.ensures.rest),
       omega arith,
     )
 
 pub returns-in-Back-clause-owes : goal.returns-in-Back-clause-owes
-returns-in-Back-clause-owes g c =
+returns-in-Back-clause-owes g c = λ found owes.
     let back = back_of _ c.in_ok-publish.field-0 c.in-Back.batch c.in-Back.is c.in_ok-publish.ensures.back in
-    back_after (map g.O.Found.Notice.stands_for c.args.events.now.items) c.args.engine.now c.split_oldest.new.self c.in-Some.batch
+    back_after found c.args.engine.now c.split_oldest.new.self c.in-Some.batch
     (splits g (goal.at.returns-in-Back-clause-owes g c).In-Some) c.args.seat.now.mine.piece c.publish.new.seat.mine.piece c.in-Back.batch
-    c.requires.owes back.1 back.0
+    owes back.1 back.0
+
+pub returns-in_default-clause-owes : goal.returns-in_default-clause-owes
+returns-in_default-clause-owes g c = λ found owes.
+    nothing_after c.args.seat.now.mine.piece found c.args.engine.now c.split_oldest.new.self c.in_ok-batch.field-0 c.in_default.is
+    c.in_ok-batch.ensures.split owes
 
 pub returns-in_err-batch-clause-calm : goal.returns-in_err-batch-clause-calm
 returns-in_err-batch-clause-calm g c = calm_itself c.args.seat.now

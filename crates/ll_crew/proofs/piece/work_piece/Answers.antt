@@ -1,10 +1,11 @@
-use Rattle.std.proofs.Common.{◌∙◌, sym}
+use Rattle.std.proofs.Common.{sym, subst}
 use Rattle.std.proofs.lemmas.Bool.{true≢false}
 use Rattle.std.proofs.lemmas.Result.{IfOk-from_err}
 use Rattle.ll_list_laws.proofs.CallerLemmas.{OnErr-always}
 use Rattle.ll_crew.specs.Leading.{WasRefused}
+use Rattle.ll_crew.specs.Pieces.{IsKeptOf}
 use Rattle.ll_crew.proofs.Claiming.{stays_here, stays_on, stays_out}
-use Rattle.ll_crew.proofs.Holding.{holds_itself}
+use Rattle.ll_crew.proofs.Holding.{holds_itself, holds_on}
 use Rattle.ll_crew.proofs.Arms.{some_of, none_of}
 use Rattle.ll_crew.proofs.piece.work_piece.Goals as goal
 
@@ -24,22 +25,21 @@ pub returns-in_err-batch-clause-failed : goal.returns-in_err-batch-clause-failed
 returns-in_err-batch-clause-failed g c = OnErr-always c.from_residual.result (stays_here _ c.args.worker.now.seat.now c.requires.stands)
 
 pub returns-in-Ok-Some-clause-holds : goal.returns-in-Ok-Some-clause-holds
-returns-in-Ok-Some-clause-holds g c = let h = c.run_piece.ensures.holds in record
-    { leads = c.report.ensures.leads ∙ h.leads; seat = h.seat; told = h.told; kept = h.kept }
+returns-in-Ok-Some-clause-holds g c = holds_on _ _ _ c.run_piece.ensures.holds c.report.ensures.holds
 
 pub returns-in-Ok-Some-clause-kept : goal.returns-in-Ok-Some-clause-kept
-returns-in-Ok-Some-clause-kept g c = c.in-Ok-Some.ensures.kept
+returns-in-Ok-Some-clause-kept g c = subst (IsKeptOf c.args.job.now.problem.now) (sym c.report.ensures.kept) c.in-Ok-Some.ensures.kept
 
 pub returns-in-Ok-Some-clause-done : goal.returns-in-Ok-Some-clause-done
 returns-in-Ok-Some-clause-done g c = λ e.
     let reports = some_of _ c.in-Ok-Some.field-0 c.in-Ok-Some.inferences c.in-Ok-Some.field-0-is c.in-Ok-Some.ensures.some in
     let done = c.report.ensures.done e in
-    (stays_on _ _ c.args.worker.now.seat.now c.run_piece.new.worker.seat.now c.report.new.seat reports.stays done.0, done.1)
+    (stays_on _ _ c.args.worker.now.seat.now c.run_piece.new.worker.seat.now c.report.new.worker.seat.now reports.stays done.0, done.1)
 
 pub returns-in-Ok-Some-clause-left : goal.returns-in-Ok-Some-clause-left
 returns-in-Ok-Some-clause-left g c = λ e.
     let reports = some_of _ c.in-Ok-Some.field-0 c.in-Ok-Some.inferences c.in-Ok-Some.field-0-is c.in-Ok-Some.ensures.some in
-    stays_out _ _ (WasRefused c.report.new.told) c.args.worker.now.seat.now c.run_piece.new.worker.seat.now c.report.new.seat
+    stays_out _ _ (WasRefused c.report.new.worker.told.now) c.args.worker.now.seat.now c.run_piece.new.worker.seat.now c.report.new.worker.seat.now
     reports.stays (c.report.ensures.left e)
 
 pub returns-in-Ok-None-clause-holds : goal.returns-in-Ok-None-clause-holds

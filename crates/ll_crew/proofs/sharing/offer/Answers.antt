@@ -2,9 +2,10 @@ use Rattle.std.proofs.Common.{◌≡◌, ◌∙◌, sym, subst, true, false, IfO
 use Rattle.std.proofs.lemmas.Result.{IfOk-from_err}
 use Rattle.std.specs.Arc.{arc_value}
 use Rattle.ll_pool.specs.declared.data.OpenPiece.{OpenPiece}
-use Rattle.ll_pool.specs.Turns.{EndsWith, IsRest}
+use Rattle.ll_pool.specs.Turns.{EndsWith}
 use Rattle.ll_freeze.specs.Frozen.{FrozenSight, alternatives_in}
 use Rattle.ll_crew.specs.Seats.{HasNoPlace}
+use Rattle.ll_crew.specs.Offers.{LeavesRest}
 use Rattle.ll_crew.proofs.Calms.{calm_itself, calm_publish}
 use Rattle.ll_crew.proofs.sharing.offer.Goals as goal
 use Rattle.ll_crew.proofs.sharing.offer.Goals.{In_ok-offer}
@@ -31,8 +32,8 @@ returns-in_err-offer-clause-calm g c = calm_itself c.args.seat.now
 
 pub returns-clause-rest : goal.returns-clause-rest
 returns-clause-rest g c =
-    subst (λ (b : FrozenSight). IfOk c.put.result (λ done. done ≡ true → IsSomeAnd c.args.seat.now.mine.piece (λ (whole : OpenPiece).
-    IsSomeAnd c.put.new.seat.mine.piece (λ (rest : OpenPiece). IsRest (alternatives_in b) whole rest))))
+    subst (λ (b : FrozenSight). IfOk c.put.result (λ done. done ≡ true
+    → LeavesRest (alternatives_in b) c.args.seat.now.mine.piece c.put.new.seat.mine.piece))
     (offers g (goal.at.returns-clause-rest g c).In_ok-offer) c.put.ensures.rest
 
 pub returns-clause-full : goal.returns-clause-full

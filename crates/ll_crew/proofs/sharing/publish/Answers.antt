@@ -2,11 +2,11 @@ use Rattle.std.proofs.lemmas.Result.{IfOk-from_err}
 use Rattle.ll_crew.proofs.Calms.{calm_itself}
 use Rattle.std.proofs.Common.{refl, subst, inl, inr, IsSomeAnd, sym, length, ◌<◌, ◌∙◌}
 use Rattle.ll_pool.specs.declared.data.OpenPiece.{OpenPiece}
-use Rattle.ll_pool.specs.Turns.{IsRest}
 use Rattle.ll_freeze.specs.Frozen.{FrozenSight, alternatives_in}
 use Rattle.ll_crew.specs.Seats.{HasNoPlace}
 use Rattle.ll_pool.specs.Turns.{EndsWith}
 use Rattle.ll_crew.specs.Seats.{IsSeat}
+use Rattle.ll_crew.specs.Offers.{LeavesRest}
 use Rattle.ll_crew.proofs.sharing.publish.Goals as goal
 
 pub returns-then-gives_back-clause-calm : goal.returns-then-gives_back-clause-calm
@@ -36,8 +36,7 @@ returns-then-gives_back-clause-back_only g c = inl (c.gives_back.ensures c.if-gi
 pub returns-in-Ok-true : goal.returns-in-Ok-true
 returns-in-Ok-true g c = record {
   calm = c.offer.ensures.calm;
-  rest = subst (λ (b : FrozenSight). IsSomeAnd c.args.seat.now.mine.piece (λ (whole : OpenPiece).
-      IsSomeAnd c.offer.new.seat.mine.piece (λ (rest : OpenPiece). IsRest (alternatives_in b) whole rest)))
+  rest = subst (λ (b : FrozenSight). LeavesRest (alternatives_in b) c.args.seat.now.mine.piece c.offer.new.seat.mine.piece)
       c.in_ok-choice.ensures (c.in-Ok-true.ensures.rest c.in-Ok-true.field-0-test);
   woken = c.ring.ensures ∙ (c.len-alternatives.ensures);
   back = tt;

@@ -15,19 +15,19 @@ pub returns-in_err-claim_one-clause-failed : goal.returns-in_err-claim_one-claus
 returns-in_err-claim_one-clause-failed g c =
     let i = c.claims.invariant in
     OnErr-always c.from_residual.result
-    (stays_on (Standing g.O.Outlet c.args.job.now c.claims.worker c.claims.out)
-    (Standing g.O.Outlet c.args.job.now c.claim_one.new.worker c.claim_one.new.out) c.args.worker.now.seat.now c.claims.worker.seat.now
+    (stays_on (Standing g.O.Outlet c.args.job.now c.claims.worker)
+    (Standing g.O.Outlet c.args.job.now c.claim_one.new.worker) c.args.worker.now.seat.now c.claims.worker.seat.now
     c.claim_one.new.worker.seat.now i.1 c.in_err-claim_one.ensures.failed)
 
 pub claims-preserved-in-Worked-1 : goal.claims-preserved-in-Worked-1
 claims-preserved-in-Worked-1 g c =
     let i = c.claims.invariant in
-    let w = went_as (Standing g.O.Outlet c.args.job.now c.claim_one.new.worker c.claim_one.new.out)
-    (Stopping g.O.Outlet c.args.job.now c.claim_one.new.worker c.claim_one.new.out) (WasRefused c.claim_one.new.worker.told.now) c.args.job.now.problem.now
+    let w = went_as (Standing g.O.Outlet c.args.job.now c.claim_one.new.worker)
+    (Stopping g.O.Outlet c.args.job.now c.claim_one.new.worker) (WasRefused c.claim_one.new.worker.told.now) c.args.job.now.problem.now
     c.in_ok-claim_one.field-0 went.Worked c.claims.worker.seat.now c.claim_one.new.worker.seat.now c.in-Worked.is c.in_ok-claim_one.ensures.went in (
       holds_on _ _ _ i.0 c.claim_one.ensures.holds,
-      stays_on (Standing g.O.Outlet c.args.job.now c.claims.worker c.claims.out)
-          (Standing g.O.Outlet c.args.job.now c.claim_one.new.worker c.claim_one.new.out) c.args.worker.now.seat.now c.claims.worker.seat.now
+      stays_on (Standing g.O.Outlet c.args.job.now c.claims.worker)
+          (Standing g.O.Outlet c.args.job.now c.claim_one.new.worker) c.args.worker.now.seat.now c.claims.worker.seat.now
           c.claim_one.new.worker.seat.now i.1 w.0,
       w.1,
       c.in_ok-claim_one.ensures.kept,
@@ -36,12 +36,12 @@ claims-preserved-in-Worked-1 g c =
 pub claims-preserved : goal.claims-preserved
 claims-preserved g c =
     let i = c.claims.invariant in
-    let w = went_as (Standing g.O.Outlet c.args.job.now c.claim_one.new.worker c.claim_one.new.out)
-    (Stopping g.O.Outlet c.args.job.now c.claim_one.new.worker c.claim_one.new.out) (WasRefused c.claim_one.new.worker.told.now) c.args.job.now.problem.now
+    let w = went_as (Standing g.O.Outlet c.args.job.now c.claim_one.new.worker)
+    (Stopping g.O.Outlet c.args.job.now c.claim_one.new.worker) (WasRefused c.claim_one.new.worker.told.now) c.args.job.now.problem.now
     c.in_ok-claim_one.field-0 went.Idle c.claims.worker.seat.now c.claim_one.new.worker.seat.now c.in-Idle.is c.in_ok-claim_one.ensures.went in (
       holds_on _ _ _ i.0 c.claim_one.ensures.holds,
-      stays_on (Standing g.O.Outlet c.args.job.now c.claims.worker c.claims.out)
-          (Standing g.O.Outlet c.args.job.now c.claim_one.new.worker c.claim_one.new.out) c.args.worker.now.seat.now c.claims.worker.seat.now
+      stays_on (Standing g.O.Outlet c.args.job.now c.claims.worker)
+          (Standing g.O.Outlet c.args.job.now c.claim_one.new.worker) c.args.worker.now.seat.now c.claims.worker.seat.now
           c.claim_one.new.worker.seat.now i.1 w.0,
       w.1,
       c.in_ok-claim_one.ensures.kept,
@@ -50,11 +50,11 @@ claims-preserved g c =
 pub returns-in-Left-clause-left : goal.returns-in-Left-clause-left
 returns-in-Left-clause-left g c = λ f.
     let i = c.claims.invariant in
-    stays_out (Standing g.O.Outlet c.args.job.now c.claims.worker c.claims.out)
-    (Stopping g.O.Outlet c.args.job.now c.claim_one.new.worker c.claim_one.new.out) (WasRefused c.claim_one.new.worker.told.now)
+    stays_out (Standing g.O.Outlet c.args.job.now c.claims.worker)
+    (Stopping g.O.Outlet c.args.job.now c.claim_one.new.worker) (WasRefused c.claim_one.new.worker.told.now)
     c.args.worker.now.seat.now c.claims.worker.seat.now c.claim_one.new.worker.seat.now i.1
-    (went_as (Standing g.O.Outlet c.args.job.now c.claim_one.new.worker c.claim_one.new.out)
-    (Stopping g.O.Outlet c.args.job.now c.claim_one.new.worker c.claim_one.new.out) (WasRefused c.claim_one.new.worker.told.now) c.args.job.now.problem.now
+    (went_as (Standing g.O.Outlet c.args.job.now c.claim_one.new.worker)
+    (Stopping g.O.Outlet c.args.job.now c.claim_one.new.worker) (WasRefused c.claim_one.new.worker.told.now) c.args.job.now.problem.now
     c.in_ok-claim_one.field-0 went.Left c.claims.worker.seat.now c.claim_one.new.worker.seat.now c.in-Left.is c.in_ok-claim_one.ensures.went)
 
 pub claim_one-requires-clause-suits : goal.claim_one-requires-clause-suits
@@ -99,10 +99,10 @@ returns-in-Left-clause-done g c = λ e. absurd (true≢false (sym e))
 pub returns-in-Ended-clause-done : goal.returns-in-Ended-clause-done
 returns-in-Ended-clause-done g c = λ e.
     let i = c.claims.invariant in
-    ended_on _ (Standing g.O.Outlet c.args.job.now c.claim_one.new.worker c.claim_one.new.out) c.args.job.now.problem.now c.args.worker.now.seat.now
+    ended_on _ (Standing g.O.Outlet c.args.job.now c.claim_one.new.worker) c.args.job.now.problem.now c.args.worker.now.seat.now
     c.claims.worker.seat.now c.claim_one.new.worker.seat.now i.1
-    (went_as (Standing g.O.Outlet c.args.job.now c.claim_one.new.worker c.claim_one.new.out)
-    (Stopping g.O.Outlet c.args.job.now c.claim_one.new.worker c.claim_one.new.out) (WasRefused c.claim_one.new.worker.told.now) c.args.job.now.problem.now
+    (went_as (Standing g.O.Outlet c.args.job.now c.claim_one.new.worker)
+    (Stopping g.O.Outlet c.args.job.now c.claim_one.new.worker) (WasRefused c.claim_one.new.worker.told.now) c.args.job.now.problem.now
     c.in_ok-claim_one.field-0 went.Ended c.claims.worker.seat.now c.claim_one.new.worker.seat.now c.in-Ended.is c.in_ok-claim_one.ensures.went)
 
 pub returns-in-Ended-clause-failed : goal.returns-in-Ended-clause-failed

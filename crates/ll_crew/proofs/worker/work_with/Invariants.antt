@@ -7,7 +7,7 @@ use Rattle.ll_crew.proofs.worker.work_with.Given as goal
 abbrev pub invariant-claims : goal.invariant-claims
 invariant-claims g l =
     Holds l.initial.worker l.worker
-    × Stays (Standing g.O.Outlet l.job l.worker l.out)
+    × Stays (Standing g.O.Outlet l.job l.worker)
     l.initial.worker.seat.now l.worker.seat.now
     × (l.worker.seat.now.mine.piece ≡ None)
     × IsKeptOf l.job.problem.now l.worker.kept.now

@@ -198,5 +198,9 @@ pub use Rattle.ll_bank.proofs.SignLemmas.{same_sign}
 pub use Rattle.ll_bank.proofs.SignLemmas.{sign_refl}
 -- ---- closing
 
--- values show the same environment as their bank grows
-pub use Rattle.ll_bank.proofs.closes.Values.{env_extends}
+-- with no values a formula stays as it is
+pub use Rattle.ll_bank.proofs.closes.Values.{form_empty}
+-- and so does a term
+pub use Rattle.ll_bank.proofs.closes.Values.{close_empty}
+-- an environment has as many values as variables
+pub use Rattle.ll_bank.proofs.EnvironmentLemmas.{length-before}

@@ -2,25 +2,21 @@
 use Rattle.std.proofs.Common.{◌≡◌, ℕ, zero, suc, ◌+◌, ◌<◌, ◌≤◌, Bool, true, false, List, [], ◌∷◌, ◌++◌}
 use Rattle.std.proofs.Common.{length, map, take, get_or, All, refl, ap, sym, subst, ◌∙◌}
 use Rattle.std.proofs.Common.{arith}
-use Rattle.std.specs.Prelude.{◌&&◌, nat_le, Option, Some, slice_set}
-use Rattle.std.specs.List.{list_all}
-use Rattle.std.proofs.lemmas.Bool.{eq-eqb, leb-true}
+use Rattle.std.specs.Prelude.{Option, Some, slice_set}
+use Rattle.std.proofs.lemmas.Bool.{eq-eqb}
 use Rattle.std.proofs.lemmas.List.{length-set, get_or-set_other, map_push, take_all, take_more, take_more_set}
 use Rattle.std.proofs.lemmas.List.Elements.{All-cons}
-use Rattle.std.proofs.lemmas.List.Sums.{AllPass-from_list_all}
-use Rattle.ll_list_laws.proofs.CallerLemmas.{or_elim as or_cases, and_true_left, and_true_right}
 use Rattle.ll_bank.specs.declared.At.{At}
 use Rattle.ll_bank.specs.declared.Head.{Head}
-use Rattle.ll_bank.specs.Term.{Term, Var, Con, Ap, Env, sub, app, apply, close, occurs, head_of, not_bound}
+use Rattle.ll_bank.specs.Term.{Term, Var, Con, Ap, Env, sub, app, apply, close, not_bound}
 use Rattle.ll_bank.specs.Nodes.{Nodes, HasTerm, AllInTerms, ShowsTerm, Extends, term_tree, term_trees}
-use Rattle.ll_bank.proofs.CallerLemmas.{Extends-refl, Extends-trans, term_tree-extends, sub-apply, head_of-app, length-term_trees}
-use Rattle.ll_unify.specs.Bindings.{Table, cell, stands, through, HasCells, IsTable, AreSame, Obeys}
+use Rattle.ll_bank.proofs.CallerLemmas.{Extends-refl, Extends-trans, term_tree-extends, sub-apply}
+use Rattle.ll_unify.specs.Bindings.{Table, cell, through, HasCells, IsTable, AreSame, Obeys}
 use Rattle.ll_laws.specs.Unify.{and_then, diff, diff_lists, Solved}
 use Rattle.ll_unify.specs.Solving.{Solves, Settles}
-use Rattle.ll_unify.specs.Spines.{args_in}
-use Rattle.ll_unify.proofs.CallerLemmas.{place-extends, table-extends, solves-alike, args_in-app}
-use Rattle.ll_bind.specs.Built.{ShowsSame, AreBuilt, IsFlat, is_bare, is_fixed, is_flat}
-use Rattle.ll_bind.proofs.Heads.{AllCells, place_made, close_fixed, cells_apply}
+use Rattle.ll_unify.proofs.CallerLemmas.{place-extends, table-extends, solves-alike}
+use Rattle.ll_bind.specs.Built.{ShowsSame, AreBuilt, is_bare}
+use Rattle.ll_bind.proofs.Heads.{AllCells, app_cells, place_made, close_fixed, cells_apply}
 
 -- ---- one term
 
@@ -36,21 +32,6 @@ module _ (nodes : Nodes) (t : Table) where
     same = λ s o. sym (o x to e);
   }
 
-  -- ---- heads with arguments
-
-  con-cells : (h : Head) → HasCells nodes t (Con h)
-  con-cells h y (stands w o) = let f : false ≡ true = o in cc
-  con-cells h y (through w x at o c r) = let f : false ≡ true = o in cc
-
-  ap-cells : (f a : Term) → HasCells nodes t f → HasCells nodes t a → HasCells nodes t (Ap f a)
-  ap-cells f a h k y (stands w o) = or_cases (occurs y f) (occurs y a) o (λ p. h y (stands f p)) (λ p. k y (stands a p))
-  ap-cells f a h k y (through w x at o c r) =
-      or_cases (occurs x f) (occurs x a) o (λ p. h y (through f x at p c r)) (λ p. k y (through a x at p c r))
-
-  apply-cells : (f : Term) (us : List Term) → HasCells nodes t f → AllCells nodes t us → HasCells nodes t (apply f us)
-  apply-cells f [] h k = h
-  apply-cells f (u ∷ us) h k = apply-cells (Ap f u) us (ap-cells f u h k.0) k.1
-
   module _ (env : Env) where
     built-cells : (us : List Term) (ats : List At) → AreBuilt nodes t env us ats → AllCells nodes t (term_trees nodes ats)
     built-cells [] [] h = tt
@@ -58,7 +39,7 @@ module _ (nodes : Nodes) (t : Table) where
     built-cells (u ∷ us) [] h = absurd h
     built-cells (u ∷ us) (a ∷ ats) h = (h.0.place.vars, built-cells us ats h.1)
 
-    built-same : (s : ℕ → Term) → Obeys nodes t s → (us : List Term) (ats : List At) → AreBuilt nodes t env us ats
+    pub built-same : (s : ℕ → Term) → Obeys nodes t s → (us : List Term) (ats : List At) → AreBuilt nodes t env us ats
         → map (sub s) (term_trees nodes ats) ≡ map (sub s) (map (close env) us)
     built-same s o [] [] h = refl
     built-same s o [] (a ∷ ats) h = absurd h
@@ -99,8 +80,7 @@ module _ (old new : Nodes) (t : Table) (tb : IsTable old t) (e : Extends old new
   pub shows-app : (env : Env) (h : Head) (us : List Term) (ats : List At) (at : ℕ) → not_bound h ≡ true → AreBuilt old t env us ats
       → ShowsTerm new at (app h (term_trees old ats)) → ShowsSame new t at (close env (app h us))
   shows-app env h us ats at f b s = record {
-    place = place_made old new t tb e at (app h (term_trees old ats)) s
-        (apply-cells old t (Con h) (term_trees old ats) (con-cells old t h) (built-cells old t env us ats b));
+    place = place_made old new t tb e at (app h (term_trees old ats)) s (app_cells old t h (term_trees old ats) (built-cells old t env us ats b));
     same = λ g o. ap (sub g) s.tree
         ∙ (sub-apply g (Con h) (term_trees old ats)
         ∙ (ap (apply (Con h)) (built-same old t env g (obeys-back g o) us ats b)
@@ -126,27 +106,6 @@ bare-head count h (t ∷ ts) b = let f : false ≡ true = sym (bare-apply count 
 -- a term that is bare and begins with a head is the head
 pub bare-shown : (count : ℕ) (u : Term) (h : Head) (ts : List Term) → u ≡ app h ts → is_bare count u ≡ true → u ≡ Con h
 bare-shown count u h ts e b = e ∙ bare-head count h ts (ap (is_bare count) (sym e) ∙ b)
-
--- ---- patterns with few arguments, each of which is bare
-
--- the head and the arguments of a pattern say whether it is flat
-pub flat-shown : (nodes : Nodes) (count : ℕ) (u : Term) (h : Head) (ats : List At) → u ≡ app h (term_trees nodes ats)
-    → is_flat count u ≡ (not_bound h && nat_le (length ats) 8 && list_all (is_bare count) (term_trees nodes ats))
-flat-shown nodes count u h ats e =
-    let us = term_trees nodes ats in let head = ap head_of e ∙ head_of-app h us in let args = ap args_in e ∙ args_in-app h us in
-    let many = ap (λ ts. length ts) args ∙ length-term_trees nodes ats in
-    λ i. is_fixed (head i) && nat_le (many i) 8 && list_all (is_bare count) (args i)
-
--- and where it is, it has what is asked of one
-pub flat-parts : (count : ℕ) (u : Term) → is_flat count u ≡ true → IsFlat count u
-flat-parts count u e =
-    let fixed = is_fixed (head_of u) in let few = nat_le (length (args_in u)) 8 in let bare = list_all (is_bare count) (args_in u) in
-    let front = and_true_left (fixed && few) bare e in
-    record {
-      fixed = λ h q. ap is_fixed (sym q) ∙ and_true_left fixed few front;
-      few = leb-true (length (args_in u)) 8 (and_true_right fixed few front);
-      bare = AllPass-from_list_all (is_bare count) (args_in u) (and_true_right (fixed && few) bare e);
-    }
 
 -- ---- places that are put in the place of patterns, one by one
 
@@ -229,13 +188,6 @@ settles-shown old new t after place right u good tb e h s k =
     (settles-right new t after (term_tree new place) (term_tree new right) u good (table-extends old new t tb e) s.same k)
 
 -- ---- lists of places
-
--- the front of a list is as many
-pub take-front : {A : Type 0} (xs ys : List A) (n : ℕ) → length xs ≡ n → take n (xs ++ ys) ≡ xs
-take-front [] ys zero e = refl
-take-front [] ys (suc n) e = absurd (omega (arith, e))
-take-front (x ∷ xs) ys zero e = absurd (omega (arith, e))
-take-front (x ∷ xs) ys (suc n) e = ap (λ zs. x ∷ zs) (take-front xs ys n (omega (arith, e)))
 
 -- as many places as patterns
 pub built-length : (nodes : Nodes) (t : Table) (env : Env) (us : List Term) (ats : List At) → AreBuilt nodes t env us ats → length ats ≡ length us

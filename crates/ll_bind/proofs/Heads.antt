@@ -8,12 +8,13 @@ use Rattle.std.proofs.Math.Bool.{and-false}
 use Rattle.std.proofs.lemmas.List.{reverse-append, length-map, map-append, drop_all}
 use Rattle.std.proofs.lemmas.List.Elements.{All-head, All-tail}
 use Rattle.std.proofs.Math.Seq.{drop-cons}
+use Rattle.ll_list_laws.proofs.CallerLemmas.{or_elim as or_cases}
 use Rattle.ll_bank.specs.declared.At.{At}
 use Rattle.ll_bank.specs.declared.Head.{Head}
 use Rattle.ll_bank.specs.declared.Head.TheVariants.{Name, Eigen, Bound}
-use Rattle.ll_bank.specs.Term.{Term, Var, Int, Con, Ap, Env, sub, app, apply, close, place, applies_heads, not_bound, occurs, same_predicate}
+use Rattle.ll_bank.specs.Term.{Term, Var, Int, Con, Ap, Env, sub, app, apply, close, applies_heads, not_bound, occurs, same_predicate}
 use Rattle.ll_bank.specs.Term.{head_eq}
-use Rattle.ll_bank.specs.Nodes.{Nodes, HasTerm, ShowsTerm, Extends, term_tree, term_trees}
+use Rattle.ll_bank.specs.Nodes.{Nodes, HasTerm, AllInTerms, ShowsTerm, Extends, term_tree, term_trees}
 use Rattle.ll_bank.proofs.CallerLemmas.{Extends-refl, Extends-trans, HasTerm-extends, term_tree-extends, close-apply, heads_args}
 use Rattle.ll_bank.proofs.CallerLemmas.{length-term_trees}
 use Rattle.ll_laws.specs.Unify.{and_then, diff, diff_lists, Solved, solve}
@@ -33,7 +34,8 @@ use Rattle.ll_store.specs.Stored.{Stored, stored, KeepsMarks}
 use Rattle.ll_store.specs.Trails.{Grows}
 use Rattle.ll_store.proofs.CallerLemmas.{marks-grow, marks-extend}
 use Rattle.ll_bind.specs.declared.head.Equation.{Equation}
-use Rattle.ll_bind.specs.Heads.{terms_of, closed_of, equate, pending, IsEquation, AreEquations, AreOpened, AreApart}
+use Rattle.ll_bind.specs.declared.head.Paired.{Paired}
+use Rattle.ll_bind.specs.Heads.{terms_of, closed_of, equate, pending, IsEquation, AreEquations, AreOpened, AreApart, IsPaired}
 
 -- ---- the stack
 
@@ -116,21 +118,39 @@ module _ (nodes : Nodes) (t : Table) where
   cells_apply f (u ∷ us) h =
       let r = cells_apply (Ap f u) us h in (λ y q. r.0 y (reaches_head y f u q), (λ y q. r.0 y (reaches_last y f u q), r.1))
 
-  args_equations : (env : Env) (ats cts : List At) (m n : ℕ) (es : List Equation) → HasTerm nodes m → HasTerm nodes n → All (λ (a : At). a.0 < m) ats
-      → All (λ (b : At). b.0 < n) cts
+  -- and the other way round
+
+  con_cells : (h : Head) → HasCells nodes t (Con h)
+  con_cells h y (stands w o) = let f : false ≡ true = o in cc
+  con_cells h y (through w x at o c r) = let f : false ≡ true = o in cc
+
+  ap_cells : (f a : Term) → HasCells nodes t f → HasCells nodes t a → HasCells nodes t (Ap f a)
+  ap_cells f a h k y (stands w o) = or_cases (occurs y f) (occurs y a) o (λ p. h y (stands f p)) (λ p. k y (stands a p))
+  ap_cells f a h k y (through w x at o c r) =
+      or_cases (occurs x f) (occurs x a) o (λ p. h y (through f x at p c r)) (λ p. k y (through a x at p c r))
+
+  apply_cells : (f : Term) (us : List Term) → HasCells nodes t f → AllCells us → HasCells nodes t (apply f us)
+  apply_cells f [] h k = h
+  apply_cells f (u ∷ us) h k = apply_cells (Ap f u) us (ap_cells f u h k.0) k.1
+
+  -- a head with arguments whose variables have cells
+  pub app_cells : (h : Head) (us : List Term) → AllCells us → HasCells nodes t (app h us)
+  app_cells h us k = apply_cells (Con h) us (con_cells h) k
+
+  args_equations : (env : Env) (ats cts : List At) (es : List Equation) → AllInTerms nodes ats → AllInTerms nodes cts
       → AllCells (term_trees nodes ats) → All (λ u. applies_heads u ≡ true) (map (close env) (term_trees nodes cts))
       → AllCells (map (close env) (term_trees nodes cts)) → AreEquations nodes t env es
       → AreEquations nodes t env (equate ats cts ++ es)
-  args_equations env [] cts m n es hm hn lm ln cm hb cb k = k
-  args_equations env (a ∷ ats) [] m n es hm hn lm ln cm hb cb k = k
-  args_equations env (a ∷ ats) (b ∷ cts) m n es hm hn lm ln cm hb cb k = (
+  args_equations env [] cts es la lc cm hb cb k = k
+  args_equations env (a ∷ ats) [] es la lc cm hb cb k = k
+  args_equations env (a ∷ ats) (b ∷ cts) es la lc cm hb cb k = (
     record {
-      place = record { inside = let p = All-head (λ (x : At). x.0 < m) a ats lm in omega arith; vars = cm.0 };
-      inside = let p = All-head (λ (x : At). x.0 < n) b cts ln in omega arith;
+      place = record { inside = All-head (λ (x : At). HasTerm nodes x.0) a ats la; vars = cm.0 };
+      inside = All-head (λ (x : At). HasTerm nodes x.0) b cts lc;
       heads = All-head (λ u. applies_heads u ≡ true) (close env (term_tree nodes b.0)) (map (close env) (term_trees nodes cts)) hb;
       vars = cb.0;
     },
-    args_equations env ats cts m n es hm hn (All-tail (λ (x : At). x.0 < m) a ats lm) (All-tail (λ (x : At). x.0 < n) b cts ln) cm.1
+    args_equations env ats cts es (All-tail (λ (x : At). HasTerm nodes x.0) a ats la) (All-tail (λ (x : At). HasTerm nodes x.0) b cts lc) cm.1
         (All-tail (λ u. applies_heads u ≡ true) (close env (term_tree nodes b.0)) (map (close env) (term_trees nodes cts)) hb) cb.1 k,
   )
 
@@ -153,36 +173,31 @@ fixed (Name n) b e f = refl
 fixed (Eigen n) b e f = refl
 fixed (Bound n) b e f = cc
 
--- two heads, or two numbers of arguments
-pub apart_heads : (nodes : Nodes) (place pattern : ℕ) (h k : Head) (ats cts : List At) → not_bound k ≡ true
-    → term_tree nodes place ≡ app h (term_trees nodes ats) → term_tree nodes pattern ≡ app k (term_trees nodes cts)
-    → head_eq h k ≡ false → AreApart nodes place pattern
-apart_heads nodes place pattern h k ats cts f p q e env s =
-    let r = ap (close env) q ∙ close_fixed env k (term_trees nodes cts) f in
-    diff-clash s (term_tree nodes place) (close env (term_tree nodes pattern)) (spine-place (term_tree nodes place) h (term_trees nodes ats) p)
-    (spine-place (close env (term_tree nodes pattern)) k (map (close env) (term_trees nodes cts)) r)
-    (shape-app (term_tree nodes place) (close env (term_tree nodes pattern)) h k (term_trees nodes ats) (map (close env) (term_trees nodes cts)) p r
-    ∙ ap (λ b. b && nat_eq (length (term_trees nodes ats)) (length (map (close env) (term_trees nodes cts)))) e)
-
 length_closed : (nodes : Nodes) (env : Env) (cts : List At) → length (map (close env) (term_trees nodes cts)) ≡ length cts
 length_closed nodes env cts = length-map (term_trees nodes cts) (close env) ∙ length-term_trees nodes cts
 
-pub apart_lengths : (nodes : Nodes) (place pattern : ℕ) (h k : Head) (ats cts : List At) → not_bound k ≡ true
-    → term_tree nodes place ≡ app h (term_trees nodes ats) → term_tree nodes pattern ≡ app k (term_trees nodes cts)
-    → (length ats ≡ length cts → ⊥) → AreApart nodes place pattern
-apart_lengths nodes place pattern h k ats cts f p q n env s =
-    let r = ap (close env) q ∙ close_fixed env k (term_trees nodes cts) f in
-    diff-clash s (term_tree nodes place) (close env (term_tree nodes pattern)) (spine-place (term_tree nodes place) h (term_trees nodes ats) p)
-    (spine-place (close env (term_tree nodes pattern)) k (map (close env) (term_trees nodes cts)) r)
-    (shape-app (term_tree nodes place) (close env (term_tree nodes pattern)) h k (term_trees nodes ats) (map (close env) (term_trees nodes cts)) p r
-    ∙ (ap (λ b. head_eq h k && b) (ne_eqb (length (term_trees nodes ats)) (length (map (close env) (term_trees nodes cts)))
-    (λ e. n (sym (length-term_trees nodes ats) ∙ (e ∙ length_closed nodes env cts)))) ∙ and-false (head_eq h k)))
+-- two heads, or two numbers of arguments
+module _ (nodes : Nodes) (h k : Head) (ats cts : List At) (f : not_bound k ≡ true) where
+  pub apart_heads : head_eq h k ≡ false → AreApart (app h (term_trees nodes ats)) (app k (term_trees nodes cts))
+  apart_heads e env s =
+      let u = app h (term_trees nodes ats) in let v = close env (app k (term_trees nodes cts)) in let r = close_fixed env k (term_trees nodes cts) f in
+      diff-clash s u v (spine-place u h (term_trees nodes ats) refl) (spine-place v k (map (close env) (term_trees nodes cts)) r)
+      (shape-app u v h k (term_trees nodes ats) (map (close env) (term_trees nodes cts)) refl r
+      ∙ ap (λ b. b && nat_eq (length (term_trees nodes ats)) (length (map (close env) (term_trees nodes cts)))) e)
 
-pub apart_int : (nodes : Nodes) (place pattern : ℕ) (z : ℤ) (k : Head) (cts : List At) → not_bound k ≡ true → term_tree nodes place ≡ Int z
-    → term_tree nodes pattern ≡ app k (term_trees nodes cts) → AreApart nodes place pattern
-apart_int nodes place pattern z k cts f p q env s =
-    clash-int-app (term_tree nodes place) (close env (term_tree nodes pattern)) z k (map (close env) (term_trees nodes cts)) s p
-    (ap (close env) q ∙ close_fixed env k (term_trees nodes cts) f)
+  pub apart_lengths : (length ats ≡ length cts → ⊥) → AreApart (app h (term_trees nodes ats)) (app k (term_trees nodes cts))
+  apart_lengths n env s =
+      let u = app h (term_trees nodes ats) in let v = close env (app k (term_trees nodes cts)) in let r = close_fixed env k (term_trees nodes cts) f in
+      diff-clash s u v (spine-place u h (term_trees nodes ats) refl) (spine-place v k (map (close env) (term_trees nodes cts)) r)
+      (shape-app u v h k (term_trees nodes ats) (map (close env) (term_trees nodes cts)) refl r
+      ∙ (ap (λ b. head_eq h k && b) (ne_eqb (length (term_trees nodes ats)) (length (map (close env) (term_trees nodes cts)))
+      (λ e. n (sym (length-term_trees nodes ats) ∙ (e ∙ length_closed nodes env cts)))) ∙ and-false (head_eq h k)))
+
+-- a number
+pub apart_int : (nodes : Nodes) (u v : Term) (z : ℤ) (k : Head) (cts : List At) → not_bound k ≡ true → u ≡ Int z → v ≡ app k (term_trees nodes cts)
+    → AreApart u v
+apart_int nodes u v z k cts f p q env s =
+    clash-int-app u (close env v) z k (map (close env) (term_trees nodes cts)) s p (ap (close env) q ∙ close_fixed env k (term_trees nodes cts) f)
 
 -- ---- a bank that grew
 
@@ -280,93 +295,114 @@ pub record IsMatching (first nodes : Nodes) (start now : Table) (goal : Option S
   pub fresh : AreFresh nodes now f (terms_of nodes es)
 
 -- the next equation is this one
-pub matching_top : (first nodes : Nodes) (start now : Table) (goal : Option Solved) (f : Fresh) (env : Env) (items : List Equation) (o : Option Equation)
+pub matching_top : {first nodes : Nodes} {start now : Table} {goal : Option Solved} {f : Fresh} {env : Env} (items : List Equation) (o : Option Equation)
     (q : Equation) → o ≡ Some q
     → IsMatching first nodes start now goal f env (pending o items) → IsMatching first nodes start now goal f env (q ∷ reverse items)
-matching_top first nodes start now goal f env items o q e h = subst (λ z. IsMatching first nodes start now goal f env (pending z items)) e h
+matching_top {first} {nodes} {start} {now} {goal} {f} {env} items o q e h =
+    subst (λ z. IsMatching first nodes start now goal f env (pending z items)) e h
 
 -- nothing is next
-pub matching_over : (first nodes : Nodes) (start now : Table) (goal : Option Solved) (f : Fresh) (env : Env) (items : List Equation)
+pub matching_over : {first nodes : Nodes} {start now : Table} {goal : Option Solved} {f : Fresh} {env : Env} (items : List Equation)
     (o : Option Equation) → o ≡ None
     → IsMatching first nodes start now goal f env (pending o items) → IsMatching first nodes start now goal f env []
-matching_over first nodes start now goal f env items o e h = subst (λ z. IsMatching first nodes start now goal f env (pending z items)) e h
+matching_over {first} {nodes} {start} {now} {goal} {f} {env} items o e h =
+    subst (λ z. IsMatching first nodes start now goal f env (pending z items)) e h
 
-pub matching_begins : (nodes : Nodes) (start : Table) (f : Fresh) (env : Env) (q : Equation) → IsTable nodes start
-    → IsEquation nodes start env q
-    → AreFresh nodes start f (term_tree nodes q.place.0 ∷ [])
-    → IsMatching nodes nodes start start (wanted nodes start (term_tree nodes q.place.0 ∷ []) (close env (term_tree nodes q.pattern.0) ∷ []))
-    f env (q ∷ [])
-matching_begins nodes start f env q tb h k = record {
-  extends = Extends-refl nodes;
-  table = tb;
-  same_count = refl;
-  equations = (h, tt);
-  solves = solves-start nodes start (term_tree nodes q.place.0 ∷ []) (close env (term_tree nodes q.pattern.0) ∷ []) tb;
-  fresh = k;
-}
+-- what became of terms is what became of terms that are the same
+pub paired_terms : (nodes : Nodes) (u v w x : Term) (old new : List Equation) (r : Paired) → u ≡ w → v ≡ x → IsPaired nodes w x old new r
+    → IsPaired nodes u v old new r
+paired_terms nodes u v w x old new r p q h =
+    subst (λ y. IsPaired nodes y v old new r) (sym p) (subst (λ y. IsPaired nodes w y old new r) (sym q) h)
 
-module _ (first nodes : Nodes) (start now : Table) (goal : Option Solved) (f : Fresh) (env : Env) (q : Equation) (es : List Equation)
+-- a term and a pattern of one head come first, and then their arguments do
+module _ (nodes : Nodes) (now : Table) (env : Env) (u v : Term) (es old new : List Equation) (next : Option Equation) (o : AreOpened nodes u v old new next)
+    (below : reverse old ≡ es) where
+  shut : close env v ≡ app o.head (map (close env) (term_trees nodes o.patterns))
+  shut = ap (close env) o.shape ∙ close_fixed env o.head (term_trees nodes o.patterns) o.fixed
+
+  even_trees : length (term_trees nodes o.places) ≡ length (map (close env) (term_trees nodes o.patterns))
+  even_trees = length-term_trees nodes o.places ∙ (o.even ∙ sym (length_closed nodes env o.patterns))
+
+  predicate : same_predicate u (close env v) ≡ true
+  predicate =
+      shape-app u (close env v) o.head o.head (term_trees nodes o.places) (map (close env) (term_trees nodes o.patterns)) o.term shut
+      ∙ (λ i. head_eq-refl o.head i && eq-eqb (length (term_trees nodes o.places)) (length (map (close env) (term_trees nodes o.patterns))) even_trees i)
+
+  opens_alike : Alike nodes now (u ∷ terms_of nodes es) (close env v ∷ closed_of nodes env es)
+      (term_trees nodes o.places ++ terms_of nodes es) (map (close env) (term_trees nodes o.patterns) ++ closed_of nodes env es)
+  opens_alike s ob =
+      ap (λ d. and_then d (diff_lists (map (sub s) (terms_of nodes es)) (map (sub s) (closed_of nodes env es))))
+      (diff-spine s u (close env v) predicate
+      ∙ (λ i. diff_lists (map (sub s) ((ap args_in o.term ∙ args_in-app o.head (term_trees nodes o.places)) i))
+      (map (sub s) ((ap args_in shut ∙ args_in-app o.head (map (close env) (term_trees nodes o.patterns))) i))))
+      ∙ (sym (diff-append (map (sub s) (term_trees nodes o.places)) (map (sub s) (map (close env) (term_trees nodes o.patterns)))
+      (map (sub s) (terms_of nodes es)) (map (sub s) (closed_of nodes env es))
+      (length-map (term_trees nodes o.places) (sub s) ∙ (even_trees ∙ sym (length-map (map (close env) (term_trees nodes o.patterns)) (sub s)))))
+      ∙ (λ i. diff_lists (sym (map-append (sub s) (term_trees nodes o.places) (terms_of nodes es)) i)
+      (sym (map-append (sub s) (map (close env) (term_trees nodes o.patterns)) (closed_of nodes env es)) i)))
+
+  matching_pairs : (first : Nodes) (start : Table) (goal : Option Solved) (f : Fresh) → Extends first nodes → IsTable nodes now → count now ≡ count start
+      → HasCells nodes now u → applies_heads (close env v) ≡ true → HasCells nodes now (close env v) → AreEquations nodes now env es
+      → Solves nodes now (spare start) goal (u ∷ terms_of nodes es) (close env v ∷ closed_of nodes env es) → AreFresh nodes now f (u ∷ terms_of nodes es)
+      → IsMatching first nodes start now goal f env (pending next new)
+  matching_pairs first start goal f extends table same cells heads vars others solves fresh =
+      subst (IsMatching first nodes start now goal f env) (sym (o.pushed ∙ ap (λ z. equate o.places o.patterns ++ z) below)) (record {
+        extends = extends;
+        table = table;
+        same_count = same;
+        equations = args_equations nodes now env o.places o.patterns es o.places_inside o.patterns_inside
+            (cells_apply nodes now (Con o.head) (term_trees nodes o.places) (subst (HasCells nodes now) o.term cells)).1
+            (heads_args (Con o.head) (map (close env) (term_trees nodes o.patterns)) (ap applies_heads (sym shut) ∙ heads))
+            (cells_apply nodes now (Con o.head) (map (close env) (term_trees nodes o.patterns)) (subst (HasCells nodes now) shut vars)).1 others;
+        solves = (let ts = term_trees nodes o.places ++ terms_of nodes es in
+            subst (λ ls. Solves nodes now (spare start) goal ls (closed_of nodes env (equate o.places o.patterns ++ es)))
+            (sym (terms_equate nodes env o.places o.patterns es o.even))
+            (subst (Solves nodes now (spare start) goal ts) (sym (closed_equate nodes env o.places o.patterns es o.even))
+            (solves-alike nodes now (spare start) goal (u ∷ terms_of nodes es) (close env v ∷ closed_of nodes env es) ts
+            (map (close env) (term_trees nodes o.patterns) ++ closed_of nodes env es) table opens_alike solves)));
+        fresh = subst (AreFresh nodes now f) (sym (terms_equate nodes env o.places o.patterns es o.even))
+            (fresh-keeps nodes now f (u ∷ terms_of nodes es) (term_trees nodes o.places ++ terms_of nodes es)
+            (λ x l c. clear-join (found nodes now) x l (term_trees nodes o.places) (terms_of nodes es)
+            (subst (AreClear (found nodes now) x l) (ap args_in o.term ∙ args_in-app o.head (term_trees nodes o.places))
+            (clear-args (found nodes now) x l u c.0)) c.1) fresh);
+      })
+
+-- ---- a sign with arguments against the head of a clause
+
+module _ (nodes : Nodes) (start : Table) (env : Env) (u v : Term) (tb : IsTable nodes start) where
+  -- their arguments are matched first
+  pub matching_begins : (f : Fresh) (new : List Equation) (next : Option Equation) → AreOpened nodes u v [] new next → HasCells nodes start u
+      → applies_heads (close env v) ≡ true → HasCells nodes start (close env v) → AreFresh nodes start f (u ∷ [])
+      → IsMatching nodes nodes start start (wanted nodes start (u ∷ []) (close env v ∷ [])) f env (pending next new)
+  matching_begins f new next o cells heads vars fresh =
+      matching_pairs nodes start env u v [] [] new next o refl nodes start (wanted nodes start (u ∷ []) (close env v ∷ [])) f (Extends-refl nodes) tb refl
+      cells heads vars tt (solves-start nodes start (u ∷ []) (close env v ∷ []) tb) fresh
+
+  -- or nothing makes them equal
+  pub matching_apart : AreApart u v → wanted nodes start (u ∷ []) (close env v ∷ []) ≡ None
+  matching_apart a =
+      solves-clash nodes start (spare start) (wanted nodes start (u ∷ []) (close env v ∷ [])) (u ∷ []) (close env v ∷ []) tb
+      (λ s ob. ap (λ d. and_then d (diff_lists [] [])) (a env s)) (solves-start nodes start (u ∷ []) (close env v ∷ []) tb)
+
+-- the variables of a head with arguments at places have cells
+pub cells_given : (nodes : Nodes) (t : Table) (h : Head) (ats : List At) → All (λ (a : At). IsPlaceOf nodes t a.0) ats
+    → HasCells nodes t (app h (term_trees nodes ats))
+cells_given nodes t h ats k = app_cells nodes t h (term_trees nodes ats) (each ats k)
+  where
+    each : (bts : List At) → All (λ (b : At). IsPlaceOf nodes t b.0) bts → AllCells nodes t (term_trees nodes bts)
+    each [] l = tt
+    each (b ∷ bts) l =
+        ((All-head (λ (x : At). IsPlaceOf nodes t x.0) b bts l).vars, each bts (All-tail (λ (x : At). IsPlaceOf nodes t x.0) b bts l))
+
+module _ {first nodes : Nodes} {start now : Table} {goal : Option Solved} {f : Fresh} {env : Env} {q : Equation} {es : List Equation}
     (m : IsMatching first nodes start now goal f env (q ∷ es)) (end : At) (en : IsEnd nodes now end.0)
     (same : AreSame nodes now (term_tree nodes end.0) (term_tree nodes q.place.0)) where
   abbrev pattern_tree : Term
   pattern_tree = close env (term_tree nodes q.pattern.0)
 
-  -- ---- two terms of one head
-
-  module _ (old new : List Equation) (next : Option Equation) (o : AreOpened nodes end.0 q.pattern.0 old new next) (below : reverse old ≡ es) where
-    shut : close env (term_tree nodes q.pattern.0) ≡ app o.head (map (close env) (term_trees nodes o.patterns))
-    shut = ap (close env) o.shape ∙ close_fixed env o.head (term_trees nodes o.patterns) o.fixed
-
-    even_trees : length (term_trees nodes o.places) ≡ length (map (close env) (term_trees nodes o.patterns))
-    even_trees = length-term_trees nodes o.places ∙ (o.even ∙ sym (length_closed nodes env o.patterns))
-
-    predicate : same_predicate (term_tree nodes end.0) pattern_tree ≡ true
-    predicate =
-        shape-app (term_tree nodes end.0) pattern_tree o.head o.head (term_trees nodes o.places) (map (close env) (term_trees nodes o.patterns)) o.term shut
-        ∙ (λ i. head_eq-refl o.head i && eq-eqb (length (term_trees nodes o.places)) (length (map (close env) (term_trees nodes o.patterns))) even_trees i)
-
-    opens_alike : Alike nodes now (term_tree nodes q.place.0 ∷ terms_of nodes es) (pattern_tree ∷ closed_of nodes env es)
-        (term_trees nodes o.places ++ terms_of nodes es) (map (close env) (term_trees nodes o.patterns) ++ closed_of nodes env es)
-    opens_alike s ob =
-        ap (λ d. and_then d (diff_lists (map (sub s) (terms_of nodes es)) (map (sub s) (closed_of nodes env es))))
-        ((λ i. diff (sym (same s ob) i) (sub s pattern_tree)) ∙ (diff-spine s (term_tree nodes end.0) pattern_tree predicate
-        ∙ (λ i. diff_lists (map (sub s) ((ap args_in o.term ∙ args_in-app o.head (term_trees nodes o.places)) i))
-        (map (sub s) ((ap args_in shut ∙ args_in-app o.head (map (close env) (term_trees nodes o.patterns))) i)))))
-        ∙ (sym (diff-append (map (sub s) (term_trees nodes o.places)) (map (sub s) (map (close env) (term_trees nodes o.patterns)))
-        (map (sub s) (terms_of nodes es)) (map (sub s) (closed_of nodes env es))
-        (length-map (term_trees nodes o.places) (sub s) ∙ (even_trees ∙ sym (length-map (map (close env) (term_trees nodes o.patterns)) (sub s)))))
-        ∙ (λ i. diff_lists (sym (map-append (sub s) (term_trees nodes o.places) (terms_of nodes es)) i)
-        (sym (map-append (sub s) (map (close env) (term_trees nodes o.patterns)) (closed_of nodes env es)) i)))
-
-    pub matching_opens : IsMatching first nodes start now goal f env (pending next new)
-    matching_opens = subst (IsMatching first nodes start now goal f env) (sym (o.pushed ∙ ap (λ z. equate o.places o.patterns ++ z) below)) (record {
-      extends = m.extends;
-      table = m.table;
-      same_count = m.same_count;
-      equations =
-          args_equations nodes now env o.places o.patterns end.0 q.pattern.0 es en.place.inside m.equations.0.inside o.places_below o.patterns_below
-          (cells_apply nodes now (Con o.head) (term_trees nodes o.places) (subst (HasCells nodes now) o.term en.place.vars)).1
-          (heads_args (Con o.head) (map (close env) (term_trees nodes o.patterns)) (ap applies_heads (sym shut) ∙ m.equations.0.heads))
-          (cells_apply nodes now (Con o.head) (map (close env) (term_trees nodes o.patterns)) (subst (HasCells nodes now) shut m.equations.0.vars)).1
-          m.equations.1;
-      solves = (let ts = term_trees nodes o.places ++ terms_of nodes es in
-          subst (λ ls. Solves nodes now (spare start) goal ls (closed_of nodes env (equate o.places o.patterns ++ es)))
-          (sym (terms_equate nodes env o.places o.patterns es o.even))
-          (subst (Solves nodes now (spare start) goal ts) (sym (closed_equate nodes env o.places o.patterns es o.even))
-          (solves-alike nodes now (spare start) goal (term_tree nodes q.place.0 ∷ terms_of nodes es) (pattern_tree ∷ closed_of nodes env es) ts
-          (map (close env) (term_trees nodes o.patterns) ++ closed_of nodes env es) m.table opens_alike m.solves)));
-      fresh = subst (AreFresh nodes now f) (sym (terms_equate nodes env o.places o.patterns es o.even))
-          (fresh-keeps nodes now f (term_tree nodes q.place.0 ∷ terms_of nodes es) (term_trees nodes o.places ++ terms_of nodes es)
-          (λ x l c. clear-join (found nodes now) x l (term_trees nodes o.places) (terms_of nodes es)
-          (subst (AreClear (found nodes now) x l) (ap args_in o.term ∙ args_in-app o.head (term_trees nodes o.places))
-          (clear-args (found nodes now) x l (term_tree nodes end.0)
-          (clear-same (found nodes now) x l (term_tree nodes q.place.0) (term_tree nodes end.0) []
-          (same (found nodes now) (λ x at e. found-bound nodes now x at m.table e)) (c.0, tt)).0)) c.1) m.fresh);
-    })
-
   -- ---- two terms that clash
 
-  pub matching_clashes : AreApart nodes end.0 q.pattern.0 → goal ≡ None
+  pub matching_clashes : AreApart (term_tree nodes end.0) (term_tree nodes q.pattern.0) → goal ≡ None
   matching_clashes a =
       solves-clash nodes now (spare start) goal (term_tree nodes q.place.0 ∷ terms_of nodes es) (pattern_tree ∷ closed_of nodes env es) m.table
       (λ s ob. ap (λ d. and_then d (diff_lists (map (sub s) (terms_of nodes es)) (map (sub s) (closed_of nodes env es))))
@@ -389,6 +425,16 @@ module _ (first nodes : Nodes) (start now : Table) (goal : Option Solved) (f : F
   fresh_end = fresh-keeps nodes now f (term_tree nodes q.place.0 ∷ terms_of nodes es) (term_tree nodes end.0 ∷ terms_of nodes es)
       (λ x l c. clear-same (found nodes now) x l (term_tree nodes q.place.0) (term_tree nodes end.0) (terms_of nodes es)
       (same (found nodes now) (λ x at e. found-bound nodes now x at m.table e)) c) m.fresh
+
+  -- ---- two terms of one head
+
+  pub matching_opens : (old new : List Equation) (next : Option Equation) → AreOpened nodes (term_tree nodes end.0) (term_tree nodes q.pattern.0) old new next
+      → reverse old ≡ es → IsMatching first nodes start now goal f env (pending next new)
+  matching_opens old new next o below =
+      matching_pairs nodes now env (term_tree nodes end.0) (term_tree nodes q.pattern.0) es old new next o below first start goal f m.extends m.table
+      m.same_count en.place.vars m.equations.0.heads m.equations.0.vars m.equations.1
+      (solves-alike nodes now (spare start) goal (term_tree nodes q.place.0 ∷ terms_of nodes es) (pattern_tree ∷ closed_of nodes env es)
+      (term_tree nodes end.0 ∷ terms_of nodes es) (pattern_tree ∷ closed_of nodes env es) m.table at_end m.solves) fresh_end
 
   pub meets_fresh : AreFresh nodes now f (term_tree nodes end.0 ∷ [])
   meets_fresh = fresh-keeps nodes now f (term_tree nodes end.0 ∷ terms_of nodes es) (term_tree nodes end.0 ∷ []) (λ x l c. (c.0, tt)) fresh_end
@@ -423,13 +469,12 @@ module _ (first nodes : Nodes) (start now : Table) (goal : Option Solved) (f : F
         }
 
 -- nothing is pending
-pub matching_ends : (first nodes : Nodes) (start now : Table) (goal : Option Solved) (f : Fresh) (env : Env)
+pub matching_ends : {first nodes : Nodes} {start now : Table} {goal : Option Solved} {f : Fresh} {env : Env}
     → IsMatching first nodes start now goal f env [] → IsAnswer nodes start now goal
-matching_ends first nodes start now goal f env m = record {
+matching_ends {first} {nodes} {start} {now} {goal} m = record {
   is = solves-none nodes now (spare start) goal m.solves;
   table = m.table;
-  same_count =
-      m.same_count;
+  same_count = m.same_count;
 }
 
 -- ---- the weight of what is pending
@@ -453,10 +498,10 @@ weight_equate nodes [] (b ∷ cts) es n = absurd (omega arith)
 weight_equate nodes (a ∷ ats) [] es n = absurd (omega arith)
 weight_equate nodes (a ∷ ats) (b ∷ cts) es n = let e = weight_equate nodes ats cts es (omega arith) in omega arith
 
-pub weight_opens : (nodes : Nodes) (place : ℕ) (q : Equation) (old new : List Equation) (next : Option Equation)
-    → AreOpened nodes place q.pattern.0 old new next
+pub weight_opens : (nodes : Nodes) (u : Term) (q : Equation) (old new : List Equation) (next : Option Equation)
+    → AreOpened nodes u (term_tree nodes q.pattern.0) old new next
     → patterns_weight nodes (pending next new) < patterns_weight nodes (q ∷ reverse old)
-weight_opens nodes place q old new next o =
+weight_opens nodes u q old new next o =
     let a = ap (patterns_weight nodes) o.pushed in
     let b = weight_equate nodes o.places o.patterns (reverse old) o.even in
     let d = ap weight o.shape ∙ weight_apply (Con o.head) (term_trees nodes o.patterns) in

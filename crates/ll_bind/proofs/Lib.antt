@@ -1,2 +1,4 @@
 mod Heads
 mod Building
+mod Shapes
+pub mod CallerLemmas

@@ -1,14 +1,16 @@
 //! An atom against the head of a clause.
-ghost use Rattle.std.specs.Prelude.{not, ◌≡◌, ◌≤◌, ◌<◌, ◌-◌, ◌++◌, ℕ, true, length, reverse, IfOk, [], ◌∷◌};
+ghost use Rattle.std.specs.Prelude.{not, ◌≡◌, ◌≤◌, ◌<◌, ◌-◌, ◌++◌, ℕ, true, length, reverse, All, IfOk, [], ◌∷◌};
+ghost use Rattle.ll_bank.specs.declared.At.{At as AtView};
 ghost use Rattle.ll_bank.specs.Term.{Var, Env, head_eq, app, close, applies_heads, not_bound};
-ghost use Rattle.ll_bank.specs.Nodes.{Nodes, term_tree, term_trees, HasTerm, Extends};
+ghost use Rattle.ll_bank.specs.Nodes.{Nodes, term_tree, term_trees, HasTerm, AllInTerms, Extends};
 ghost use Rattle.ll_unify.specs.Bindings.{IsTable, IsPlaceOf, IsEnd, HasCells, count};
 ghost use Rattle.ll_unify.specs.Fresh.{AreFresh, LeavesFresh, StandsNowhere};
 ghost use Rattle.ll_unify.specs.Solving.{IsSolved, Settles, wanted};
 ghost use Rattle.ll_bank.specs.Environments.{values_in, IsWithin};
 ghost use Rattle.ll_store.specs.Stored.{stored, KeepsMarks};
 ghost use Rattle.ll_store.specs.Tables.{table_of};
-ghost use Rattle.ll_bind.specs.Heads.{equate, pending, IsOpened, IsClosed};
+ghost use Rattle.ll_bind.specs.Heads.{equate, pending, IsPaired, IsOpened, IsClosed};
+ghost use Rattle.ll_bind.specs.Built.{begins_fixed};
 
 use crate::build::{build, value_of};
 use ll_bank::{At, Bank, Environment, Head, OutOfMemory, TermView};
@@ -46,6 +48,15 @@ pub enum Closed {
     Unbuilt,
 }
 
+/// What becomes of two signs with arguments.
+#[derive(Clone, Copy)]
+pub enum Paired {
+    /// They are one sign with as many arguments. The equation that is next then: that of the first arguments, or one that was pending.
+    Same(Option<Equation>),
+    /// They differ.
+    Apart,
+}
+
 /// What becomes of a term and a pattern.
 #[derive(Clone, Copy)]
 pub enum Opened {
@@ -58,6 +69,7 @@ pub enum Opened {
 }
 
 /// Whether two heads are one.
+#[inline]
 fn is_same_head(left: Head, right: Head) -> bool
     ensures { result ≡ head_eq left right }
 {
@@ -65,6 +77,7 @@ fn is_same_head(left: Head, right: Head) -> bool
 }
 
 /// Whether a head is a bound place.
+#[inline]
 fn is_place(head: Head) -> bool
     ensures { result ≡ not (not_bound head) }
 {
@@ -104,6 +117,7 @@ fn push_arguments(
 }
 
 /// What a pattern comes to whose head is a bound place.
+#[inline]
 fn closed_place(head: Head, args: &[At], environment: Environment) -> Closed
     requires within { environment.count ≤ environment.end }
     ensures { (nodes : Nodes) (pattern : ℕ) → term_tree nodes pattern ≡ app head (term_trees nodes args.now)
@@ -123,6 +137,7 @@ fn closed_place(head: Head, args: &[At], environment: Environment) -> Closed
 }
 
 /// What a pattern comes to whose head is no bound place.
+#[inline]
 fn closed_head(pattern: At, head: Head, args: &[At]) -> Closed
     requires fixed { not_bound head ≡ true }
     ensures { (nodes : Nodes) (env : Env) → HasTerm nodes pattern.0
@@ -135,42 +150,79 @@ fn closed_head(pattern: At, head: Head, args: &[At]) -> Closed
     }
 }
 
+/// Compares two signs and the numbers of their arguments. Where they agree, the equations of the arguments come next.
+fn pair(
+    sign: Head,
+    places: &[At],
+    head: Head,
+    patterns: &[At],
+    equations: &mut Equations,
+) -> Result<Paired, OutOfMemory>
+    requires fixed { not_bound head ≡ true }
+    ensures { (nodes : Nodes) → AllInTerms nodes places.now → AllInTerms nodes patterns.now
+        → IfOk result (IsPaired nodes (app sign (term_trees nodes places.now)) (app head (term_trees nodes patterns.now))
+        equations.old.items equations.new.items) }
+{
+    if !is_same_head(sign, head) {
+        return Ok(Paired::Apart);
+    }
+    if places.len() != patterns.len() {
+        return Ok(Paired::Apart);
+    }
+    let next = push_arguments(places, patterns, equations)?;
+    Ok(Paired::Same(next))
+}
+
 /// Compares the sign of a term with that of a pattern.
 fn open(
     bank: &Bank,
-    place: At,
-    pattern: At,
+    equation: Equation,
     environment: Environment,
     equations: &mut Equations,
 ) -> Result<Opened, OutOfMemory>
-    requires place { HasTerm bank.now place.0 }
-    requires pattern { HasTerm bank.now pattern.0 }
+    requires place { HasTerm bank.now equation.place.0 }
+    requires pattern { HasTerm bank.now equation.pattern.0 }
     requires within { environment.count ≤ environment.end }
-    ensures { IfOk result (IsOpened bank.now
-        (values_in environment) place.0 pattern.0 equations.old.items equations.new.items) }
+    ensures { IfOk result (IsOpened bank.now (values_in environment) equation equations.old.items equations.new.items) }
 {
-    match bank.term_at(pattern) {
-        TermView::Var(_) => Ok(Opened::Shut(Closed::Place(pattern))),
-        TermView::Int(_) => Ok(Opened::Shut(Closed::Place(pattern))),
+    match bank.term_at(equation.pattern) {
+        TermView::Var(_) => Ok(Opened::Shut(Closed::Place(equation.pattern))),
+        TermView::Int(_) => Ok(Opened::Shut(Closed::Place(equation.pattern))),
         TermView::App(head, args) => {
             if is_place(head) {
                 return Ok(Opened::Shut(closed_place(head, args, environment)));
             }
-            match bank.term_at(place) {
-                TermView::Var(_) => Ok(Opened::Shut(closed_head(pattern, head, args))),
+            match bank.term_at(equation.place) {
+                TermView::Var(_) => Ok(Opened::Shut(closed_head(equation.pattern, head, args))),
                 TermView::Int(_) => Ok(Opened::Clash),
-                TermView::App(other, others) => {
-                    if !is_same_head(other, head) {
-                        return Ok(Opened::Clash);
-                    }
-                    if others.len() != args.len() {
-                        return Ok(Opened::Clash);
-                    }
-                    let next = push_arguments(others, args, equations)?;
-                    Ok(Opened::Open(next))
-                }
+                TermView::App(sign, places) => match pair(sign, places, head, args, equations)? {
+                    Paired::Same(next) => Ok(Opened::Open(next)),
+                    Paired::Apart => Ok(Opened::Clash),
+                },
             }
         }
+    }
+}
+
+/// Compares an atom's sign and the number of its arguments with those of the head of a clause.
+#[inline]
+fn begin(
+    bank: &Bank,
+    sign: Head,
+    args: &[At],
+    head: At,
+    equations: &mut Equations,
+) -> Result<Paired, OutOfMemory>
+    requires args { AllInTerms bank.now args.now }
+    requires head { HasTerm bank.now head.0 }
+    requires begins { begins_fixed (term_tree bank.now head.0) ≡ true }
+    ensures { IfOk result (IsPaired bank.now (app sign (term_trees bank.now args.now)) (term_tree bank.now head.0)
+        equations.old.items equations.new.items) }
+{
+    match bank.term_at(head) {
+        TermView::Var(_) => unreachable!(),
+        TermView::Int(_) => unreachable!(),
+        TermView::App(other, patterns) => pair(sign, args, other, patterns, equations),
     }
 }
 
@@ -261,7 +313,8 @@ fn meet_pattern(
     }
 }
 
-/// Makes an atom equal to the head of a clause by bindings of a store's variables, or finds that this can't be.
+/// Makes an atom, told by its sign and places of its arguments, equal to the head of a clause by bindings of a store's variables, or finds
+/// that this can't be.
 ///
 /// The bound places of the head stand for the variables of the environment, and no place shows these yet. Of the head only what a variable
 /// of the atom is bound to is built. The variables of the environment, and those behind them, were made just before: none of them stands in
@@ -273,51 +326,45 @@ fn meet_pattern(
 /// The answer, the bindings and the levels are those of [`unify`](crate::unify) on the atom and the closed head. In every case each good
 /// mark of the store stays good, with its state, and its bank may have more places. Where the answer is `false`, and after a refusal,
 /// some bindings and levels may have been changed: go back to a mark.
-pub fn unify_head(
+pub fn unify_args(
     store: &mut Store,
     environment: Environment,
-    atom: At,
+    sign: Head,
+    args: &[At],
     head: At,
 ) -> Result<bool, OutOfMemory>
     requires store { IsTable store.old.bank (table_of store.old.cells.cells) }
     requires within { IsWithin (count (table_of store.old.cells.cells)) environment }
-    requires atom { IsPlaceOf store.old.bank (table_of store.old.cells.cells) atom.0 }
+    requires sign { not_bound sign ≡ true }
+    requires args { All (λ (at : AtView). IsPlaceOf store.old.bank (table_of store.old.cells.cells) at.0) args.now }
     requires head { HasTerm store.old.bank head.0 }
+    requires begins { begins_fixed (term_tree store.old.bank head.0) ≡ true }
     requires heads { applies_heads (close (values_in environment) (term_tree store.old.bank head.0)) ≡ true }
     requires vars { HasCells store.old.bank (table_of store.old.cells.cells)
         (close (values_in environment) (term_tree store.old.bank head.0)) }
     requires new { (x : ℕ) → environment.end - environment.count ≤ x → x < count (table_of store.old.cells.cells)
-        → StandsNowhere store.old.bank (table_of store.old.cells.cells) (term_tree store.old.bank atom.0 ∷ []) x }
+        → StandsNowhere store.old.bank (table_of store.old.cells.cells)
+        (app sign (term_trees store.old.bank args.now) ∷ []) x }
     ensures solved { IfOk result (IsSolved store.new.bank (table_of store.old.cells.cells)
         (table_of store.new.cells.cells) (wanted store.old.bank (table_of store.old.cells.cells)
-        (term_tree store.old.bank atom.0 ∷ [])
+        (app sign (term_trees store.old.bank args.now) ∷ [])
         (close (values_in environment) (term_tree store.old.bank head.0) ∷ []))) }
     ensures keeps { Extends store.old.bank store.new.bank }
     ensures marks { KeepsMarks (stored store.old) (stored store.new) }
 {
-    let mut fresh = Fresh::from((environment.end - environment.count) as usize);
     let mut equations = Equations::new(store.bank.alloc());
-    let mut next = Some(Equation {
-        place: atom,
-        pattern: head,
-    });
-    while let Some(equation) = next {
-        let end = walk(&store.bank, &store.cells, equation.place);
-        match open(
-            &store.bank,
-            end,
-            equation.pattern,
-            environment,
-            &mut equations,
-        )? {
+    let mut next = match begin(&store.bank, sign, args, head, &mut equations)? {
+        Paired::Same(first) => first,
+        Paired::Apart => return Ok(false),
+    };
+    let mut fresh = Fresh::from((environment.end - environment.count) as usize);
+    while let Some(mut equation) = next {
+        equation.place = walk(&store.bank, &store.cells, equation.place);
+        match open(&store.bank, equation, environment, &mut equations)? {
             Opened::Open(more) => next = more,
             Opened::Clash => return Ok(false),
             Opened::Shut(closed) => {
-                let shut = Equation {
-                    place: end,
-                    pattern: equation.pattern,
-                };
-                if !meet_pattern(store, &mut fresh, shut, closed, environment)? {
+                if !meet_pattern(store, &mut fresh, equation, closed, environment)? {
                     return Ok(false);
                 }
                 next = equations.pop();

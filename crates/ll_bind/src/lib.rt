@@ -12,7 +12,8 @@ ghost use Rattle.ll_unify.specs.Solving.{IsSolved, wanted};
 ghost use Rattle.ll_store.specs.Stored.{stored, KeepsMarks};
 ghost use Rattle.ll_store.specs.Tables.{table_of};
 
-pub use head::unify_head;
+pub use build::read_args;
+pub use head::unify_args;
 use ll_bank::{At, OutOfMemory};
 use ll_store::Store;
 use std::alloc::Global;

@@ -4,6 +4,8 @@ pub mod Loading
 pub mod NumberLemmas
 pub mod OwnTries
 pub mod Quantifying
+pub mod Closing
+pub mod Asking
 pub mod Connecting
 pub mod LeafTaking
 pub mod Settling

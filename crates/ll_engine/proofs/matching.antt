@@ -1,5 +1,6 @@
 -- The candidates that can match.
 pub mod CandidateLemmas
+pub mod ClosedLemmas
 pub mod Finding
 pub mod KeyedLemmas
 pub mod LeafLemmas

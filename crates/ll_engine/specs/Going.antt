@@ -2,6 +2,7 @@
 use Rattle.std.specs.Prelude.{◌≡◌, ◌<◌, true, List, [], map, length, All, Option, Some, None}
 use Rattle.ll_bank.specs.declared.At.{At}
 use Rattle.ll_bank.specs.declared.FormAt.{FormAt}
+use Rattle.ll_bank.specs.declared.environment.Environment.{Environment}
 use Rattle.ll_bank.specs.Nodes.{Nodes, HasForm, form_tree}
 use Rattle.ll_laws.specs.Settle.{Saved, Item as ItemOf, Goal as GoalOf, LolliEnd as EndOfLolli, ImpEnd as EndOfImp, WithMiddle as Middle, WithEnd as EndOfWith}
 use Rattle.ll_laws.specs.Settle.{BangEnd as EndOfBang, Front, settle_front}
@@ -20,9 +21,9 @@ use Rattle.ll_freeze.specs.Fits.{HasItem, allowed, IsGoalIn}
 use Rattle.ll_engine.specs.Calls.{SameSearch}
 use Rattle.ll_freeze.specs.Calls.{SameTerms}
 
--- an item over what was kept, with its goal as a place
-abbrev pub raw_item : List Saved → Item → ItemOf FormAt
-raw_item kept (Goal g) = GoalOf g
+-- an item over what was kept, with its goal as a place and an environment
+abbrev pub raw_item : List Saved → Item → ItemOf (FormAt × Environment)
+raw_item kept (Goal g e) = GoalOf (g, e)
 raw_item kept (LolliEnd b) = EndOfLolli b
 raw_item kept ImpEnd = EndOfImp
 raw_item kept (Mid s) = Middle (saved_at kept s)
@@ -30,7 +31,7 @@ raw_item kept (WithEnd s h) = EndOfWith (saved_at kept s) (saved_at kept h)
 raw_item kept (BangEnd s) = EndOfBang (saved_at kept s)
 
 -- what settling makes of an agenda and a context, with goals and clauses as places
-abbrev pub front_raw : Resources FormAt → List Item → Option (Front FormAt FormAt)
+abbrev pub front_raw : Resources FormAt → List Item → Option (Front (FormAt × Environment) FormAt)
 front_raw r xs = settle_front (map (raw_item r.kept) xs) r.entries r.flag
 
 -- the ends of these items belong to the entries

@@ -57,11 +57,6 @@ pub record AsksFor (s : Store) (atom : Term) (asked : Asked) : Type 0 where
   pub arity_is : arity atom ≡ asked.predicate.arity
   pub first : asked.first ≡ first_of (read_by s atom)
 
--- what an atom asks for, none where it has no head
-abbrev pub Asks : Store → Term → Option Asked → Type 0
-Asks s atom None = head_of atom ≡ None
-Asks s atom (Some asked) = AsksFor s atom asked
-
 -- a head has the predicate that is asked for, and its sign clashes with none
 abbrev pub head_fits : Store → Asked → Term → Bool
 head_fits s asked h = has_predicate asked.predicate h && not (signs_clash asked.first (first_of (read_by s h)))

@@ -14,8 +14,7 @@ use Rattle.ll_laws.specs.declared.Step.{Step}
 use Rattle.ll_laws.specs.declared.Step.TheVariants.{Plain}
 use Rattle.ll_freeze.specs.Parts.{Parts}
 use Rattle.ll_freeze.specs.declared.machine.Item.{Item}
-use Rattle.ll_freeze.specs.declared.machine.Item.TheVariants.{Goal}
-use Rattle.ll_freeze.specs.Shown.{items_of}
+use Rattle.ll_freeze.specs.Shown.{items_of, closed_goal}
 
 -- the later machine is the earlier one with these items in front of the rest, after one step more
 pub record GoesOn (old : Parts) (front rest : List Item) (step : Step) (new : Parts) : Type 0 where
@@ -35,7 +34,7 @@ pub record PutsInFront (old : Parts) (f : Form) (rest : List Item) (new : Parts)
   pub goal : FormAt
   pub shows : ShowsForm new.bank goal.0 f
   pub top : HasTop new.agenda new.top
-  pub items : items_of new ≡ Goal goal ∷ rest
+  pub items : items_of new ≡ closed_goal goal ∷ rest
   pub steps : new.steps ≡ old.steps ++ Plain ∷ []
   pub left : suc new.left ≡ old.left
 

@@ -1,9 +1,8 @@
 -- What unification makes of a store's bindings.
-use Rattle.std.specs.Prelude.{◌≡◌, ℕ, Bool, true, false, List, Option, Some, None}
+use Rattle.std.specs.Prelude.{◌≡◌, ℕ, Bool, true, false, Option, Some, None}
 use Rattle.ll_bank.specs.declared.At.{At}
-use Rattle.ll_bank.specs.Term.{Term, sub, close}
-use Rattle.ll_bank.specs.Nodes.{Nodes, term_tree}
-use Rattle.ll_bank.specs.Closing.{env_of}
+use Rattle.ll_bank.specs.Term.{Term, sub}
+use Rattle.ll_bank.specs.Nodes.{Nodes}
 use Rattle.ll_unify.specs.Bindings.{Table, IsTable, count}
 use Rattle.ll_store.specs.declared.store.Store.{Store}
 use Rattle.ll_store.specs.Tables.{table_of}
@@ -13,10 +12,6 @@ use Rattle.ll_freeze.specs.Reading.{reading, read_term}
 -- the term at a place, read under the bindings of a store
 abbrev pub read_in : Store → At → Term
 read_in s at = read_term s.bank (table_of s.cells.cells).bound at
-
--- the term at a place with values for its bound places, read under the bindings of a store
-abbrev pub read_closed : Store → List At → At → Term
-read_closed s values at = sub (reading s.bank (table_of s.cells.cells).bound) (close (env_of s.bank values) (term_tree s.bank at.0))
 
 -- in a bank that may have more places, the bindings and levels are the old ones, followed by what unification finds
 pub record IsUnified (first bank : Nodes) (old new : Table) (v : Solved) : Type 0 where

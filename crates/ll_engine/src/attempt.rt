@@ -6,7 +6,10 @@ ghost use Rattle.ll_laws.specs.Attempt.{tries};
 ghost use Rattle.ll_freeze.specs.Parts.{parts_of, Later};
 ghost use Rattle.ll_freeze.specs.Shown.{state_of};
 ghost use Rattle.ll_freeze.specs.Fits.{Fits};
+ghost use Rattle.ll_bank.specs.Nodes.{form_tree};
+ghost use Rattle.ll_laws.specs.declared.Candidate.{Candidate};
 ghost use Rattle.ll_engine.specs.Attempts.{Attempts};
+ghost use Rattle.ll_engine.specs.Front.{IsGoal, IsClosedGoal, IsSameSearch, hands_on};
 ghost use Rattle.ll_engine.specs.Rows.{GoesOn};
 ghost use Rattle.ll_engine.specs.Turned.{is_empty};
 
@@ -17,10 +20,17 @@ use crate::numbers::{take_is, take_less, take_most};
 use crate::quantifiers::{take_exists, take_forall, take_load};
 use crate::take::take_leaf;
 use ll_agenda::{Agenda, Top};
-use ll_bank::{FormNode, OutOfMemory};
+use ll_bank::{Environment, FormAt, FormNode, OutOfMemory, Values, close_form};
 use ll_freeze::{Item, Machine};
 use ll_laws::{Candidate, Step};
 use std::alloc::Global;
+
+/// Where the goal in front stands: the environment of its free bound places, and the agenda behind it.
+#[derive(Clone, Copy)]
+pub struct Position {
+    pub environment: Environment,
+    pub rest: Top,
+}
 
 /// One inference: the first goal taken apart by one of its candidates; false where this gives nothing.
 ///
@@ -40,16 +50,41 @@ pub fn attempt(
     let Some((item, rest)) = machine.agenda.item(machine.top) else {
         unreachable!()
     };
-    let Item::Goal(goal) = item else {
+    let Item::Goal(goal, environment) = item else {
         unreachable!()
     };
+    let position = Position { environment, rest };
     match machine.store.bank.form_at(goal) {
-        FormNode::One => take_one(machine, rest),
-        FormNode::Top => take_top(machine, rest),
-        FormNode::Tensor(first, second) => take_tensor(machine, first, second, rest),
-        FormNode::Plus(left, right) => take_plus(machine, left, right, rest, candidate),
-        FormNode::With(first, second) => take_with(machine, first, second, rest),
-        FormNode::Bang(body) => take_bang(machine, body, rest),
+        FormNode::One => take_one(machine, position),
+        FormNode::Top => take_top(machine, position),
+        FormNode::Tensor(first, second) => take_tensor(machine, first, second, position),
+        FormNode::Plus(left, right) => take_plus(machine, left, right, position, candidate),
+        FormNode::With(first, second) => take_with(machine, first, second, position),
+        FormNode::Bang(body) => take_bang(machine, body, position),
+        FormNode::Atom(atom) => take_leaf(machine, atom, position, candidate),
+        _ => {
+            let closed = close_front(machine, goal, position)?;
+            take_closed(machine, alloc, closed, rest)
+        }
+    }
+}
+
+/// Takes the goal in front, which has no free bound place and is none of those that hand an environment on, as `attempt` does.
+fn take_closed(
+    machine: &mut Machine<'_>,
+    alloc: Global,
+    goal: FormAt,
+    rest: Top,
+) -> Result<bool, OutOfMemory>
+    requires fits { Fits (parts_of machine.old) }
+    requires left { 0 < machine.old.left }
+    requires front { IsClosedGoal (parts_of machine.old) goal rest }
+    requires closes { hands_on (form_tree machine.old.store.bank goal.0) ≡ false }
+    ensures attempts { (candidate : Candidate)
+        → IfOk result (Attempts (parts_of machine.old) candidate (parts_of machine.new)) }
+    ensures later { IfOk result (λ _. Later machine.old machine.new) }
+{
+    match machine.store.bank.form_at(goal) {
         FormNode::Lolli(clause, body) => take_lolli(machine, clause, body, rest),
         FormNode::Imp(clause, body) => take_imp(machine, clause, body, rest),
         FormNode::Forall(body) => {
@@ -66,11 +101,36 @@ pub fn attempt(
             take_load(machine, &modules[number as usize], &args, body, rest)?;
             Ok(true)
         }
-        FormNode::Atom(atom) => take_leaf(machine, alloc, atom, rest, candidate),
         FormNode::Is(target, expression) => take_is(machine, alloc, target, expression, rest),
         FormNode::Less(left, right) => take_less(machine, alloc, left, right, rest),
         FormNode::Most(left, right) => take_most(machine, alloc, left, right, rest),
+        _ => unreachable!(),
     }
+}
+
+/// Puts the goal in front closed in its own place, with the values of its environment. A goal with no environment stays. After a refusal
+/// the bank may have more places.
+fn close_front(
+    machine: &mut Machine<'_>,
+    goal: FormAt,
+    position: Position,
+) -> Result<FormAt, OutOfMemory>
+    requires fits { Fits (parts_of machine.old) }
+    requires front { IsGoal (parts_of machine.old) goal position }
+    ensures same { IfOk result (λ _. IsSameSearch (parts_of machine.old) (parts_of machine.new)) }
+    ensures front { IfOk result (λ closed. IsClosedGoal (parts_of machine.new) closed position.rest) }
+    ensures hands { IfOk result (λ closed. hands_on (form_tree machine.new.store.bank closed.0)
+        ≡ hands_on (form_tree machine.old.store.bank goal.0)) }
+    ensures later { IfOk result (λ _. Later machine.old machine.new) }
+{
+    if position.environment.count == 0 {
+        return Ok(goal);
+    }
+    let alloc = machine.store.bank.alloc();
+    let values = Values::Variables(position.environment);
+    let closed = close_form(alloc, &mut machine.store.bank, goal, values)?;
+    machine.top = machine.agenda.push(Item::closed(closed), position.rest)?;
+    Ok(closed)
 }
 
 /// Makes the items in front of the rest the agenda of a machine, and notes one inference. After a refusal the machine is spent.

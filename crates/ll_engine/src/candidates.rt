@@ -23,7 +23,7 @@ ghost use Rattle.ll_engine.specs.Matches.{matches, head_fits, HeadsHaveCells, al
 use crate::found::Found;
 use crate::heads::{Asked, asked_by, can_match, in_32_bits};
 use crate::keys::head_key;
-use ll_bank::{At, Bank, FormAt, FormNode, Head, OutOfMemory};
+use ll_bank::{At, Bank, Environment, FormAt, FormNode, Head, OutOfMemory};
 use ll_freeze::{Item, Machine};
 use ll_index::Index;
 use ll_laws::{Candidate, Kind};
@@ -43,11 +43,11 @@ pub fn candidates(machine: &Machine<'_>, index: &Index, alloc: Global) -> Result
     let Some((item, _)) = machine.agenda.item(machine.top) else {
         return Ok(Found::none(alloc));
     };
-    let Item::Goal(goal) = item else {
+    let Item::Goal(goal, environment) = item else {
         return Ok(Found::none(alloc));
     };
     match machine.store.bank.form_at(goal) {
-        FormNode::Atom(atom) => atom_candidates(machine, index, alloc, atom),
+        FormNode::Atom(atom) => atom_candidates(machine, index, alloc, atom, environment),
         FormNode::Plus(_, _) => {
             let mut found = Found::one(alloc, Candidate { label: 0, leaf: 0 });
             found.push(Candidate { label: 0, leaf: 1 })?;
@@ -65,7 +65,7 @@ pub fn is_sure(machine: &Machine<'_>) -> bool
     let Some((item, _)) = machine.agenda.item(machine.top) else {
         return false;
     };
-    let Item::Goal(goal) = item else {
+    let Item::Goal(goal, _) = item else {
         return false;
     };
     match machine.store.bank.form_at(goal) {
@@ -82,16 +82,15 @@ fn atom_candidates(
     index: &Index,
     alloc: Global,
     atom: At,
+    environment: Environment,
 ) -> Result<Found, OutOfMemory>
     requires fits { Fits (parts_of machine.now) }
     requires index { IsIndexOf machine.now.problem.now index.now }
-    requires front { HasAtom (parts_of machine.now) atom }
+    requires front { HasAtom (parts_of machine.now) atom environment }
     ensures { IfOk result (λ found. all_found found ≡ matches (state_of (parts_of machine.now))) }
 {
     let mut found = Found::none(alloc);
-    let Some(asked) = asked_by(&machine.store, atom)? else {
-        return Ok(found);
-    };
+    let asked = asked_by(&machine.store, environment, atom)?;
     let problem = machine.problem;
     let loaded = machine.context.len() - problem.clauses.len();
     add_newer(machine, alloc, loaded, asked, &mut found)?;

@@ -1,18 +1,20 @@
 //! Heads of clauses, and what an atom asks of them.
 ghost use Rattle.std.specs.Prelude.{◌≡◌, true, IfOk, MatchResult, ◌≤◌};
 ghost use Rattle.ll_bank.specs.Nodes.{term_tree, HasTerm};
-ghost use Rattle.ll_bank.specs.Term.{is_spine};
-ghost use Rattle.ll_unify.specs.Bindings.{IsTable, IsPlaceOf};
+ghost use Rattle.ll_bank.specs.Term.{applies_heads, close, is_spine, place};
+ghost use Rattle.ll_bank.specs.Environments.{values_in, IsWithin};
+ghost use Rattle.ll_bind.specs.Built.{begins_fixed};
+ghost use Rattle.ll_unify.specs.Bindings.{IsTable, IsPlaceOf, count};
 ghost use Rattle.ll_store.specs.Tables.{table_of};
 ghost use Rattle.ll_index.specs.First.{sign_of, first_of, signs_clash};
 ghost use Rattle.ll_engine.specs.Leaves.{IsPredicate, has_predicate};
 ghost use Rattle.ll_engine.specs.Taking.{read_in};
-ghost use Rattle.ll_engine.specs.Matches.{Asks, head_fits, HasCellsIn};
+ghost use Rattle.ll_engine.specs.Matches.{AsksFor, head_fits, read_by, HasCellsIn};
 
-use ll_bank::{At, Bank, Head, OutOfMemory, TermView};
+use ll_bank::{At, Bank, Environment, Head, OutOfMemory, TermView};
 use ll_index::First;
 use ll_store::Store;
-use ll_unify::walk;
+use ll_unify::{Bindings, walk};
 use std::alloc::AllocError;
 
 /// A head with a number of arguments.
@@ -30,18 +32,21 @@ pub struct Asked {
     pub first: First,
 }
 
-/// What an atom asks of heads; `None` where it has no predicate.
-pub fn asked_by(store: &Store, atom: At) -> Result<Option<Asked>, OutOfMemory>
+/// What an atom asks of heads. Its free bound places stand for the variables of an environment.
+pub fn asked_by(store: &Store, environment: Environment, atom: At) -> Result<Asked, OutOfMemory>
     requires table { IsTable store.now.bank (table_of store.now.cells.cells) }
+    requires within { IsWithin (count (table_of store.now.cells.cells)) environment }
     requires inside { HasTerm store.now.bank atom.0 }
-    requires cells { HasCellsIn store.now (term_tree store.now.bank atom.0) }
-    ensures { IfOk result (Asks store.now (term_tree store.now.bank atom.0)) }
+    requires begins { begins_fixed (term_tree store.now.bank atom.0) ≡ true }
+    requires cells { HasCellsIn store.now (close (values_in environment) (term_tree store.now.bank atom.0)) }
+    requires heads { applies_heads (close (values_in environment) (term_tree store.now.bank atom.0)) ≡ true }
+    ensures { IfOk result (AsksFor store.now (close (values_in environment) (term_tree store.now.bank atom.0))) }
 {
     let Some(predicate) = predicate_at(&store.bank, atom) else {
-        return Ok(None);
+        unreachable!()
     };
-    let first = first_under(store, atom)?;
-    Ok(Some(Asked { predicate, first }))
+    let first = first_in(store, environment, atom)?;
+    Ok(Asked { predicate, first })
 }
 
 /// Whether the head of a clause can match an atom that asks for this.
@@ -82,6 +87,67 @@ fn has_predicate(bank: &Bank, at: At, predicate: Predicate) -> bool
     match predicate_at(bank, at) {
         Some(other) => predicate.head == other.head && predicate.arity == other.arity,
         None => false,
+    }
+}
+
+/// The outermost sign of the first argument of an atom whose free bound places stand for variables, read under the bindings that are there.
+fn first_in(store: &Store, environment: Environment, at: At) -> Result<First, OutOfMemory>
+    requires table { IsTable store.now.bank (table_of store.now.cells.cells) }
+    requires within { IsWithin (count (table_of store.now.cells.cells)) environment }
+    requires inside { HasTerm store.now.bank at.0 }
+    requires begins { begins_fixed (term_tree store.now.bank at.0) ≡ true }
+    requires cells { HasCellsIn store.now (close (values_in environment) (term_tree store.now.bank at.0)) }
+    requires heads { applies_heads (close (values_in environment) (term_tree store.now.bank at.0)) ≡ true }
+    ensures { IfOk result (λ first. first
+        ≡ first_of (read_by store.now (close (values_in environment) (term_tree store.now.bank at.0)))) }
+{
+    match store.bank.term_at(at) {
+        TermView::App(_, args) => {
+            if args.is_empty() {
+                return Ok(First::Open);
+            }
+            sign_in(store, environment, args[0])
+        }
+        TermView::Var(_) => Ok(First::Open),
+        TermView::Int(_) => Ok(First::Open),
+    }
+}
+
+/// The outermost sign of a term whose free bound places stand for variables, read under the bindings that are there.
+fn sign_in(store: &Store, environment: Environment, at: At) -> Result<First, OutOfMemory>
+    requires table { IsTable store.now.bank (table_of store.now.cells.cells) }
+    requires within { IsWithin (count (table_of store.now.cells.cells)) environment }
+    requires inside { HasTerm store.now.bank at.0 }
+    requires cells { HasCellsIn store.now (close (values_in environment) (term_tree store.now.bank at.0)) }
+    requires heads { applies_heads (close (values_in environment) (term_tree store.now.bank at.0)) ≡ true }
+    ensures { IfOk result (λ sign. sign
+        ≡ sign_of (read_by store.now (close (values_in environment) (term_tree store.now.bank at.0)))) }
+{
+    match store.bank.term_at(at) {
+        TermView::App(Head::Name(name), args) => {
+            let arity = in_32_bits(args.len())?;
+            Ok(First::Head(name, arity))
+        }
+        TermView::App(Head::Eigen(_), _) => Ok(First::Open),
+        TermView::App(Head::Bound(bound), _) => sign_of_bound(store, environment, bound),
+        TermView::Var(_) => sign_under(store, at),
+        TermView::Int(value) => Ok(First::Int(value)),
+    }
+}
+
+/// The outermost sign of what a bound place stands for, read under the bindings that are there.
+fn sign_of_bound(store: &Store, environment: Environment, bound: u32) -> Result<First, OutOfMemory>
+    requires table { IsTable store.now.bank (table_of store.now.cells.cells) }
+    requires within { IsWithin (count (table_of store.now.cells.cells)) environment }
+    requires cells { HasCellsIn store.now (place (values_in environment) bound 0) }
+    ensures { IfOk result (λ sign. sign ≡ sign_of (read_by store.now (place (values_in environment) bound 0))) }
+{
+    let Some(var) = environment.variable(bound) else {
+        return Ok(First::Open);
+    };
+    match Bindings::value(&store.cells, var) {
+        Some(to) => sign_under(store, to),
+        None => Ok(First::Open),
     }
 }
 

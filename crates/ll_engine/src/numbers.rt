@@ -9,7 +9,7 @@ ghost use Rattle.ll_laws.specs.declared.Candidate.{Candidate};
 ghost use Rattle.ll_engine.specs.Taking.{read_in};
 ghost use Rattle.ll_freeze.specs.Fits.{Fits};
 ghost use Rattle.ll_engine.specs.Attempts.{Attempts};
-ghost use Rattle.ll_engine.specs.Front.{IsFront};
+ghost use Rattle.ll_engine.specs.Front.{IsClosedFront};
 ghost use Rattle.ll_engine.specs.Numbers.{tested};
 
 use crate::attempt::go_on;
@@ -35,7 +35,7 @@ pub fn take_is(
 ) -> Result<bool, OutOfMemory>
     requires fits { Fits (parts_of machine.old) }
     requires left { 0 < machine.old.left }
-    requires front { IsFront (parts_of machine.old) (FormNode.Is target expression) rest }
+    requires front { IsClosedFront (parts_of machine.old) (FormNode.Is target expression) rest }
     ensures attempts { (candidate : Candidate)
         → IfOk result (Attempts (parts_of machine.old) candidate (parts_of machine.new)) }
     ensures later { IfOk result (λ _. Later machine.old machine.new) }
@@ -65,7 +65,7 @@ pub fn take_less(
 ) -> Result<bool, OutOfMemory>
     requires fits { Fits (parts_of machine.old) }
     requires left { 0 < machine.old.left }
-    requires front { IsFront (parts_of machine.old) (FormNode.Less left right) rest }
+    requires front { IsClosedFront (parts_of machine.old) (FormNode.Less left right) rest }
     ensures attempts { (candidate : Candidate)
         → IfOk result (Attempts (parts_of machine.old) candidate (parts_of machine.new)) }
     ensures later { IfOk result (λ _. Later machine.old machine.new) }
@@ -94,7 +94,7 @@ pub fn take_most(
 ) -> Result<bool, OutOfMemory>
     requires fits { Fits (parts_of machine.old) }
     requires left { 0 < machine.old.left }
-    requires front { IsFront (parts_of machine.old) (FormNode.Most left right) rest }
+    requires front { IsClosedFront (parts_of machine.old) (FormNode.Most left right) rest }
     ensures attempts { (candidate : Candidate)
         → IfOk result (Attempts (parts_of machine.old) candidate (parts_of machine.new)) }
     ensures later { IfOk result (λ _. Later machine.old machine.new) }

@@ -32,7 +32,7 @@ pub fn take_forall(machine: &mut Machine<'_>, body: FormAt, rest: Top) -> Result
     let value = machine.store.bank.app(Head::Eigen(machine.eigens), &[])?;
     let goal = machine.store.bank.instantiate(body, value)?;
     machine.eigens += 1;
-    go_on(machine, &[Item::Goal(goal)], rest, Step::Plain)?;
+    go_on(machine, &[Item::closed(goal)], rest, Step::Plain)?;
     Ok(())
 }
 
@@ -52,7 +52,7 @@ pub fn take_exists(machine: &mut Machine<'_>, body: FormAt, rest: Top) -> Result
     let value = machine.store.bank.var(number)?;
     let goal = machine.store.bank.instantiate(body, value)?;
     machine.terms.push(value)?;
-    go_on(machine, &[Item::Goal(goal)], rest, Step::Plain)?;
+    go_on(machine, &[Item::closed(goal)], rest, Step::Plain)?;
     Ok(())
 }
 
@@ -78,6 +78,6 @@ pub fn take_load(
     ensures later { OnOk result (Later machine.old machine.new) }
 {
     let goal = unfold(&mut machine.store.bank, module, args, body)?;
-    go_on(machine, &[Item::Goal(goal)], rest, Step::Plain)?;
+    go_on(machine, &[Item::closed(goal)], rest, Step::Plain)?;
     Ok(())
 }

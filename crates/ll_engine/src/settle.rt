@@ -49,7 +49,7 @@ fn work_off(machine: &mut Machine<'_>, item: Item, rest: Top) -> Result<Worked, 
     ensures later { IfOk result (λ _. Later machine.old machine.new) }
 {
     match item {
-        Item::Goal(_) => Ok(Worked::Settled),
+        Item::Goal(_, _) => Ok(Worked::Settled),
         Item::LolliEnd(saved) => {
             if !machine.context.close(saved)? {
                 return Ok(Worked::Failed);
@@ -91,7 +91,7 @@ fn second_side(machine: &mut Machine<'_>, saved: Saved, rest: Top) -> Result<(),
         × IsDone (parts_of machine.new)) }
     ensures later { OnOk result (Later machine.old machine.new) }
 {
-    let Some((Item::Goal(goal), after)) = machine.agenda.item(rest) else {
+    let Some((Item::Goal(goal, environment), after)) = machine.agenda.item(rest) else {
         unreachable!()
     };
     let Some((Item::WithEnd(before, _), behind)) = machine.agenda.item(after) else {
@@ -99,6 +99,6 @@ fn second_side(machine: &mut Machine<'_>, saved: Saved, rest: Top) -> Result<(),
     };
     let half = machine.context.with_mid(saved)?;
     let end = machine.agenda.push(Item::WithEnd(before, half), behind)?;
-    machine.top = machine.agenda.push(Item::Goal(goal), end)?;
+    machine.top = machine.agenda.push(Item::Goal(goal, environment), end)?;
     Ok(())
 }

@@ -1,34 +1,32 @@
 //! Parts of an inference on an atom.
 ghost use Rattle.std.specs.Prelude.{◌≡◌, ◌<◌, ◌≤◌, ◌-◌, ℕ, true, ◌++◌, ◌∷◌, [], length, Some, None, IfOk, IfSome, IfNone, OnOk, replicate};
 ghost use Rattle.std.specs.List.{Contains};
-ghost use Rattle.ll_bank.specs.Term.{close, applies_heads};
-ghost use Rattle.ll_bank.specs.Nodes.{form_tree, term_tree, HasTerm, AllInTerms, Extends};
-ghost use Rattle.ll_bank.specs.Closing.{env_of};
-ghost use Rattle.ll_unify.specs.Bindings.{IsTable, IsPlaceOf, HasCells, count};
-ghost use Rattle.ll_unify.specs.Fresh.{StandsNowhere};
-ghost use Rattle.ll_bank.specs.Environments.{values_before};
+ghost use Rattle.ll_bank.specs.Term.{app};
+ghost use Rattle.ll_bank.specs.Nodes.{term_tree, HasTerm};
+ghost use Rattle.ll_unify.specs.Bindings.{IsTable, IsPlaceOf};
+ghost use Rattle.ll_unify.specs.Spines.{args_in};
+ghost use Rattle.ll_bind.specs.Built.{begins_fixed};
 ghost use Rattle.ll_store.specs.Stored.{stored, KeepsMarks};
 ghost use Rattle.ll_store.specs.Tables.{table_of};
-ghost use Rattle.ll_laws.specs.Leaf.{ways};
 ghost use Rattle.ll_laws.specs.Attempt.{entry_at, tries};
 ghost use Rattle.ll_laws.specs.Unify.{mgu};
 ghost use Rattle.ll_freeze.specs.Parts.{parts_of, Later};
 ghost use Rattle.ll_freeze.specs.Shown.{state_of};
 ghost use Rattle.ll_freeze.specs.Fits.{Fits};
 ghost use Rattle.ll_engine.specs.Attempts.{Attempts};
-ghost use Rattle.ll_engine.specs.Front.{IsFront};
-ghost use Rattle.ll_engine.specs.Taking.{read_in, read_closed, Unifies};
+ghost use Rattle.ll_engine.specs.Front.{IsFront, IsAsked};
+ghost use Rattle.ll_engine.specs.Taking.{read_in, Unifies};
 ghost use Rattle.ll_engine.specs.Placed.{AreAtTheirLabels};
 ghost use Rattle.ll_resources.specs.Resources.{after_pick};
 ghost use Rattle.ll_resources.specs.Places.{label_place};
 ghost use Rattle.ll_resources.specs.History.{KeepsMarks as KeepsContextMarks};
 ghost use Rattle.ll_resources.specs.Seen.{resource};
 
-use crate::heads::in_32_bits;
-use crate::open::open_leaf;
+use crate::attempt::Position;
+use crate::open::{Leaf, open_leaf};
 use ll_agenda::Top;
-use ll_bank::{At, Environment, FormAt, FormNode, OutOfMemory};
-use ll_bind::{unify, unify_head};
+use ll_bank::{At, Bank, FormAt, FormNode, Head, OutOfMemory, TermView};
+use ll_bind::{read_args, unify, unify_args};
 use ll_freeze::Machine;
 use ll_laws::{Candidate, Step};
 use ll_resources::{Context, Entry};
@@ -92,7 +90,7 @@ fn loaded_place(context: &Context<FormAt>, label: u32) -> Option<usize>
 }
 
 /// Makes so many variables of a level. After a refusal there may be more of them.
-pub fn add_cells(store: &mut Store, level: u32, count: usize) -> Result<(), OutOfMemory>
+pub fn add_cells(store: &mut Store, level: u32, count: u32) -> Result<(), OutOfMemory>
     ensures cells { OnOk result (store.new.cells.cells
         ≡ store.old.cells.cells ++ replicate count (record { to = None; level = level })) }
     ensures bank { store.new.bank ≡ store.old.bank }
@@ -142,48 +140,18 @@ pub fn unify_under(
     Ok(answer)
 }
 
-/// Unifies an atom with the head of a leaf, whose bound places stand for its variables, the outermost first; false where they don't unify.
-/// They are the last variables, and stand nowhere else. Where there are more than a `u32` counts it answers that memory ran out.
-fn unify_leaf(store: &mut Store, atom: At, head: At, variables: &[At]) -> Result<bool, OutOfMemory>
-    requires table { IsTable store.old.bank (table_of store.old.cells.cells) }
-    requires atom { IsPlaceOf store.old.bank (table_of store.old.cells.cells) atom.0 }
-    requires head { HasTerm store.old.bank head.0 }
-    requires few { length variables.now ≤ count (table_of store.old.cells.cells) }
-    requires variables { env_of store.old.bank variables.now
-        ≡ values_before (count (table_of store.old.cells.cells)) (length variables.now) }
-    requires heads { applies_heads (close (env_of store.old.bank variables.now) (term_tree store.old.bank head.0))
-        ≡ true }
-    requires vars { HasCells store.old.bank (table_of store.old.cells.cells)
-        (close (env_of store.old.bank variables.now) (term_tree store.old.bank head.0)) }
-    requires new { (x : ℕ) → count (table_of store.old.cells.cells) - length variables.now ≤ x
-        → x < count (table_of store.old.cells.cells)
-        → StandsNowhere store.old.bank (table_of store.old.cells.cells) (term_tree store.old.bank atom.0 ∷ []) x }
-    ensures found { IfOk result (Unifies store.old.bank store.new.bank (table_of store.old.cells.cells)
-        (table_of store.new.cells.cells)
-        (mgu (read_in store.old atom ∷ []) (read_closed store.old variables.now head ∷ [])
-        (table_of store.old.cells.cells).levels)) }
-    ensures keeps { Extends store.old.bank store.new.bank }
-    ensures marks { KeepsMarks (stored store.old) (stored store.new) }
-{
-    let end = in_32_bits(store.cells.len())?;
-    let count = in_32_bits(variables.len())?;
-    let answer = unify_head(store, Environment { end, count }, atom, head)?;
-    Ok(answer)
-}
-
-/// Takes the leaf that a candidate names for the atom in front of the agenda, which has `rest` behind it.
+/// Takes the leaf that a candidate names for the atom in front of the agenda.
 ///
 /// False where its head and the atom don't unify. Then the machine can only go back to a mark. After a refusal it is spent.
 pub fn take_leaf(
     machine: &mut Machine<'_>,
-    alloc: Global,
     atom: At,
-    rest: Top,
+    position: Position,
     candidate: Candidate,
 ) -> Result<bool, OutOfMemory>
     requires fits { Fits (parts_of machine.old) }
     requires left { 0 < machine.old.left }
-    requires front { IsFront (parts_of machine.old) (FormNode.Atom atom) rest }
+    requires front { IsFront (parts_of machine.old) (FormNode.Atom atom) position }
     requires candidate { Contains (tries (state_of (parts_of machine.old))) candidate }
     ensures attempts { IfOk result (Attempts (parts_of machine.old) candidate (parts_of machine.new)) }
     ensures later { IfOk result (λ _. Later machine.old machine.new) }
@@ -193,45 +161,59 @@ pub fn take_leaf(
     let Some(place) = place_with(&machine.context, clauses, candidate.label) else {
         return Ok(false);
     };
-    let entry = machine.context.entry(place);
-    take_leaf_of(machine, alloc, atom, rest, candidate, place, entry)
+    let sign = sign_of_atom(&machine.store.bank, atom);
+    let environment = position.environment;
+    read_args(&mut machine.store, environment, atom, &mut machine.args)?;
+    take_leaf_of(machine, sign, position, candidate, place)
 }
 
-/// Takes a leaf of the entry at a place for the atom in front, as `take_leaf` does.
+/// The sign that an atom begins with.
+#[inline]
+fn sign_of_atom(bank: &Bank, atom: At) -> Head
+    requires inside { HasTerm bank.now atom.0 }
+    requires begins { begins_fixed (term_tree bank.now atom.0) ≡ true }
+    ensures { term_tree bank.now atom.0 ≡ app result (args_in (term_tree bank.now atom.0)) }
+{
+    match bank.term_at(atom) {
+        TermView::App(head, _) => head,
+        TermView::Var(_) => unreachable!(),
+        TermView::Int(_) => unreachable!(),
+    }
+}
+
+/// Takes a leaf of the entry at a place for the atom in front, whose arguments have their places, as `take_leaf` does.
 fn take_leaf_of(
     machine: &mut Machine<'_>,
-    alloc: Global,
-    atom: At,
-    rest: Top,
+    sign: Head,
+    position: Position,
     candidate: Candidate,
     place: usize,
-    entry: Entry<FormAt>,
 ) -> Result<bool, OutOfMemory>
     requires fits { Fits (parts_of machine.old) }
     requires left { 0 < machine.old.left }
-    requires front { IsFront (parts_of machine.old) (FormNode.Atom atom) rest }
-    requires found { entry_at machine.old.context.present.entries candidate.label ≡ Some (resource entry) }
+    requires front { IsAsked (parts_of machine.old) sign machine.old.args.items position }
+    requires inside { place < length machine.old.context.present.entries }
     requires place { place ≡ label_place candidate.label machine.old.context.present.entries }
-    requires among { candidate.leaf < length (ways (form_tree machine.old.store.bank entry.clause.0)) }
+    requires candidate { Contains (tries (state_of (parts_of machine.old))) candidate }
     ensures attempts { IfOk result (Attempts (parts_of machine.old) candidate (parts_of machine.new)) }
     ensures later { IfOk result (λ _. Later machine.old machine.new) }
 {
+    let entry = machine.context.entry(place);
     let label = candidate.label;
     let leaf = candidate.leaf;
-    let before = machine.terms.len();
     let opened = open_leaf(
-        alloc,
         &mut machine.store.bank,
         &mut machine.agenda,
         &mut machine.terms,
-        entry.clause,
-        leaf,
-        rest,
+        Leaf {
+            clause: entry.clause,
+            number: leaf,
+        },
+        position.rest,
     )?;
-    let count = machine.terms.len() - before;
-    add_cells(&mut machine.store, machine.eigens, count)?;
-    let variables = &machine.terms[before..];
-    if !unify_leaf(&mut machine.store, atom, opened.head, variables)? {
+    let own = opened.environment;
+    add_cells(&mut machine.store, machine.eigens, own.count)?;
+    if !unify_args(&mut machine.store, own, sign, &machine.args, opened.head)? {
         return Ok(false);
     }
     use_entry(&mut machine.context, label, place, entry)?;

@@ -1,6 +1,5 @@
 -- The parts of a machine after a call that leaves most of them as they are, for the callers of this crate.
 use Rattle.std.proofs.Common.{◌≡◌, ℕ, zero, suc, ◌+◌, ◌≤◌, ◌^◌, refl, ap, sym, ◌∙◌, subst, true, List, [], ◌∷◌, ◌++◌, map, length, arith, All, length-append}
-use Rattle.std.proofs.lemmas.List.{append-nil}
 use Rattle.std.specs.Prelude.{Option}
 use Rattle.ll_bank.specs.declared.At.{At}
 use Rattle.ll_bank.specs.declared.FormAt.{FormAt}
@@ -142,7 +141,7 @@ fits_kept m n s f h y x c d t i g l e q =
 
 -- more was kept
 pub more_kept : (bank : Nodes) (n k : ℕ) (i : Item) → n ≤ k → HasItem bank n i → HasItem bank k i
-more_kept bank n k (Goal g) l h = h
+more_kept bank n k (Goal g e) l h = h
 more_kept bank n k (LolliEnd b) l h = tt
 more_kept bank n k ImpEnd l h = tt
 more_kept bank n k (Mid a) l h = omega (arith, l, h)

@@ -9,7 +9,7 @@ use Rattle.ll_bank.specs.declared.FormAt.{FormAt}
 use Rattle.ll_bank.specs.Term.{Var, sub}
 use Rattle.ll_bank.specs.Form.{Form, Top, One, Atom, With, Tensor, Plus, Bang, Lolli, Imp, Forall, Exists, Use, Num, sub_form}
 use Rattle.ll_bank.specs.Nodes.{Nodes, HasTerm, HasForm, AllInTerms, Extends, ShowsTerm, term_tree, term_trees, form_tree}
-use Rattle.ll_bank.proofs.CallerLemmas.{HasForm-extends, form_tree-extends, AllInTerms-extends, term_trees-extends}
+use Rattle.ll_bank.proofs.CallerLemmas.{form_empty, HasForm-extends, form_tree-extends, AllInTerms-extends, term_trees-extends}
 use Rattle.ll_laws.specs.declared.Clause.{Clause}
 use Rattle.ll_laws.specs.declared.Kind.{Kind}
 use Rattle.ll_laws.specs.Module.{ClauseTree, ModuleTree}
@@ -26,12 +26,11 @@ use Rattle.ll_laws.proofs.CallerLemmas.{sub_id, subs_id, Grows, formula-more, st
 use Rattle.ll_resources.specs.Resources.{Resources, started, entries_from}
 use Rattle.ll_agenda.specs.Frames.{ShowsItems}
 use Rattle.ll_freeze.specs.Parts.{Parts, table}
-use Rattle.ll_freeze.specs.declared.machine.Item.TheVariants.{Goal}
 use Rattle.ll_unify.specs.Bindings.{Table, IsOrdered}
 use Rattle.ll_unify.proofs.CallerLemmas.{followed-free}
 use Rattle.ll_store.specs.declared.cells.Cell.{Cell}
 use Rattle.ll_freeze.specs.Reading.{reading, read_term, read_form, HasValue}
-use Rattle.ll_freeze.specs.Shown.{shown_item, shown_entry, items_of, state_of}
+use Rattle.ll_freeze.specs.Shown.{closed_goal, shown_item, shown_entry, items_of, state_of}
 use Rattle.ll_freeze.specs.Fits.{HasItem, IsGoalIn, allowed, setting}
 use Rattle.ll_freeze.specs.Calls.{IsStart}
 use Rattle.ll_freeze.specs.Resting.{RestsOn}
@@ -143,7 +142,7 @@ clauses_sorted names ms bank more (c ∷ cs) g h =
 pub starts : (p : ProblemTree) (m : Parts) (goal : FormAt) (cs : List Clause) (n : ℕ) → IsValid p → m.problem ≡ p → form_tree m.bank goal.0 ≡ p.goal
     → HasForm m.bank goal.0
     → map (clause_tree m.bank) cs ≡ p.clauses → HasClauses m.bank cs → n ≡ length p.asked → m.bound ≡ replicate n None → m.levels ≡ replicate n 0
-    → m.resources ≡ started (pairs cs) → ShowsItems m.agenda m.top (Goal goal ∷ []) → m.left ≡ p.bound → m.eigens ≡ 0
+    → m.resources ≡ started (pairs cs) → ShowsItems m.agenda m.top (closed_goal goal ∷ []) → m.left ≡ p.bound → m.eigens ≡ 0
     → AllInTerms m.bank m.terms → term_trees m.bank m.terms ≡ vars_from 0 n → m.steps ≡ []
     → HasModules m.bank m.modules → map (module_tree m.bank) m.modules ≡ p.modules → IsStart p m
 starts p m goal cs n v ep eg hg ec hc en eb el ex it left eigens inside vars es hm em =
@@ -155,7 +154,8 @@ starts p m goal cs n v ep eg hg ec hc en eb el ex it left eigens inside vars es 
     let many : length xs ≡ length p.clauses =
     length-map cs pair_of ∙ (sym (length-map cs (clause_tree bank)) ∙ ap (λ (ks : List ClauseTree). length ks) ec) in
     let items : map (shown_item bank bound m.resources.kept) (items_of m) ≡ GoalOf p.goal ∷ [] =
-    ap (λ ys. map (shown_item bank bound m.resources.kept) ys) it.list ∙ ap (λ f. GoalOf f ∷ []) (form_as_is bank bound reads goal ∙ eg) in
+    ap (λ ys. map (shown_item bank bound m.resources.kept) ys) it.list
+    ∙ ap (λ f. GoalOf f ∷ []) (ap (sub_form (reading bank bound)) (form_empty [] (form_tree bank goal.0) refl) ∙ (form_as_is bank bound reads goal ∙ eg)) in
     let entries : map (shown_entry bank bound) m.resources.entries ≡ program_entries 0 p.clauses =
     ap (λ (s : Resources FormAt). map (shown_entry bank bound) s.entries) r ∙ (entries_as_are bank bound reads 0 cs ∙ ap (λ ks. program_entries 0 ks) ec) in
     let flag = ap (λ (s : Resources FormAt). s.flag) r in
@@ -208,12 +208,16 @@ starts p m goal cs n v ep eg hg ec hc en eb el ex it left eigens inside vars es 
             (clauses_sorted (length p.names) p.modules bank may cs grows cl)));
         sorted_goals =
             rw it.list
-            (All-cons (IsGoalIn (allowed m) bank) (Goal goal) [] (subst (λ (k : Allowed). IsFormula k GoalSide [] (form_tree bank goal.0)) a gl)
+            (All-cons (IsGoalIn (allowed m) bank) (closed_goal goal) [] (
+              record { count = omega arith; end = omega arith },
+              subst (λ (f : Form). IsFormula (allowed m) GoalSide [] f) (sym (form_empty [] (form_tree bank goal.0) refl))
+                  (subst (λ (k : Allowed). IsFormula k GoalSide [] (form_tree bank goal.0)) a gl),
+            )
             (All-nil (IsGoalIn (allowed m) bank)));
         has_modules = hm;
         modules = em ∙ ap (λ (q : ProblemTree). q.modules) (sym ep);
         top = it.inside;
-        items = rw it.list (All-cons (HasItem bank (length m.resources.kept)) (Goal goal) [] hg (All-nil (HasItem bank (length m.resources.kept))));
+        items = rw it.list (All-cons (HasItem bank (length m.resources.kept)) (closed_goal goal) [] hg (All-nil (HasItem bank (length m.resources.kept))));
         labels = let c : length p.clauses ≤ 16777216 = v.clause_count in let b = v.bound in omega (arith, label, left, c, b);
         eigens = let b = v.bound in omega (arith, eigens, left, b);
         keyed = rw r (record {
@@ -228,7 +232,7 @@ starts p m goal cs n v ep eg hg ec hc en eb el ex it left eigens inside vars es 
 pub starts_in : (p : ProblemTree) (b : Nodes) (m : Parts) (goal : FormAt) (cs : List Clause) (n : ℕ) → IsValid p → m.problem ≡ p → Extends b m.bank
     → form_tree b goal.0 ≡ p.goal
     → HasForm b goal.0 → map (clause_tree b) cs ≡ p.clauses → HasClauses b cs → n ≡ length p.asked → m.bound ≡ replicate n None → m.levels ≡ replicate n 0
-    → m.resources ≡ started (pairs cs) → ShowsItems m.agenda m.top (Goal goal ∷ []) → m.left ≡ p.bound → m.eigens ≡ 0
+    → m.resources ≡ started (pairs cs) → ShowsItems m.agenda m.top (closed_goal goal ∷ []) → m.left ≡ p.bound → m.eigens ≡ 0
     → AllInTerms m.bank m.terms → term_trees m.bank m.terms ≡ vars_from 0 n → m.steps ≡ []
     → (ms : List Module) → m.modules ≡ ms → HasModules b ms → map (module_tree b) ms ≡ p.modules → IsStart p m
 starts_in p b m goal cs n v ep k eg hg ec hc en eb el ex it left eigens inside vars es ms sm hm em =

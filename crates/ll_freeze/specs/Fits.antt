@@ -1,6 +1,7 @@
 -- What a machine keeps true.
 use Rattle.std.specs.Prelude.{◌≡◌, ℕ, ◌+◌, ◌≤◌, ◌<◌, ◌^◌, true, [], length, map, All}
 use Rattle.ll_bank.specs.Nodes.{Nodes, HasForm, AllInTerms, term_trees, form_tree}
+use Rattle.ll_bank.specs.Environments.{IsWithin}
 use Rattle.ll_laws.specs.Problem.{setting_of}
 use Rattle.ll_laws.specs.Module.{Setting}
 use Rattle.ll_laws.specs.Shown.{module_tree, HasModules}
@@ -12,7 +13,7 @@ use Rattle.ll_unify.specs.Bindings.{IsOrdered}
 use Rattle.ll_freeze.specs.Parts.{Parts, table}
 use Rattle.ll_freeze.specs.declared.machine.Item.{Item}
 use Rattle.ll_freeze.specs.declared.machine.Item.TheVariants.{Goal, LolliEnd, ImpEnd, Mid, WithEnd, BangEnd}
-use Rattle.ll_freeze.specs.Reading.{HasValue}
+use Rattle.ll_freeze.specs.Reading.{HasValue, goal_tree}
 use Rattle.ll_freeze.specs.Shown.{items_of, state_of}
 use Rattle.ll_freeze.specs.Resting.{RestsOn}
 use Rattle.ll_freeze.specs.Keyed.{AreKeyed}
@@ -23,7 +24,7 @@ setting m = setting_of m.problem
 
 -- a goal is a place of the bank, and marks that an end gives back are among those that were kept
 abbrev pub HasItem : Nodes → ℕ → Item → Type 0
-HasItem bank kept (Goal g) = HasForm bank g.0
+HasItem bank kept (Goal g e) = HasForm bank g.0
 HasItem bank kept (LolliEnd flag) = Unit {0}
 HasItem bank kept ImpEnd = Unit {0}
 HasItem bank kept (Mid saved) = saved.number < kept
@@ -34,9 +35,9 @@ HasItem bank kept (BangEnd saved) = saved.number < kept
 abbrev pub allowed : Parts → Allowed
 allowed m = record { modules = (setting m).modules; variables = length m.levels; eigens = m.eigens; opens = true }
 
--- a goal is one as it stands in the bank, before it is read
+-- a goal is one as it stands in the bank under its environment, before it is read
 abbrev pub IsGoalIn : Allowed → Nodes → Item → Type 0
-IsGoalIn may bank (Goal g) = IsFormula may GoalSide [] (form_tree bank g.0)
+IsGoalIn may bank (Goal g e) = IsWithin may.variables e × IsFormula may GoalSide [] (goal_tree bank e g)
 IsGoalIn may bank (LolliEnd flag) = Unit {0}
 IsGoalIn may bank ImpEnd = Unit {0}
 IsGoalIn may bank (Mid saved) = Unit {0}

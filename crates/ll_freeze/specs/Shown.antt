@@ -2,21 +2,29 @@
 use Rattle.std.specs.Prelude.{List, map, Option}
 use Rattle.ll_bank.specs.declared.At.{At}
 use Rattle.ll_bank.specs.declared.FormAt.{FormAt}
+use Rattle.ll_bank.specs.declared.environment.Environment.{Environment}
 use Rattle.ll_bank.specs.Form.{Form}
 use Rattle.ll_bank.specs.Nodes.{Nodes}
 use Rattle.ll_laws.specs.Settle.{Saved, Entry, Item, Goal, LolliEnd, ImpEnd, WithMiddle, WithEnd, BangEnd, map_entry}
 use Rattle.ll_laws.specs.State.{State}
 use Rattle.ll_agenda.specs.Frames.{items_at}
 use Rattle.ll_resources.specs.Resources.{saved_at}
-use Rattle.ll_freeze.specs.Reading.{read_term, read_form}
+use Rattle.ll_freeze.specs.Reading.{read_term, read_form, read_goal}
 use Rattle.ll_freeze.specs.Parts.{Parts}
 use Rattle.ll_freeze.specs.declared.machine.Item.{Item as KeptItem}
 use Rattle.ll_freeze.specs.declared.machine.Item.TheVariants.{Goal as KeptGoal, LolliEnd as KeptLolliEnd, ImpEnd as KeptImpEnd, Mid as KeptMiddle}
 use Rattle.ll_freeze.specs.declared.machine.Item.TheVariants.{WithEnd as KeptWithEnd, BangEnd as KeptBangEnd}
 
+-- the environment of a goal with no free bound place, and such a goal
+abbrev pub no_variables : Environment
+no_variables = record { end = 0; count = 0 }
+
+abbrev pub closed_goal : FormAt → KeptItem
+closed_goal g = KeptGoal g no_variables
+
 -- an item of an agenda, over what was kept of the context
 abbrev pub shown_item : Nodes → List (Option At) → List Saved → KeptItem → Item Form
-shown_item bank bound kept (KeptGoal g) = Goal (read_form bank bound g)
+shown_item bank bound kept (KeptGoal g e) = Goal (read_goal bank bound e g)
 shown_item bank bound kept (KeptLolliEnd flag) = LolliEnd flag
 shown_item bank bound kept KeptImpEnd = ImpEnd
 shown_item bank bound kept (KeptMiddle saved) = WithMiddle (saved_at kept saved)

@@ -2,11 +2,12 @@
 ghost use Rattle.std.specs.Prelude.{◌≡◌};
 ghost use Rattle.ll_store.specs.Stored.{state_of as store_of, stored};
 ghost use Rattle.ll_freeze.specs.Parts.{parts_of};
+ghost use Rattle.ll_freeze.specs.Shown.{closed_goal};
 ghost use Rattle.ll_freeze.specs.Rested.{parts_with};
 
 use crate::rest::Rest;
 use ll_agenda::{Agenda, Top};
-use ll_bank::{At, FormAt};
+use ll_bank::{At, Environment, FormAt};
 use ll_laws::{Module, Problem, Step};
 use ll_resources::{Context, Saved};
 use ll_store::Store;
@@ -14,8 +15,8 @@ use ll_store::Store;
 /// An item of an agenda: a goal, or the end of one.
 #[derive(Clone, Copy)]
 pub enum Item {
-    /// A goal.
-    Goal(FormAt),
+    /// A goal, whose free bound places stand for the variables of an environment.
+    Goal(FormAt, Environment),
     /// The end of `-o`, with the flag from before.
     LolliEnd(bool),
     /// The end of `=>`.
@@ -26,6 +27,16 @@ pub enum Item {
     WithEnd(Saved, Saved),
     /// The end of `{}`, with the live marks and the flag from before.
     BangEnd(Saved),
+}
+
+impl Item {
+    /// A goal with no free bound place.
+    #[inline]
+    pub fn closed(goal: FormAt) -> Item
+        ensures { result ≡ closed_goal goal }
+    {
+        Item::Goal(goal, Environment { end: 0, count: 0 })
+    }
 }
 
 /// One state of a search, with the number of inferences that a branch may still make.
@@ -48,6 +59,8 @@ pub struct Machine<'p> {
     /// The variables, in the order of their numbers, those asked for first.
     pub terms: Vec<At>,
     pub steps: Vec<Step>,
+    /// Room for the arguments of an atom during an inference.
+    pub args: Vec<At>,
 }
 
 // Written out, so that a proof sees one call where it goes, and not one for each part.
@@ -64,6 +77,7 @@ impl Drop for Machine<'_> {
             eigens: _,
             terms: _,
             steps: _,
+            args: _,
         } = self;
     }
 }
@@ -91,6 +105,7 @@ impl<'p> Machine<'p> {
             eigens,
             terms,
             steps,
+            args: _,
         } = self;
         let rest = Rest {
             problem,

@@ -95,6 +95,7 @@ impl<'p> Rest<'p> {
             terms,
             steps,
         } = self.image()?;
+        let alloc = *steps.allocator();
         Ok(Machine {
             problem,
             modules,
@@ -106,6 +107,7 @@ impl<'p> Rest<'p> {
             eigens,
             terms,
             steps,
+            args: Vec::new(alloc),
         })
     }
 }

@@ -23,7 +23,7 @@ impl<'p> Machine<'p> {
         let clauses = resources_of(alloc, &problem.clauses)?;
         let context = Context::start(alloc, &clauses)?;
         let mut agenda = Agenda::new(alloc);
-        let top = agenda.push(Item::Goal(problem.goal), Agenda::<Item>::none())?;
+        let top = agenda.push(Item::closed(problem.goal), Agenda::<Item>::none())?;
         let (store, terms) = first_store(alloc, &problem.bank, problem.asked.len())?;
         Ok(Machine {
             problem,
@@ -36,6 +36,7 @@ impl<'p> Machine<'p> {
             eigens: 0,
             terms,
             steps: Vec::new(alloc),
+            args: Vec::new(alloc),
         })
     }
 }

@@ -268,6 +268,13 @@ same_front xs ys (z ∷ zs) e l =
 
 -- ---- places
 
+-- the first of two lists in a row
+pub take-front : {A : Type 0} (xs ys : List A) (n : ℕ) → length xs ≡ n → take n (xs ++ ys) ≡ xs
+take-front [] ys zero e = refl
+take-front [] ys (suc n) e = absurd (omega (arith, e))
+take-front (x ∷ xs) ys zero e = absurd (omega (arith, e))
+take-front (x ∷ xs) ys (suc n) e = ap (λ zs. x ∷ zs) (take-front xs ys n (omega (arith, e)))
+
 -- from a place of a list to its end there is less after a step
 pub fewer_left : (n i : ℕ) → i < n → n - (i + 1) < n - i
 fewer_left n i l = omega arith

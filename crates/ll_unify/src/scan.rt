@@ -140,15 +140,14 @@ fn pass<T: Bindings>(
     while next < args.len() {
         let end = walk(bank, table, args[next]);
         next += 1;
-        if !seen.has(end) {
-            if !arguments(bank, end).is_empty() {
-                frames.push(Frame { at: frame.at, next })?;
-                frames.push(Frame { at: end, next: 0 })?;
-                return Ok(true);
-            }
-            if !seen.done(bank, var, level, end)? {
+        if arguments(bank, end).is_empty() {
+            if !seen.look(bank, var, level, end)? {
                 return Ok(false);
             }
+        } else if !seen.has(end) {
+            frames.push(Frame { at: frame.at, next })?;
+            frames.push(Frame { at: end, next: 0 })?;
+            return Ok(true);
         }
     }
     seen.done(bank, var, level, frame.at)
@@ -173,7 +172,7 @@ pub fn scan<T: Bindings>(
         (sub (found bank.now (T.table table.now)) (term_tree bank.now start.0)) good) }
 {
     if arguments(bank, start).is_empty() {
-        return seen.done(bank, var, level, start);
+        return seen.look(bank, var, level, start);
     }
     let mut frames = Frames::new(alloc);
     let mut frame = Frame { at: start, next: 0 };

@@ -98,7 +98,7 @@ standing_extends old new e (v ∷ vs) h =
     let q = standing_extends old new e vs (All-tail (λ (b : At). b.0 < length old.terms) v vs h) in
     λ i. Some (p i) ∷ q i
 
-pub env_extends : (old new : Nodes) (e : Extends old new) (vs : List At) → AllInTerms old vs → env_of new vs ≡ env_of old vs
+env_extends : (old new : Nodes) (e : Extends old new) (vs : List At) → AllInTerms old vs → env_of new vs ≡ env_of old vs
 env_extends old new e vs h = ap reverse (standing_extends old new e vs h)
 
 pub HasValues-extends : {old new : Nodes} → Extends old new → (values : Values) → HasValues old values → HasValues new values

@@ -8,12 +8,11 @@ ghost use Rattle.ll_bank.specs.Opened.{Spot, AreImages, ArePartsOf, form_parts_a
 ghost use Rattle.ll_bank.specs.Closing.{env_in, HasValues, under, same_spot, IsTermImage, IsFormImage, IsGoodForm, IsNum};
 ghost use Rattle.ll_bank.specs.Stacks.{visit, ready, AreImagesOf, EndsWith};
 
-use crate::closing::flat::{FEW, all_at_hand};
 use crate::closing::images::Images;
 use crate::closing::stack::{Task, push_part};
-use crate::closing::term::{close_term, closed_head, closed_term};
+use crate::closing::term::{close_term, closed_shallow, closed_term};
 use crate::closing::values::Values;
-use crate::{At, Bank, FormAt, FormNode, OutOfMemory, TermView};
+use crate::{At, Bank, FormAt, FormNode, OutOfMemory};
 use std::alloc::Global;
 
 /// A formula so deep at most, its atoms counted, is closed by calls of `closed_flat`, a deeper one with stacks.
@@ -46,6 +45,9 @@ pub fn close_form(
             let atom = close_term(alloc, bank, atom, values)?;
             share_form(bank, form, FormNode::Atom(atom))
         }
+        FormNode::Is(_, _) => close_number_goal(alloc, bank, form, values),
+        FormNode::Less(_, _) => close_number_goal(alloc, bank, form, values),
+        FormNode::Most(_, _) => close_number_goal(alloc, bank, form, values),
         _ => match closed_flat(alloc, bank, form, 0, values, SHALLOW)? {
             Some(image) => Ok(image),
             None => close_deep(alloc, bank, form, values),
@@ -53,9 +55,32 @@ pub fn close_form(
     }
 }
 
+/// The whole-number goal at a place with values for its free bound places.
+fn close_number_goal(
+    alloc: Global,
+    bank: &mut Bank,
+    form: FormAt,
+    values: Values<'_>,
+) -> Result<FormAt, OutOfMemory>
+    requires inside { HasForm bank.old form.0 }
+    requires number { IsNum (form_tree bank.old form.0) }
+    requires values { HasValues bank.old values }
+    requires heads { form_applies_heads (close_form (env_in bank.old values) (form_tree bank.old form.0)) ≡ true }
+    ensures shows { IfOk result (λ made. ShowsForm bank.new made.0
+        (close_form (env_in bank.old values.entry) (form_tree bank.old form.0))) }
+    ensures keeps { Extends bank.old bank.new }
+{
+    let task = Task {
+        place: place_of(form),
+        level: 0,
+        ready: true,
+    };
+    let mut terms = Images::new(alloc);
+    closed_number_goal(alloc, bank, task, values, &mut terms)
+}
+
 /// The image of a formula at a level, by calls of itself. None where it is deeper than `depth`, its atoms counted, where it holds a load
-/// or a whole-number goal, or where an argument of an atom has arguments or no place that shows its image; the bank may then have more
-/// places.
+/// or a whole-number goal, or where an atom has many arguments or one that has arguments itself; the bank may then have more places.
 #[cycle(flat)]
 fn closed_flat(
     alloc: Global,
@@ -176,7 +201,7 @@ fn closed_pair(
     }
 }
 
-/// The image of an atom, where the images of its arguments are at hand, and else None.
+/// The image of an atom, as `closed_shallow` makes that of its term.
 fn closed_atom(
     alloc: Global,
     bank: &mut Bank,
@@ -194,18 +219,9 @@ fn closed_atom(
         (Atom (close (under (env_in bank.old values.entry) level) (term_tree bank.old atom.0))))) }
     ensures keeps { Extends bank.old bank.new }
 {
-    match bank.term_at(atom) {
-        TermView::Var(_) => some_shared(bank, form, FormNode::Atom(atom)),
-        TermView::Int(_) => some_shared(bank, form, FormNode::Atom(atom)),
-        TermView::App(head, args) => {
-            let count = args.len();
-            let mut own = [At(0); FEW];
-            if !all_at_hand(bank, args, level, values, &mut own) {
-                return Ok(None);
-            }
-            let image = closed_head(alloc, bank, atom, level, values, head, &own[..count])?;
-            some_shared(bank, form, FormNode::Atom(image))
-        }
+    match closed_shallow(alloc, bank, atom, level, values)? {
+        Some(image) => some_shared(bank, form, FormNode::Atom(image)),
+        None => Ok(None),
     }
 }
 

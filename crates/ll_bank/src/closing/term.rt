@@ -1,5 +1,5 @@
 //! Terms with values in place of their free bound places.
-ghost use Rattle.std.specs.Prelude.{◌≡◌, ◌-◌, ◌++◌, ◌∷◌, [], true, length, map, take, reverse, All, IfOk, OnOk};
+ghost use Rattle.std.specs.Prelude.{◌≡◌, ◌-◌, ◌<◌, ◌⊎◌, ◌++◌, ◌∷◌, [], true, length, map, take, reverse, All, Any, IfOk, IfSome, IfNone, OnOk};
 ghost use Rattle.std.specs.HashMap.{get};
 ghost use Rattle.ll_bank.specs.Term.{close, close_head, place, apply, app as app_term, applies_heads};
 ghost use Rattle.ll_bank.specs.Nodes.{term_tree, term_trees, HasTerm, AllInTerms, ShowsTerm, Extends};
@@ -7,7 +7,7 @@ ghost use Rattle.ll_bank.specs.Opened.{AreImages, ArePartsOf, term_parts_at, ter
 ghost use Rattle.ll_bank.specs.Closing.{env_in, HasValues, under, same_spot, IsTermImage, IsGoodTerm};
 ghost use Rattle.ll_bank.specs.Stacks.{visit, ready, EndsWith};
 
-use crate::closing::flat::{FEW, all_at_hand};
+use crate::closing::flat::{FEW, close_each};
 use crate::closing::images::Images;
 use crate::closing::stack::{Task, push_arguments, push_part};
 use crate::closing::values::Values;
@@ -60,16 +60,46 @@ pub(crate) fn closed_term(
         (get same_spot images.new.places)) }
     ensures keeps { Extends bank.old bank.new }
 {
+    match closed_shallow(alloc, bank, at, level, values)? {
+        Some(image) => Ok(image),
+        None => closed_deep(alloc, bank, at, level, values, images),
+    }
+}
+
+/// The image of a term at a level; none where it has many arguments, or one that has arguments itself, and then the bank may have more
+/// places.
+#[inline(always)]
+pub(crate) fn closed_shallow(
+    alloc: Global,
+    bank: &mut Bank,
+    at: At,
+    level: usize,
+    values: Values<'_>,
+) -> Result<Option<At>, OutOfMemory>
+    requires inside { HasTerm bank.old at.0 }
+    requires values { HasValues bank.old values }
+    requires heads { applies_heads (close (under (env_in bank.old values) level) (term_tree bank.old at.0)) ≡ true }
+    ensures shows { IfOk result (λ made. IfSome made (λ image. ShowsTerm bank.new image.0
+        (close (under (env_in bank.old values.entry) level) (term_tree bank.old at.0)))) }
+    ensures none { IfOk result (λ made. IfNone made ((8 < length (term_parts_at bank.old (at.0, level)))
+        ⊎ Any (λ k. (term_parts_at bank.old k ≡ []) → ⊥) (term_parts_at bank.old (at.0, level)))) }
+    ensures keeps { Extends bank.old bank.new }
+{
     match bank.term_at(at) {
-        TermView::Var(_) => Ok(at),
-        TermView::Int(_) => Ok(at),
+        TermView::Var(_) => Ok(Some(at)),
+        TermView::Int(_) => Ok(Some(at)),
         TermView::App(head, args) => {
             let count = args.len();
+            if count > FEW {
+                return Ok(None);
+            }
             let mut own = [At(0); FEW];
-            if all_at_hand(bank, args, level, values, &mut own) {
-                closed_head(alloc, bank, at, level, values, head, &own[..count])
+            own[..count].copy_from_slice(args);
+            if close_each(bank, &mut own[..count], level, values)? {
+                let image = closed_head(alloc, bank, at, level, values, head, &own[..count])?;
+                Ok(Some(image))
             } else {
-                closed_deep(alloc, bank, at, level, values, images)
+                Ok(None)
             }
         }
     }

@@ -27,26 +27,7 @@ impl Values<'_> {
         }
     }
 
-    /// A place that shows the value of a bound place, of which the innermost has number 0, where each bank with the values has one.
-    #[inline]
-    pub(crate) fn place(self, bound: u32) -> Option<At>
-        ensures { (nodes : Nodes) (n : ℕ) → HasValues nodes self.entry
-            → IfSome result (λ at. ShowsTerm nodes at.0 (place (env_in nodes self.entry) bound n)) }
-    {
-        match self {
-            Values::Places(values) => {
-                let number = bound as usize;
-                if number < values.len() {
-                    Some(values[values.len() - 1 - number])
-                } else {
-                    None
-                }
-            }
-            Values::Variables(_) => None,
-        }
-    }
-
-    /// A place that shows the value of a bound place, which may be new; none where it has no value.
+    /// A place that shows the value of a bound place, of which the innermost has number 0; none where it has no value. The bank may have one place more.
     #[inline]
     pub(crate) fn value(self, bank: &mut Bank, bound: u32) -> Result<Option<At>, OutOfMemory>
         requires { HasValues bank.old self }

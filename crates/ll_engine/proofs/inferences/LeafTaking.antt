@@ -1,9 +1,12 @@
 -- A leaf as it is opened, given new cells and unified with the atom in front, by what the machine and the store hold.
-use Rattle.std.proofs.Common.{◌≡◌, ℕ, ◌-◌, List, ◌∷◌, [], ◌++◌, length, replicate, take, drop, arith, Some, None, Bool, true, false}
+use Rattle.std.proofs.Common.{◌≡◌, ℕ, List, ◌∷◌, [], ◌++◌, length, replicate, ap, Some, None, Bool, true, false}
 use Rattle.ll_bank.specs.declared.At.{At}
 use Rattle.ll_bank.specs.declared.FormAt.{FormAt}
-use Rattle.ll_bank.specs.declared.FormNode.TheVariants.{Atom as AtomView}
-use Rattle.ll_bank.specs.Nodes.{Nodes, Extends}
+use Rattle.ll_bank.specs.declared.Head.{Head}
+use Rattle.ll_bank.specs.declared.environment.Environment.{Environment}
+use Rattle.ll_bank.specs.Environments.{values_in}
+use Rattle.ll_bank.specs.Term.{app, close, sub}
+use Rattle.ll_bank.specs.Nodes.{Nodes, Extends, term_tree, term_trees}
 use Rattle.ll_laws.specs.Settle.{Entry}
 use Rattle.ll_laws.specs.Unify.{mgu}
 use Rattle.ll_laws.specs.Attempt.{entry_at, attempt}
@@ -15,65 +18,55 @@ use Rattle.ll_store.specs.Tables.{table_of}
 use Rattle.ll_freeze.specs.declared.machine.Machine.{Machine}
 use Rattle.ll_freeze.specs.declared.machine.Item.{Item}
 use Rattle.ll_freeze.specs.Parts.{Parts, parts_of}
+use Rattle.ll_freeze.specs.Reading.{reading}
 use Rattle.ll_freeze.specs.Shown.{state_of}
 use Rattle.ll_freeze.specs.Fits.{Fits, setting}
 use Rattle.ll_engine.specs.Attempts.{Infers}
-use Rattle.ll_engine.specs.Front.{IsFront}
+use Rattle.ll_engine.specs.declared.attempt.Position.{Position}
+use Rattle.ll_engine.specs.Front.{IsAsked}
 use Rattle.ll_engine.specs.Opening.{Opens}
-use Rattle.ll_engine.specs.Taking.{read_in, read_closed, Unifies}
-use Rattle.ll_engine.proofs.machine.CellLemmas.{slice_is}
+use Rattle.ll_engine.specs.Taking.{Unifies}
 use Rattle.ll_engine.proofs.machine.ReadLemmas.{cells_bound, cells_levels}
-use Rattle.ll_engine.proofs.inferences.TakingLemmas.{count_is, IsReady, ready_in, finds_in, IsMoved, none_taken, some_taken}
+use Rattle.ll_engine.proofs.inferences.TakingLemmas.{IsReady, ready_in, finds_in, IsMoved, none_taken, some_taken}
 
--- the terms lent from a place on
-abbrev pub lent_from : ℕ → List At → List At
-lent_from before lent = take (length lent - before) (drop before lent)
+module _ (m : Machine) (f : Fits (parts_of m)) (label : ℕ) (e : Entry FormAt) (found : entry_at m.context.present.entries label ≡ Some e) (p : Position) (k : ℕ)
+    (mid : Nodes) (now : Frames Item) (terms : List At) (head : At) (own : Environment) (top : Top) (keeps : Extends m.store.bank mid)
+    (o : Opens m.store.bank (items_at m.agenda p.rest) (length m.terms.items) e.clause.0 k mid now terms head own top)
+    (sign : Head) (args : List At) (h : IsAsked (parts_of m) sign args p) (store : Store) (same : store.bank ≡ mid)
+    (cells : store.cells.cells ≡ m.store.cells.cells ++ replicate own.count (record { to = None; level = m.eigens })) where
+  pub bound_is : (table_of store.cells.cells).bound ≡ (table_of m.store.cells.cells).bound ++ replicate o.count None
+  bound_is = cells_bound m.store.cells.cells store.cells.cells own.count o.count m.eigens cells (ap (λ (e : Environment). e.count) o.own_is)
 
-module _ (m : Machine) (f : Fits (parts_of m)) (label : ℕ) (e : Entry FormAt) (found : entry_at m.context.present.entries label ≡ Some e) (rest : Top) (k : ℕ)
-    (mid : Nodes) (now : Frames Item) (terms : List At) (head : At) (top : Top) (keeps : Extends m.store.bank mid)
-    (o : Opens m.store.bank (items_at m.agenda rest) (length m.terms.items) e.clause.0 k mid now terms head top) where
-  -- the leaf has so many terms more
-  pub added : (size before : ℕ) → size ≡ length terms → before ≡ length m.terms.items → size - before ≡ o.count
-  added size before s b = let n = count_is (parts_of m) f label e found rest k mid now terms head top keeps o in omega arith
+  pub levels_are : (table_of store.cells.cells).levels ≡ (table_of m.store.cells.cells).levels ++ replicate o.count m.eigens
+  levels_are = cells_levels m.store.cells.cells store.cells.cells own.count o.count m.eigens cells (ap (λ (e : Environment). e.count) o.own_is)
 
-  module _ (atom : At) (h : IsFront (parts_of m) (AtomView atom) rest) (size before : ℕ) (s : size ≡ length terms) (b : before ≡ length m.terms.items)
-      (store : Store) (same : store.bank ≡ mid)
-      (cells : store.cells.cells ≡ m.store.cells.cells ++ replicate (size - before) (record { to = None; level = m.eigens })) (lent : List At)
-      (is : lent ≡ terms) where
-    pub bound_is : (table_of store.cells.cells).bound ≡ (table_of m.store.cells.cells).bound ++ replicate o.count None
-    bound_is = cells_bound m.store.cells.cells store.cells.cells (size - before) o.count m.eigens cells (added size before s b)
+  -- what unification tells
+  abbrev pub Told : Nodes → Table → Bool → Type 0
+  Told last after ok = Unifies store.bank last (table_of store.cells.cells) after
+      (mgu (sub (reading store.bank (table_of store.cells.cells).bound) (app sign (term_trees store.bank args)) ∷ [])
+      (sub (reading store.bank (table_of store.cells.cells).bound) (close (values_in own) (term_tree store.bank head.0)) ∷ [])
+      (table_of store.cells.cells).levels) ok
 
-    pub levels_are : (table_of store.cells.cells).levels ≡ (table_of m.store.cells.cells).levels ++ replicate o.count m.eigens
-    levels_are = cells_levels m.store.cells.cells store.cells.cells (size - before) o.count m.eigens cells (added size before s b)
+  -- unification may be asked for, and makes the inference or none
+  pub record LeafFacts : Type 0 where
+    pub ready : IsReady (parts_of m) f label e found p k mid now terms head own top keeps o sign args h (table_of store.cells.cells) bound_is levels_are
+        store.bank
+    pub none : (last : Nodes) (after : Table) (ok : Bool) → ok ≡ false → Told last after ok
+        → attempt (setting (parts_of m)) (state_of (parts_of m)) (record { label = label; leaf = k }) ≡ None
+    pub some : (last : Nodes) (after : Table) (new : Parts) (ok : Bool) → ok ≡ true → Told last after ok
+        → IsMoved (parts_of m) f label e found p k mid now terms head own top keeps o sign args h (table_of store.cells.cells) bound_is levels_are last
+        after new
+        → Infers (parts_of m) (record { label = label; leaf = k }) new
 
-    own_is : lent_from before lent ≡ drop (length m.terms.items) terms
-    own_is = slice_is lent terms before (length m.terms.items) is b
-
-    -- unification may be asked for, and makes the inference or none
-    pub record LeafFacts : Type 0 where
-      pub ready : IsReady (parts_of m) f label e found rest k mid now terms head top keeps o atom h (table_of store.cells.cells) bound_is levels_are store.bank
-          (lent_from before lent)
-      pub none : (last : Nodes) (after : Table) (ok : Bool) → ok ≡ false
-          → Unifies store.bank last (table_of store.cells.cells) after (mgu (read_in store atom ∷ []) (read_closed store (lent_from before lent) head ∷ [])
-          (table_of store.cells.cells).levels) ok
-          → attempt (setting (parts_of m)) (state_of (parts_of m)) (record { label = label; leaf = k }) ≡ None
-      pub some : (last : Nodes) (after : Table) (new : Parts) (ok : Bool) → ok ≡ true
-          → Unifies store.bank last (table_of store.cells.cells) after (mgu (read_in store atom ∷ []) (read_closed store (lent_from before lent) head ∷ [])
-          (table_of store.cells.cells).levels) ok
-          → IsMoved (parts_of m) f label e found rest k mid now terms head top keeps o atom h (table_of store.cells.cells) bound_is levels_are last after new
-          → Infers (parts_of m) (record { label = label; leaf = k }) new
-
-    pub leaf_facts : LeafFacts
-    leaf_facts =
-        let p = parts_of m in
-        let start = table_of store.cells.cells in
-        let own = lent_from before lent in
-        record {
-          ready = ready_in p f label e found rest k mid now terms head top keeps o atom h start bound_is levels_are store.bank own same own_is;
-          none = λ last after ok q u. none_taken p f label e found rest k mid now terms head top keeps o atom h start bound_is levels_are last after
-              (finds_in p f label e found rest k mid now terms head top keeps o atom h start bound_is levels_are store.bank last own after ok false same own_is
-              q u);
-          some = λ last after new ok q u t. some_taken p f label e found rest k mid now terms head top keeps o atom h start bound_is levels_are last after new
-              t (finds_in p f label e found rest k mid now terms head top keeps o atom h start bound_is levels_are store.bank last own after ok true same
-              own_is q u);
-        }
+  pub leaf_facts : LeafFacts
+  leaf_facts =
+      let q = parts_of m in
+      let start = table_of store.cells.cells in
+      record {
+        ready = ready_in q f label e found p k mid now terms head own top keeps o sign args h start bound_is levels_are store.bank same;
+        none = λ last after ok r u. none_taken q f label e found p k mid now terms head own top keeps o sign args h start bound_is levels_are last after
+            (finds_in q f label e found p k mid now terms head own top keeps o sign args h start bound_is levels_are store.bank last after ok false same r u);
+        some = λ last after new ok r u t. some_taken q f label e found p k mid now terms head own top keeps o sign args h start bound_is levels_are last after
+            new t (finds_in q f label e found p k mid now terms head own top keeps o sign args h start bound_is levels_are store.bank last after ok true
+            same r u);
+      }

@@ -26,7 +26,8 @@ use Rattle.ll_modules.specs.Loads.{arguments_env, AreClosed, MayLoad}
 use Rattle.ll_freeze.specs.Parts.{Parts}
 use Rattle.ll_freeze.specs.declared.machine.Item.{Item}
 use Rattle.ll_freeze.specs.declared.machine.Item.TheVariants.{Goal}
-use Rattle.ll_freeze.specs.Reading.{reading}
+use Rattle.ll_freeze.specs.Reading.{reading, goal_tree}
+use Rattle.ll_bank.specs.declared.environment.Environment.{Environment}
 use Rattle.ll_freeze.specs.Shown.{shown_item, items_of}
 use Rattle.ll_freeze.specs.Fits.{Fits, allowed}
 use Rattle.ll_engine.specs.Attempts.{Infers}
@@ -88,12 +89,13 @@ pub record IsLoading (m : Parts) (body : FormAt) (args : List At) (rest : List I
   pub heads : MayLoad m.bank d.clauses.items (term_trees m.bank args)
   pub row : (new : Parts) (c : Candidate) → Loads m d args body rest new → Infers m c new
 
-module _ (m : Parts) (g body : FormAt) (k : ℕ) (args : List At) (rest : List Item) (f : Fits m) (e1 : items_of m ≡ Goal g ∷ rest)
-    (e2 : form_tree m.bank g.0 ≡ Use k (term_trees m.bank args) (form_tree m.bank body.0)) where
+module _ (m : Parts) (g : FormAt) (env : Environment) (body : FormAt) (k : ℕ) (args : List At) (rest : List Item) (f : Fits m)
+    (e1 : items_of m ≡ Goal g env ∷ rest)
+    (e2 : goal_tree m.bank env g ≡ Use k (term_trees m.bank args) (form_tree m.bank body.0)) where
   -- it names a module
   pub is_known : k < length m.modules
   is_known =
-      let h = goal_fits m g rest (Use k (term_trees m.bank args) (form_tree m.bank body.0)) f e1 e2 in
+      let h = goal_fits m g env rest (Use k (term_trees m.bank args) (form_tree m.bank body.0)) f e1 e2 in
       let l = known_module m.problem.modules k (term_trees m.bank args) h.1 in
       let n : length m.modules ≡ length m.problem.modules =
       sym (length-map m.modules (module_tree m.bank)) ∙ ap (λ (ms : List ModuleTree). length ms) f.modules in
@@ -108,12 +110,12 @@ module _ (m : Parts) (g body : FormAt) (k : ℕ) (args : List At) (rest : List I
 
     count_is : length (term_trees m.bank args) ≡ d.params
     count_is =
-        let h = goal_fits m g rest (Use k (term_trees m.bank args) (form_tree m.bank body.0)) f e1 e2 in
+        let h = goal_fits m g env rest (Use k (term_trees m.bank args) (form_tree m.bank body.0)) f e1 e2 in
         eqb-true (length (term_trees m.bank args)) d.params (subst (λ (o : Option ModuleTree). fits_module o (term_trees m.bank args) ≡ true) tree_is h.1)
 
     fits_load : FormFits (allowed m) GoalSide [] (unfold_load (module_tree m.bank d) (term_trees m.bank args) (form_tree m.bank body.0))
     fits_load =
-        let h = goal_fits m g rest (Use k (term_trees m.bank args) (form_tree m.bank body.0)) f e1 e2 in let ms = m.problem.modules in
+        let h = goal_fits m g env rest (Use k (term_trees m.bank args) (form_tree m.bank body.0)) f e1 e2 in let ms = m.problem.modules in
         let low : 0 ≤ length m.levels = omega arith in
         let cf = module-fits (length m.problem.names) ms ms (allowed m) k (module_tree m.bank d) (grows_given ms 0 (length m.levels) m.eigens low)
         f.valid.modules tree_is in
@@ -123,16 +125,16 @@ module _ (m : Parts) (g body : FormAt) (k : ℕ) (args : List At) (rest : List I
     use_count = sym (length-map args (λ (a : At). term_tree m.bank a.0)) ∙ count_is
 
     use_closed : AreClosed (term_trees m.bank args)
-    use_closed = all_closed (allowed m) (term_trees m.bank args) (goal_fits m g rest (Use k (term_trees m.bank args) (form_tree m.bank body.0)) f e1 e2).2
+    use_closed = all_closed (allowed m) (term_trees m.bank args) (goal_fits m g env rest (Use k (term_trees m.bank args) (form_tree m.bank body.0)) f e1 e2).2
 
     use_clauses : HasClauses m.bank d.clauses.items
     use_clauses = clauses_at m.bank m.modules k d e f.has_modules
 
     use_heads : MayLoad m.bank d.clauses.items (term_trees m.bank args)
     use_heads =
-        let env = arguments_env (term_trees m.bank args) in
-        load_heads_of env m.bank d.clauses.items (form_tree m.bank body.0)
-        (forall_heads_of d.locals (load_all env (map (clause_tree m.bank) d.clauses.items) (form_tree m.bank body.0))
+        let values = arguments_env (term_trees m.bank args) in
+        load_heads_of values m.bank d.clauses.items (form_tree m.bank body.0)
+        (forall_heads_of d.locals (load_all values (map (clause_tree m.bank) d.clauses.items) (form_tree m.bank body.0))
         (fits_apply (allowed m) GoalSide [] (unfold_load (module_tree m.bank d) (term_trees m.bank args) (form_tree m.bank body.0)) fits_load))
 
     use_row : (new : Parts) (c : Candidate) → Loads m d args body rest new → Infers m c new
@@ -146,9 +148,9 @@ module _ (m : Parts) (g body : FormAt) (k : ℕ) (args : List At) (rest : List I
         let sorted = formula-more (allowed m) (allowed new) GoalSide (unfold_load t ts p) grows
         (formula_of_fits (allowed m) GoalSide [] (unfold_load t ts p) fits_load) in
         let cf = module-fits (length m.problem.names) ms ms (given ms 0) k t (grows-refl (given ms 0)) f.valid.modules tree_is in
-        still m new g rest c (unfold_load t ts p) f e1 o w.bound w.levels w.terms (omega (arith, x)) (omega (arith, x)) sorted
-        (attempt_by m g rest c (Use k ts p) e1 e2
-        ∙ (ap (λ o. load_module (at_goal m g rest) (map (shown_item m.bank m.bound m.resources.kept) rest) (map (sub s) ts) (sub_form s p) o) tree_is
+        still m new g env rest c (unfold_load t ts p) f e1 o w.bound w.levels w.terms (omega (arith, x)) (omega (arith, x)) sorted
+        (attempt_by m g env rest c (Use k ts p) e1 e2
+        ∙ (ap (λ o. load_module (at_goal m g env rest) (map (shown_item m.bank m.bound m.resources.kept) rest) (map (sub s) ts) (sub_form s p) o) tree_is
         ∙ (ap (λ h. Some (still_state m h rest m.eigens)) (sym (unfold_sub s (closing m f) ms (module_scope t) t ts p cf))
         ∙ ap (λ e. Some (still_state m (sub_form s (unfold_load t ts p)) rest e)) (sym x))))
 

@@ -6,6 +6,7 @@ use Rattle.std.specs.Prelude.{ℤ, option_map, if◌then◌else◌, int_lt, int_
 use Rattle.std.proofs.lemmas.List.Elements.{All-weaker}
 use Rattle.ll_bank.specs.declared.At.{At}
 use Rattle.ll_bank.specs.declared.FormAt.{FormAt}
+use Rattle.ll_bank.specs.declared.environment.Environment.{Environment}
 use Rattle.ll_bank.specs.declared.FormNode.{FormNode}
 use Rattle.ll_bank.specs.declared.FormNode.TheVariants.{Is as IsView, Less as LessView, Most as MostView}
 use Rattle.ll_bank.specs.Term.{Term, Int, sub}
@@ -40,13 +41,13 @@ use Rattle.ll_engine.specs.Attempts.{Infers}
 use Rattle.ll_engine.specs.Taking.{Unifies}
 use Rattle.ll_engine.specs.Numbers.{tested}
 use Rattle.ll_engine.specs.declared.numbers.Values.{Values}
-use Rattle.ll_engine.specs.Front.{IsFront}
+use Rattle.ll_engine.specs.Front.{IsClosedFront}
 use Rattle.ll_engine.specs.Rows.{GoesOn}
 use Rattle.ll_unify.specs.Bindings.{Table, IsTable, IsOrdered, IsPlaceOf}
 use Rattle.ll_unify.proofs.CallerLemmas.{table-extends, place-extends, place-below}
 use Rattle.ll_engine.proofs.machine.ReadLemmas.{reading_same, read_same, length_variables, values_extend, table_values, fits_table, ordered_extends}
 use Rattle.ll_engine.proofs.machine.LaterLemmas.{items_later, entries_later, terms_later}
-use Rattle.ll_engine.proofs.machine.MachineLemmas.{goal_in_front}
+use Rattle.ll_engine.proofs.machine.MachineLemmas.{closed_tree, goal_in_front}
 use Rattle.ll_engine.proofs.inferences.Connecting.{at_goal, attempt_by, rest_items, rest_goals}
 use Rattle.ll_engine.proofs.inferences.Quantifying.{items_stay, entries_stay, terms_stay, clauses_stay, goals_stay, item_has}
 use Rattle.ll_engine.proofs.inferences.TakingLemmas.{allowed_shown, term_count}
@@ -72,16 +73,16 @@ abbrev pub behind : Parts → List Item → List (ItemOf Form)
 behind m rest = map (shown_item m.bank m.bound m.resources.kept) rest
 
 -- then the inference is the one that gives its state
-infers : (old new : Parts) (g : FormAt) (rest : List Item) (c : Candidate) → Fits old → items_of old ≡ Goal g ∷ rest → Went old rest new
+infers : (old new : Parts) (g : FormAt) (env : Environment) (rest : List Item) (c : Candidate) → Fits old → items_of old ≡ Goal g env ∷ rest → Went old rest new
     → attempt (setting old) (state_of old) c ≡ Some (state_of new) → Infers old c new
-infers old new g rest c f e o gives =
+infers old new g env rest c f e o gives =
     record { gives = gives; problem = o.problem; left = o.left; fits = fits }
   where
     kept : ℕ
     kept = length old.resources.kept
 
     items : All (HasItem old.bank (length old.resources.kept)) rest
-    items = rest_items old g rest f e
+    items = rest_items old g env rest f e
 
     consistent : IsConsistent (setting new) (state_of new)
     consistent =
@@ -109,7 +110,7 @@ infers old new g rest c f e o gives =
     goals : All (IsGoalIn (allowed old) new.bank) rest
     goals =
         goals_stay old.bank new.bank (allowed old) (allowed old) o.bank (grows-refl (allowed old)) (length old.resources.kept) rest items
-        (rest_goals old g rest f e)
+        (rest_goals old g env rest f e)
 
     inside : All (HasItem new.bank (length old.resources.kept)) rest
     inside =
@@ -154,10 +155,10 @@ infers old new g rest c f e o gives =
     }
 
 -- with the bindings that were there, the state has lost its goal
-state_went : (old new : Parts) (g : FormAt) (rest : List Item) → Fits old → items_of old ≡ Goal g ∷ rest → Went old rest new
-    → new.bound ≡ old.bound → new.levels ≡ old.levels → stepped (at_goal old g rest) (behind old rest) Plain ≡ state_of new
+state_went : (old new : Parts) (g : FormAt) (env : Environment) (rest : List Item) → Fits old → items_of old ≡ Goal g env ∷ rest → Went old rest new
+    → new.bound ≡ old.bound → new.levels ≡ old.levels → stepped (at_goal old g env rest) (behind old rest) Plain ≡ state_of new
 unfolding state_of
-state_went old new g rest f e o bound levels = λ i. record {
+state_went old new g env rest f e o bound levels = λ i. record {
   agenda = agenda i;
   context = context i;
   flag = (sym o.resources i).flag;
@@ -174,7 +175,7 @@ state_went old new g rest f e o bound levels = λ i. record {
     agenda : behind old rest ≡ map (shown_item new.bank new.bound new.resources.kept) (items_of new)
     agenda =
         sym (items_stay old.bank new.bank old.bound new.bound o.bank reads old.resources.kept
-        (length old.resources.kept) rest (rest_items old g rest f e))
+        (length old.resources.kept) rest (rest_items old g env rest f e))
         ∙ (λ i. map (shown_item new.bank new.bound (sym o.resources i).kept) (sym o.items i))
 
     context : map (shown_entry old.bank old.bound) old.resources.entries ≡ map (shown_entry new.bank new.bound) new.resources.entries
@@ -188,11 +189,12 @@ state_went old new g rest f e o bound levels = λ i. record {
         ∙ ap (map (read_term new.bank new.bound)) (sym o.terms)
 
 -- with more bindings, it stands under the substitution between, too
-state_bound : (old new : Parts) (g : FormAt) (rest : List Item) (v : Solved) → Fits old → items_of old ≡ Goal g ∷ rest → Went old rest new
+state_bound : (old new : Parts) (g : FormAt) (env : Environment) (rest : List Item) (v : Solved) → Fits old → items_of old ≡ Goal g env ∷ rest
+    → Went old rest new
     → ((x : ℕ) → reading new.bank new.bound x ≡ sub v.subst (reading old.bank old.bound x)) → new.levels ≡ v.levels
-    → instantiated (stepped (at_goal old g rest) (behind old rest) Plain) v ≡ state_of new
+    → instantiated (stepped (at_goal old g env rest) (behind old rest) Plain) v ≡ state_of new
 unfolding state_of
-state_bound old new g rest v f e o reads levels = λ i. record {
+state_bound old new g env rest v f e o reads levels = λ i. record {
   agenda = agenda i;
   context = context i;
   flag = (sym o.resources i).flag;
@@ -206,7 +208,7 @@ state_bound old new g rest v f e o reads levels = λ i. record {
     agenda : map (sub_item v.subst) (behind old rest) ≡ map (shown_item new.bank new.bound new.resources.kept) (items_of new)
     agenda =
         sym (items_later old.bank new.bank old.bound new.bound v.subst o.bank reads old.resources.kept
-        (length old.resources.kept) rest (rest_items old g rest f e))
+        (length old.resources.kept) rest (rest_items old g env rest f e))
         ∙ (λ i. map (shown_item new.bank new.bound (sym o.resources i).kept) (sym o.items i))
 
     context : map (sub_entry v.subst) (map (shown_entry old.bank old.bound) old.resources.entries)
@@ -278,22 +280,27 @@ pub both_values : (test : ℤ → ℤ → Bool) (x y : ℤ) (a b : Option ℤ) �
     → test (to_z w64 (of_z w64 x)) (to_z w64 (of_z w64 y)) ≡ compared test a b
 both_values test x y a b f g e1 e2 = (λ i. test (to_z-of_z w64 x f i) (to_z-of_z w64 y g i)) ∙ (λ i. compared test (sym e1 i) (sym e2 i))
 
-module _ (m : Parts) (r : Relation) (left right : At) (rest : AgendaTop) (f : Fits m) (view : FormNode) (h : IsFront m view rest)
+-- the environment of a goal with no free bound place
+abbrev without : {m : Parts} {view : FormNode} {rest : AgendaTop} → IsClosedFront m view rest → Environment
+without h = record { end = h.0; count = 0 }
+
+module _ (m : Parts) (r : Relation) (left right : At) (rest : AgendaTop) (f : Fits m) (view : FormNode) (h : IsClosedFront m view rest)
     (tree : form_of m.bank view ≡ Num r (term_tree m.bank left.0) (term_tree m.bank right.0)) where
   abbrev shown : At → Term
   shown at = read_term m.bank m.bound at
 
   -- an inference on the goal
   step : (c : Candidate) → attempt (setting m) (state_of m) c
-      ≡ take_number (setting m) (at_goal m h.goal (items_at m.agenda rest)) r (shown left) (shown right) (behind m (items_at m.agenda rest))
+      ≡ take_number (setting m) (at_goal m h.1.goal (without h) (items_at m.agenda rest)) r (shown left) (shown right) (behind m (items_at m.agenda rest))
   step c =
-      attempt_by m h.goal (items_at m.agenda rest) c (Num r (term_tree m.bank left.0) (term_tree m.bank right.0)) h.list (h.seen.tree ∙ tree)
+      attempt_by m h.1.goal (without h) (items_at m.agenda rest) c (Num r (term_tree m.bank left.0) (term_tree m.bank right.0)) h.1.list
+      (closed_tree m view rest h ∙ tree)
 
   -- the left side has no variable but those that there are
   pub left_below : vars_below (length m.levels) (shown left) ≡ true
   left_below =
-      let is = subst (λ g. IsFormula (allowed_in (setting m) (state_of m)) GoalSide [] (sub_form (reading m.bank m.bound) g)) (h.seen.tree ∙ tree)
-      (goal_in_front m h.goal (items_at m.agenda rest) f h.list) in
+      let is = subst (λ g. IsFormula (allowed_in (setting m) (state_of m)) GoalSide [] (sub_form (reading m.bank m.bound) g)) (closed_tree m view rest h ∙ tree)
+      (goal_in_front m h.1.goal (without h) (items_at m.agenda rest) f h.1.list) in
       let now = subst (λ may. IsFormula may GoalSide [] (Num r (shown left) (shown right))) (allowed_shown m) is in
       fit-vars (allowed m) [] (shown left) (fits_of_formula (allowed m) GoalSide [] (Num r (shown left) (shown right)) now).1
 
@@ -303,8 +310,8 @@ module _ (m : Parts) (r : Relation) (left right : At) (rest : AgendaTop) (f : Fi
 
   right_below : vars_below (length m.levels) (shown right) ≡ true
   right_below =
-      let is = subst (λ g. IsFormula (allowed_in (setting m) (state_of m)) GoalSide [] (sub_form (reading m.bank m.bound) g)) (h.seen.tree ∙ tree)
-      (goal_in_front m h.goal (items_at m.agenda rest) f h.list) in
+      let is = subst (λ g. IsFormula (allowed_in (setting m) (state_of m)) GoalSide [] (sub_form (reading m.bank m.bound) g)) (closed_tree m view rest h ∙ tree)
+      (goal_in_front m h.1.goal (without h) (items_at m.agenda rest) f h.1.list) in
       let now = subst (λ may. IsFormula may GoalSide [] (Num r (shown left) (shown right))) (allowed_shown m) is in
       fit-vars (allowed m) [] (shown right) (fits_of_formula (allowed m) GoalSide [] (Num r (shown left) (shown right)) now).2
 
@@ -331,66 +338,75 @@ test_is m left right test found names b n told is =
     ∙ (sym told ∙ is)
 
 module _ (m : Parts) (left right : At) (rest : AgendaTop) (f : Fits m) where
-  less_step : (h : IsFront m (LessView left right) rest) (c : Candidate) → attempt (setting m) (state_of m) c
-      ≡ (if test_of m left right int_lt then Some (stepped (at_goal m h.goal (items_at m.agenda rest)) (behind m (items_at m.agenda rest)) Plain) else None)
+  less_step : (h : IsClosedFront m (LessView left right) rest) (c : Candidate) → attempt (setting m) (state_of m) c
+      ≡ (if test_of m left right int_lt then Some (stepped (at_goal m h.1.goal (without h) (items_at m.agenda rest)) (behind m (items_at m.agenda rest))
+      Plain) else None)
   less_step h c = step m Less left right rest f (LessView left right) h refl c
 
-  most_step : (h : IsFront m (MostView left right) rest) (c : Candidate) → attempt (setting m) (state_of m) c
-      ≡ (if test_of m left right int_le then Some (stepped (at_goal m h.goal (items_at m.agenda rest)) (behind m (items_at m.agenda rest)) Plain) else None)
+  most_step : (h : IsClosedFront m (MostView left right) rest) (c : Candidate) → attempt (setting m) (state_of m) c
+      ≡ (if test_of m left right int_le then Some (stepped (at_goal m h.1.goal (without h) (items_at m.agenda rest)) (behind m (items_at m.agenda rest))
+      Plain) else None)
   most_step h c = step m Most left right rest f (MostView left right) h refl c
 
-  pub less_left : IsFront m (LessView left right) rest → IsPlaceOf m.bank (table m) left.0
-  less_left h = left_place m Less left right rest f (LessView left right) h refl h.seen.parts.0
+  pub less_left : IsClosedFront m (LessView left right) rest → IsPlaceOf m.bank (table m) left.0
+  less_left h = left_place m Less left right rest f (LessView left right) h refl h.1.seen.parts.0
 
-  pub less_right : IsFront m (LessView left right) rest → IsPlaceOf m.bank (table m) right.0
-  less_right h = right_place m Less left right rest f (LessView left right) h refl h.seen.parts.1
+  pub less_right : IsClosedFront m (LessView left right) rest → IsPlaceOf m.bank (table m) right.0
+  less_right h = right_place m Less left right rest f (LessView left right) h refl h.1.seen.parts.1
 
-  pub most_left : IsFront m (MostView left right) rest → IsPlaceOf m.bank (table m) left.0
-  most_left h = left_place m Most left right rest f (MostView left right) h refl h.seen.parts.0
+  pub most_left : IsClosedFront m (MostView left right) rest → IsPlaceOf m.bank (table m) left.0
+  most_left h = left_place m Most left right rest f (MostView left right) h refl h.1.seen.parts.0
 
-  pub most_right : IsFront m (MostView left right) rest → IsPlaceOf m.bank (table m) right.0
-  most_right h = right_place m Most left right rest f (MostView left right) h refl h.seen.parts.1
+  pub most_right : IsClosedFront m (MostView left right) rest → IsPlaceOf m.bank (table m) right.0
+  most_right h = right_place m Most left right rest f (MostView left right) h refl h.1.seen.parts.1
 
-  pub less_fails : (c : Candidate) → IsFront m (LessView left right) rest → test_of m left right int_lt ≡ false → attempt (setting m) (state_of m) c ≡ None
+  pub less_fails : (c : Candidate) → IsClosedFront m (LessView left right) rest → test_of m left right int_lt ≡ false
+      → attempt (setting m) (state_of m) c ≡ None
   less_fails c h fails =
-      less_step h c ∙ ap (λ b. if b then Some (stepped (at_goal m h.goal (items_at m.agenda rest)) (behind m (items_at m.agenda rest)) Plain) else None) fails
+      less_step h c ∙ ap (λ b. if b then Some (stepped (at_goal m h.1.goal (without h) (items_at m.agenda rest)) (behind m (items_at m.agenda rest)) Plain)
+      else None) fails
 
-  pub most_fails : (c : Candidate) → IsFront m (MostView left right) rest → test_of m left right int_le ≡ false → attempt (setting m) (state_of m) c ≡ None
+  pub most_fails : (c : Candidate) → IsClosedFront m (MostView left right) rest → test_of m left right int_le ≡ false
+      → attempt (setting m) (state_of m) c ≡ None
   most_fails c h fails =
-      most_step h c ∙ ap (λ b. if b then Some (stepped (at_goal m h.goal (items_at m.agenda rest)) (behind m (items_at m.agenda rest)) Plain) else None) fails
+      most_step h c ∙ ap (λ b. if b then Some (stepped (at_goal m h.1.goal (without h) (items_at m.agenda rest)) (behind m (items_at m.agenda rest)) Plain)
+      else None) fails
 
-  pub less_holds : (new : Parts) (c : Candidate) → IsFront m (LessView left right) rest → test_of m left right int_lt ≡ true
+  pub less_holds : (new : Parts) (c : Candidate) → IsClosedFront m (LessView left right) rest → test_of m left right int_lt ≡ true
       → Went m (items_at m.agenda rest) new
       → new.bound ≡ m.bound → new.levels ≡ m.levels → Infers m c new
   less_holds new c h holds o bound levels =
-      infers m new h.goal (items_at m.agenda rest) c f h.list o
-      (less_step h c ∙ (ap (λ b. if b then Some (stepped (at_goal m h.goal (items_at m.agenda rest)) (behind m (items_at m.agenda rest)) Plain) else None) holds
-      ∙ ap (λ (s : State). Some s) (state_went m new h.goal (items_at m.agenda rest) f h.list o bound levels)))
+      infers m new h.1.goal (without h) (items_at m.agenda rest) c f h.1.list o
+      (less_step h c ∙ (ap (λ b. if b then Some (stepped (at_goal m h.1.goal (without h) (items_at m.agenda rest)) (behind m (items_at m.agenda rest))
+      Plain) else None) holds
+      ∙ ap (λ (s : State). Some s) (state_went m new h.1.goal (without h) (items_at m.agenda rest) f h.1.list o bound levels)))
 
-  pub most_holds : (new : Parts) (c : Candidate) → IsFront m (MostView left right) rest → test_of m left right int_le ≡ true
+  pub most_holds : (new : Parts) (c : Candidate) → IsClosedFront m (MostView left right) rest → test_of m left right int_le ≡ true
       → Went m (items_at m.agenda rest) new
       → new.bound ≡ m.bound → new.levels ≡ m.levels → Infers m c new
   most_holds new c h holds o bound levels =
-      infers m new h.goal (items_at m.agenda rest) c f h.list o
-      (most_step h c ∙ (ap (λ b. if b then Some (stepped (at_goal m h.goal (items_at m.agenda rest)) (behind m (items_at m.agenda rest)) Plain) else None) holds
-      ∙ ap (λ (s : State). Some s) (state_went m new h.goal (items_at m.agenda rest) f h.list o bound levels)))
+      infers m new h.1.goal (without h) (items_at m.agenda rest) c f h.1.list o
+      (most_step h c ∙ (ap (λ b. if b then Some (stepped (at_goal m h.1.goal (without h) (items_at m.agenda rest)) (behind m (items_at m.agenda rest))
+      Plain) else None) holds
+      ∙ ap (λ (s : State). Some s) (state_went m new h.1.goal (without h) (items_at m.agenda rest) f h.1.list o bound levels)))
 
 -- ---- an equation with a value
 
-module _ (m : Parts) (left right : At) (rest : AgendaTop) (f : Fits m) (h : IsFront m (IsView left right) rest) where
+module _ (m : Parts) (left right : At) (rest : AgendaTop) (f : Fits m) (h : IsClosedFront m (IsView left right) rest) where
   abbrev value : Option ℤ
   value = value_of (setting m).operators (read_term m.bank m.bound right)
 
   abbrev went : State
-  went = stepped (at_goal m h.goal (items_at m.agenda rest)) (behind m (items_at m.agenda rest)) Plain
+  went = stepped (at_goal m h.1.goal (without h) (items_at m.agenda rest)) (behind m (items_at m.agenda rest)) Plain
 
   is_step : (c : Candidate) → attempt (setting m) (state_of m) c
-      ≡ take_value (at_goal m h.goal (items_at m.agenda rest)) (read_term m.bank m.bound left) (behind m (items_at m.agenda rest)) value
+      ≡ take_value (at_goal m h.1.goal (without h) (items_at m.agenda rest)) (read_term m.bank m.bound left) (behind m (items_at m.agenda rest)) value
   is_step c = step m Is left right rest f (IsView left right) h refl c
 
   pub no_value : (c : Candidate) → value ≡ None → attempt (setting m) (state_of m) c ≡ None
   no_value c none =
-      is_step c ∙ ap (take_value (at_goal m h.goal (items_at m.agenda rest)) (read_term m.bank m.bound left) (behind m (items_at m.agenda rest))) none
+      is_step c ∙ ap (take_value (at_goal m h.1.goal (without h) (items_at m.agenda rest)) (read_term m.bank m.bound left)
+      (behind m (items_at m.agenda rest))) none
 
   -- what its value is found to be
   pub value_is : (found : Option ℤ) (names : List (List ℕ)) → names ≡ m.problem.names → found ≡ value_of (operators_of names) (read_term m.bank m.bound right)
@@ -398,10 +414,10 @@ module _ (m : Parts) (left right : At) (rest : AgendaTop) (f : Fits m) (h : IsFr
   value_is found names n e = sym (e ∙ (λ i. value_of (operators_of (n i)) (read_term m.bank m.bound right)))
 
   pub target_place : IsPlaceOf m.bank (table m) left.0
-  target_place = left_place m Is left right rest f (IsView left right) h refl h.seen.parts.0
+  target_place = left_place m Is left right rest f (IsView left right) h refl h.1.seen.parts.0
 
   pub expression_place : IsPlaceOf m.bank (table m) right.0
-  expression_place = right_place m Is left right rest f (IsView left right) h refl h.seen.parts.1
+  expression_place = right_place m Is left right rest f (IsView left right) h refl h.1.seen.parts.1
 
   module _ (z : ℤ) (some : value ≡ Some z) (mid : Nodes) (keeps : Extends m.bank mid) (place : At) (shows : ShowsTerm mid place.0 (Int z))
       (start : Table) (start_is : start ≡ table m) where
@@ -412,7 +428,7 @@ module _ (m : Parts) (left right : At) (rest : AgendaTop) (f : Fits m) (h : IsFr
     number = ap (sub (reading mid start.bound)) shows.tree
 
     same : read_term mid start.bound left ≡ read_term m.bank m.bound left
-    same = ap (λ (t : Table). read_term mid t.bound left) start_is ∙ read_same m.bank mid keeps m.bound f.bound left.0 h.seen.parts.0
+    same = ap (λ (t : Table). read_term mid t.bound left) start_is ∙ read_same m.bank mid keeps m.bound f.bound left.0 h.1.seen.parts.0
 
     pub start_table : IsTable mid start
     start_table = subst (IsTable mid) (sym start_is) (table-extends m.bank mid (table m) (fits_table m f) keeps)
@@ -432,7 +448,7 @@ module _ (m : Parts) (left right : At) (rest : AgendaTop) (f : Fits m) (h : IsFr
         ≡ option_map (instantiated went) (mgu (read_term mid start.bound left ∷ []) (read_term mid start.bound place ∷ []) start.levels)
     gives c =
         is_step c
-        ∙ (ap (take_value (at_goal m h.goal (items_at m.agenda rest)) (read_term m.bank m.bound left) (behind m (items_at m.agenda rest))) some
+        ∙ (ap (take_value (at_goal m h.1.goal (without h) (items_at m.agenda rest)) (read_term m.bank m.bound left) (behind m (items_at m.agenda rest))) some
         ∙ ap (option_map (instantiated went)) same_problem)
 
     pub clash : (after : Table) (c : Candidate) → Finds after false → attempt (setting m) (state_of m) c ≡ None
@@ -457,6 +473,6 @@ module _ (m : Parts) (left right : At) (rest : AgendaTop) (f : Fits m) (h : IsFr
             ∙ (x.reads y ∙ ap (sub v.subst) (ap (λ (t : Table). reading mid t.bound y) start_is ∙ reading_same m.bank mid keeps m.bound f.bound y)) in
             let w : Went m (items_at m.agenda rest) new =
             o (x.table.bound ∙ (x.same_count ∙ ap (λ (t : Table). length t.levels) start_is)) (table_values mid after.bound x.table.places) x.table.ordered in
-            infers m new h.goal (items_at m.agenda rest) c f h.list w
+            infers m new h.1.goal (without h) (items_at m.agenda rest) c f h.1.list w
             (gives c ∙ (ap (option_map (instantiated went)) p
-            ∙ ap (λ (s : State). Some s) (state_bound m new h.goal (items_at m.agenda rest) v f h.list w reads (levels_new ∙ x.levels_are))))
+            ∙ ap (λ (s : State). Some s) (state_bound m new h.1.goal (without h) (items_at m.agenda rest) v f h.1.list w reads (levels_new ∙ x.levels_are))))

@@ -11,7 +11,28 @@ use Rattle.ll_bank.specs.declared.At.{At}
 use Rattle.ll_bank.specs.declared.FormAt.{FormAt}
 use Rattle.ll_bank.specs.declared.Head.TheVariants.{Eigen}
 use Rattle.ll_bank.specs.Term.{Term, Var, Int, Con, Ap, sub, is_spine, is_closed, applies_heads}
-use Rattle.ll_bank.specs.Form.{Form, Top, One, Atom, With, Tensor, Plus, Bang, Lolli, Imp, Forall, Exists, Use, Num, sub_form, instantiate, form_applies_heads}
+use Rattle.ll_bank.specs.Form.{
+  Form,
+  Top,
+  One,
+  Atom,
+  With,
+  Tensor,
+  Plus,
+  Bang,
+  Lolli,
+  Imp,
+  Forall,
+  Exists,
+  Use,
+  Num,
+  close_form,
+  sub_form,
+  instantiate,
+  form_applies_heads,
+}
+use Rattle.ll_bank.specs.declared.environment.Environment.{Environment}
+use Rattle.ll_bank.specs.Environments.{values_in}
 use Rattle.ll_bank.specs.Nodes.{Nodes, HasTerm, HasForm, AllInTerms, Extends, ShowsTerm, ShowsForm, term_tree, term_trees, form_tree}
 use Rattle.ll_bank.proofs.CallerLemmas.{HasTerm-extends, HasForm-extends, term_tree-extends, form_tree-extends, AllInTerms-extends, term_trees-extends}
 use Rattle.ll_laws.specs.declared.Candidate.{Candidate}
@@ -31,8 +52,8 @@ use Rattle.ll_resources.specs.Resources.{Resources}
 use Rattle.ll_freeze.specs.Parts.{Parts, table}
 use Rattle.ll_freeze.specs.declared.machine.Item.{Item}
 use Rattle.ll_freeze.specs.declared.machine.Item.TheVariants.{Goal, LolliEnd, ImpEnd, Mid, WithEnd, BangEnd}
-use Rattle.ll_freeze.specs.Reading.{reading, read_term, read_form, HasValue}
-use Rattle.ll_freeze.specs.Shown.{shown_item, shown_entry, items_of, state_of}
+use Rattle.ll_freeze.specs.Reading.{reading, read_term, read_form, goal_tree, read_goal, HasValue}
+use Rattle.ll_freeze.specs.Shown.{shown_item, shown_entry, items_of, state_of, closed_goal, no_variables}
 use Rattle.ll_freeze.specs.Fits.{Fits, HasItem, IsGoalIn, allowed, setting}
 use Rattle.ll_engine.specs.Attempts.{Infers}
 use Rattle.ll_engine.specs.Rows.{GoesOn, PutsInFront, OpensForall, OpensExists}
@@ -41,7 +62,7 @@ use Rattle.ll_unify.specs.Bindings.{IsTable, IsOrdered}
 use Rattle.ll_unify.proofs.CallerLemmas.{table-extends, table-fresh, found-fresh}
 use Rattle.ll_engine.specs.Turned.{is_empty}
 use Rattle.ll_engine.proofs.machine.MachineLemmas.{agenda_shown, tries_end}
-use Rattle.ll_engine.proofs.inferences.Connecting.{attempt_by, rest_items, rest_goals, goal_fits}
+use Rattle.ll_engine.proofs.inferences.Connecting.{attempt_by, rest_items, rest_goals, goal_fits, goal_closed, closed_sorted}
 
 -- ---- nothing but a head has arguments in a formula that fits
 
@@ -112,8 +133,12 @@ module _ (old new : Nodes) (before after : List (Option At)) (keeps : Extends ol
   form_stays at h = ap (sub_form (reading new after)) (form_tree-extends keeps at.0 h)
       ∙ form_same (reading new after) (reading old before) reads (form_tree old at.0)
 
+  pub goal_stays_read : (env : Environment) (at : FormAt) → HasForm old at.0 → read_goal new after env at ≡ read_goal old before env at
+  goal_stays_read env at h = ap (λ f. sub_form (reading new after) (close_form (values_in env) f)) (form_tree-extends keeps at.0 h)
+      ∙ form_same (reading new after) (reading old before) reads (goal_tree old env at)
+
   item_stays : (kept : List Saved) (n : ℕ) (i : Item) → HasItem old n i → shown_item new after kept i ≡ shown_item old before kept i
-  item_stays kept n (Goal g) h = ap (λ r. GoalOf r) (form_stays g h)
+  item_stays kept n (Goal g env) h = ap (λ r. GoalOf r) (goal_stays_read env g h)
   item_stays kept n (LolliEnd b) h = refl
   item_stays kept n ImpEnd h = refl
   item_stays kept n (Mid s) h = refl
@@ -159,8 +184,12 @@ module _ (old new : Nodes) (may more : Allowed) (keeps : Extends old new) (grows
       (sorted_stays ClauseSide e.clause.0 (All-head P e es h) (All-head Q e es f))
       (clauses_stay es (All-tail P e es h) (All-tail Q e es f))
 
-  goal_stays : (n : ℕ) (i : Item) → HasItem old n i → IsGoalIn may old i → IsGoalIn more new i
-  goal_stays n (Goal g) h f = sorted_stays GoalSide g.0 h f
+  pub goal_stays : (n : ℕ) (i : Item) → HasItem old n i → IsGoalIn may old i → IsGoalIn more new i
+  goal_stays n (Goal g env) h f = (
+    record { count = f.0.count; end = (let a = f.0.end in let b = grows.variables in omega (arith, a, b)) },
+    subst (λ (r : Form). IsFormula more GoalSide [] (close_form (values_in env) r)) (sym (form_tree-extends keeps g.0 h))
+        (formula-more may more GoalSide (goal_tree old env g) grows f.1),
+  )
   goal_stays n (LolliEnd b) h f = tt
   goal_stays n ImpEnd h f = tt
   goal_stays n (Mid s) h f = tt
@@ -174,7 +203,7 @@ module _ (old new : Nodes) (may more : Allowed) (keeps : Extends old new) (grows
       (goals_stay n is (All-tail (HasItem old n) i is h) (All-tail (IsGoalIn may old) i is f))
 
   pub item_has : (n : ℕ) (i : Item) → HasItem old n i → HasItem new n i
-  item_has n (Goal g) h = HasForm-extends keeps g.0 h
+  item_has n (Goal g env) h = HasForm-extends keeps g.0 h
   item_has n (LolliEnd b) h = tt
   item_has n ImpEnd h = tt
   item_has n (Mid s) h = h
@@ -214,25 +243,26 @@ state_opened old new f rest o reads items clauses =
       label = r.next;
       steps = old.steps ++ Plain ∷ [];
     } in
-    let g : read_form b a o.goal ≡ sub_form (reading old.bank old.bound) f =
-    ap (sub_form (reading b a)) o.shows.tree ∙ form_same (reading b a) (reading old.bank old.bound) reads f in
+    let g : read_goal b a no_variables o.goal ≡ sub_form (reading old.bank old.bound) f =
+    ap (sub_form (reading b a)) (goal_closed b o.goal ∙ o.shows.tree) ∙ form_same (reading b a) (reading old.bank old.bound) reads f in
     state_is new
     ∙ (ap (λ p. by p (items_of new) new.steps) o.resources
     ∙ (ap (λ xs. by r xs new.steps) o.items
-    ∙ (ap (λ ss. by r (Goal o.goal ∷ rest) ss) o.steps
+    ∙ (ap (λ ss. by r (closed_goal o.goal ∷ rest) ss) o.steps
     ∙ (ap (λ h. make h (map (shown_item b a r.kept) rest) (map (shown_entry b a) r.entries)) g
     ∙ (ap (λ xs. make (sub_form (reading old.bank old.bound) f) xs (map (shown_entry b a) r.entries))
     (items_stay old.bank b old.bound a o.bank reads r.kept (length r.kept) rest items)
     ∙ ap (λ es. make (sub_form (reading old.bank old.bound) f) (map (shown_item old.bank old.bound r.kept) rest) es)
     (entries_stay old.bank b old.bound a o.bank reads r.entries clauses))))))
 
-pub opened : (old new : Parts) (g : FormAt) (rest : List Item) (c : Candidate) (f : Form) → Fits old → items_of old ≡ Goal g ∷ rest → PutsInFront old f rest new
+pub opened : (old new : Parts) (g : FormAt) (env : Environment) (rest : List Item) (c : Candidate) (f : Form) → Fits old → items_of old ≡ Goal g env ∷ rest
+    → PutsInFront old f rest new
     → ((x : ℕ) → reading new.bank new.bound x ≡ reading old.bank old.bound x) → Grows (allowed old) (allowed new)
     → length new.bound ≡ length new.levels → All (HasValue new.bank) new.bound → IsOrdered new.bank (table new) → AllInTerms new.bank new.terms
     → term_trees new.bank new.terms ≡ vars_from 0 (length new.levels) → IsFormula (allowed new) GoalSide [] f → new.eigens + new.left ≤ 2 ^ 20
     → attempt (setting old) (state_of old) c ≡ Some (opened_state old new f rest) → Infers old c new
-opened old new g rest c f fits e1 o reads grows count bound ordered terms variables sorted eigens gives =
-    let r = old.resources in let k = length r.kept in let xs = rest_items old g rest fits e1 in
+opened old new g env rest c f fits e1 o reads grows count bound ordered terms variables sorted eigens gives =
+    let r = old.resources in let k = length r.kept in let xs = rest_items old g env rest fits e1 in
     let r2 : new.resources ≡ r = o.resources in
     let P : Item → Type 0 = HasItem new.bank k in let R : Item → Type 0 = IsGoalIn (allowed new) new.bank in
     let a : attempt (setting old) (state_of old) c ≡ Some (state_of new) =
@@ -262,14 +292,15 @@ opened old new g rest c f fits e1 o reads grows count bound ordered terms variab
         sorted_clauses = rw r2 (clauses_stay old.bank new.bank (allowed old) (allowed new) o.bank grows r.entries fits.clauses fits.sorted_clauses);
         sorted_goals =
             rw o.items
-            (All-cons R (Goal o.goal) rest (subst (λ (h : Form). IsFormula (allowed new) GoalSide [] h) (sym o.shows.tree) sorted)
-            (goals_stay old.bank new.bank (allowed old) (allowed new) o.bank grows k rest xs (rest_goals old g rest fits e1)));
+            (All-cons R (closed_goal o.goal) rest (closed_sorted (allowed new) new.bank o.goal
+            (subst (λ (h : Form). IsFormula (allowed new) GoalSide [] h) (sym o.shows.tree) sorted))
+            (goals_stay old.bank new.bank (allowed old) (allowed new) o.bank grows k rest xs (rest_goals old g env rest fits e1)));
         has_modules = rw o.modules (modules_has old.bank new.bank old.modules o.bank fits.has_modules);
         modules = rw (o.problem, o.modules) (modules_later old.bank new.bank old.modules o.bank fits.has_modules ∙ fits.modules);
         top = o.top;
         items =
             rw (r2, o.items)
-            (All-cons P (Goal o.goal) rest o.shows.inside
+            (All-cons P (closed_goal o.goal) rest o.shows.inside
             (All-weaker (HasItem old.bank k) P (λ i h. item_has old.bank new.bank (allowed old) (allowed new) o.bank grows k i h) rest xs));
         labels = let b = fits.labels in omega (arith, b, l, n);
         eigens = eigens;
@@ -303,19 +334,19 @@ exists_opened may p f =
     )
     (fits-more may more GoalSide (false ∷ []) (false ∷ []) p k (λ h. h, tt) f)
 
-pub forall_heads : (m : Parts) (g body : FormAt) (rest : List Item) → Fits m → items_of m ≡ Goal g ∷ rest
-    → form_tree m.bank g.0 ≡ Forall (form_tree m.bank body.0)
+pub forall_heads : (m : Parts) (g : FormAt) (env : Environment) (body : FormAt) (rest : List Item) → Fits m → items_of m ≡ Goal g env ∷ rest
+    → goal_tree m.bank env g ≡ Forall (form_tree m.bank body.0)
     → form_applies_heads (instantiate (form_tree m.bank body.0) (Con (Eigen m.eigens))) ≡ true
-forall_heads m g body rest f e1 e2 =
+forall_heads m g env body rest f e1 e2 =
     fits_apply (with_eigen (allowed m)) GoalSide [] (instantiate (form_tree m.bank body.0) (Con (Eigen m.eigens)))
-    (forall_opened (allowed m) (form_tree m.bank body.0) (goal_fits m g rest (Forall (form_tree m.bank body.0)) f e1 e2))
+    (forall_opened (allowed m) (form_tree m.bank body.0) (goal_fits m g env rest (Forall (form_tree m.bank body.0)) f e1 e2))
 
-pub exists_heads : (m : Parts) (g body : FormAt) (rest : List Item) → Fits m → items_of m ≡ Goal g ∷ rest
-    → form_tree m.bank g.0 ≡ Exists (form_tree m.bank body.0)
+pub exists_heads : (m : Parts) (g : FormAt) (env : Environment) (body : FormAt) (rest : List Item) → Fits m → items_of m ≡ Goal g env ∷ rest
+    → goal_tree m.bank env g ≡ Exists (form_tree m.bank body.0)
     → form_applies_heads (instantiate (form_tree m.bank body.0) (Var (length m.levels))) ≡ true
-exists_heads m g body rest f e1 e2 =
+exists_heads m g env body rest f e1 e2 =
     fits_apply (with_variable (allowed m)) GoalSide [] (instantiate (form_tree m.bank body.0) (Var (length m.levels)))
-    (exists_opened (allowed m) (form_tree m.bank body.0) (goal_fits m g rest (Exists (form_tree m.bank body.0)) f e1 e2).1)
+    (exists_opened (allowed m) (form_tree m.bank body.0) (goal_fits m g env rest (Exists (form_tree m.bank body.0)) f e1 e2).1)
 
 -- the later state where no variable is new
 abbrev pub still_state : Parts → Form → List Item → ℕ → State
@@ -332,11 +363,12 @@ still_state old h rest e =
     }
 
 -- a goal in place of the one in front where no variable is new
-pub still : (old new : Parts) (g : FormAt) (rest : List Item) (c : Candidate) (f : Form) → Fits old → items_of old ≡ Goal g ∷ rest → PutsInFront old f rest new
+pub still : (old new : Parts) (g : FormAt) (env : Environment) (rest : List Item) (c : Candidate) (f : Form) → Fits old → items_of old ≡ Goal g env ∷ rest
+    → PutsInFront old f rest new
     → new.bound ≡ old.bound → new.levels ≡ old.levels → new.terms ≡ old.terms → old.eigens ≤ new.eigens → new.eigens ≤ suc old.eigens
     → IsFormula (allowed new) GoalSide [] f → attempt (setting old) (state_of old) c
     ≡ Some (still_state old (sub_form (reading old.bank old.bound) f) rest new.eigens) → Infers old c new
-still old new g rest c f fits e1 o wb wl wt low high sorted gives =
+still old new g env rest c f fits e1 o wb wl wt low high sorted gives =
     let reads : (y : ℕ) → reading new.bank new.bound y ≡ reading old.bank old.bound y =
     λ y. ap (λ bs. reading new.bank bs y) wb ∙ reading_same old.bank new.bank o.bank old.bound fits.bound y in
     let n : length new.levels ≡ length old.levels = ap (λ (ls : List ℕ). length ls) wl in let l = o.left in
@@ -354,15 +386,16 @@ still old new g rest c f fits e1 o wb wl wt low high sorted gives =
     }) in
     let ts : map (read_term new.bank new.bound) new.terms ≡ map (read_term old.bank old.bound) old.terms =
     ap (λ xs. map (read_term new.bank new.bound) xs) wt ∙ terms_stay old.bank new.bank old.bound new.bound o.bank reads old.terms fits.terms in
-    opened old new g rest c f fits e1 o reads grows (ap (λ (bs : List (Option At)). length bs) wb ∙ (fits.count ∙ sym n))
+    opened old new g env rest c f fits e1 o reads grows (ap (λ (bs : List (Option At)). length bs) wb ∙ (fits.count ∙ sym n))
     (rw wb (values_extend old.bank new.bank o.bank old.bound fits.bound)) (rw (wb, wl) (ordered_extends old new.bank fits o.bank))
     (rw wt (AllInTerms-extends o.bank old.terms fits.terms))
     (rw (wt, wl) (term_trees-extends o.bank old.terms fits.terms ∙ fits.variables)) sorted (let b = fits.eigens in omega (arith, b, high, l))
     (gives ∙ (ap (λ ls. make ls (map (read_term old.bank old.bound) old.terms)) (sym wl) ∙ ap (λ xs. make new.levels xs) (sym ts)))
 
-pub forall_row : (old new : Parts) (g body : FormAt) (rest : List Item) (c : Candidate) → Fits old → items_of old ≡ Goal g ∷ rest
-    → form_tree old.bank g.0 ≡ Forall (form_tree old.bank body.0) → OpensForall old body rest new → Infers old c new
-forall_row old new g body rest c f e1 e2 w =
+pub forall_row : (old new : Parts) (g : FormAt) (env : Environment) (body : FormAt) (rest : List Item) (c : Candidate) → Fits old
+    → items_of old ≡ Goal g env ∷ rest
+    → goal_tree old.bank env g ≡ Forall (form_tree old.bank body.0) → OpensForall old body rest new → Infers old c new
+forall_row old new g env body rest c f e1 e2 w =
     let o = w.opens in let p = form_tree old.bank body.0 in let x = Con (Eigen old.eigens) in let s = reading old.bank old.bound in
     let may = allowed old in let more = with_eigen may in let k = w.eigens in
     let n : length new.levels ≡ length old.levels = ap (λ (ls : List ℕ). length ls) w.levels in
@@ -370,15 +403,16 @@ forall_row old new g body rest c f e1 e2 w =
     record { modules = ap (λ (q : ProblemTree). q.modules) (sym o.problem); variables = omega (arith, n); eigens = omega (arith, k); opens = λ h. h } in
     let sorted =
     formula-more more (allowed new) GoalSide (instantiate p x) grown
-    (formula_of_fits more GoalSide [] (instantiate p x) (forall_opened may p (goal_fits old g rest (Forall p) f e1 e2))) in
-    still old new g rest c (instantiate p x) f e1 o w.bound w.levels w.terms (omega (arith, k)) (omega (arith, k)) sorted
-    (attempt_by old g rest c (Forall p) e1 e2
+    (formula_of_fits more GoalSide [] (instantiate p x) (forall_opened may p (goal_fits old g env rest (Forall p) f e1 e2))) in
+    still old new g env rest c (instantiate p x) f e1 o w.bound w.levels w.terms (omega (arith, k)) (omega (arith, k)) sorted
+    (attempt_by old g env rest c (Forall p) e1 e2
     ∙ (ap (λ h. Some (still_state old h rest (suc old.eigens))) (sym (sub_instantiate s (closing old f) p x))
     ∙ ap (λ e. Some (still_state old (sub_form s (instantiate p x)) rest e)) (sym k)))
 
-pub exists_row : (old new : Parts) (g body : FormAt) (rest : List Item) (c : Candidate) → Fits old → items_of old ≡ Goal g ∷ rest
-    → form_tree old.bank g.0 ≡ Exists (form_tree old.bank body.0) → OpensExists old body rest new → Infers old c new
-exists_row old new g body rest c f e1 e2 w =
+pub exists_row : (old new : Parts) (g : FormAt) (env : Environment) (body : FormAt) (rest : List Item) (c : Candidate) → Fits old
+    → items_of old ≡ Goal g env ∷ rest
+    → goal_tree old.bank env g ≡ Exists (form_tree old.bank body.0) → OpensExists old body rest new → Infers old c new
+exists_row old new g env body rest c f e1 e2 w =
     let o = w.opens in let p = form_tree old.bank body.0 in let n = length old.levels in let s = reading old.bank old.bound in
     let may = allowed old in let more = with_variable may in let b = new.bank in let a = new.bound in
     let grown_table : IsTable b (table old) = table-extends old.bank b (table old) (fits_table old f) o.bank in
@@ -396,7 +430,7 @@ exists_row old new g body rest c f e1 e2 w =
     let grown : Grows more (allowed new) = record { modules = ms; variables = omega (arith, ln); eigens = omega (arith, k); opens = λ h. h } in
     let sorted =
     formula-more more (allowed new) GoalSide (instantiate p (Var n)) grown
-    (formula_of_fits more GoalSide [] (instantiate p (Var n)) (exists_opened may p (goal_fits old g rest (Exists p) f e1 e2).1)) in
+    (formula_of_fits more GoalSide [] (instantiate p (Var n)) (exists_opened may p (goal_fits old g env rest (Exists p) f e1 e2).1)) in
     let make : Form → List ℕ → ℕ → List Term → Option State = λ h ls e ts. Some (record {
       agenda = GoalOf h ∷ map (shown_item old.bank old.bound old.resources.kept) rest;
       context = map (shown_entry old.bank old.bound) old.resources.entries;
@@ -414,7 +448,7 @@ exists_row old new g body rest c f e1 e2 w =
     ∙ (map-append (read_term b a) old.terms (w.value ∷ [])
     ∙ (ap (λ xs. xs ++ read_term b a w.value ∷ []) (terms_stay old.bank b old.bound a o.bank reads old.terms f.terms) ∙ ap (λ t. us ++ t ∷ []) value)) in
     let goal = instantiate p (Var n) in
-    opened old new g rest c goal f e1 o reads grows (let q = f.count in omega (arith, q, bn, ln))
+    opened old new g env rest c goal f e1 o reads grows (let q = f.count in omega (arith, q, bn, ln))
     (rw w.bound (All-push (HasValue b) old.bound None (values_extend old.bank b o.bank old.bound f.bound) tt))
     (rw (w.bound, w.levels) (table-fresh b (table old) old.eigens grown_table).ordered)
     (rw w.terms (All-push (λ (x : At). HasTerm b x.0) old.terms w.value (AllInTerms-extends o.bank old.terms f.terms) w.shows.inside))
@@ -423,7 +457,7 @@ exists_row old new g body rest c f e1 e2 w =
     ∙ (ap (λ xs. xs ++ term_tree b w.value.0 ∷ []) (term_trees-extends o.bank old.terms f.terms ∙ f.variables)
     ∙ (ap (λ t. vars_from 0 n ++ t ∷ []) w.shows.tree ∙ (sym (vars_more 0 n n (omega arith)) ∙ ap (λ i. vars_from 0 i) (sym ln))))))
     sorted (let q = f.eigens in omega (arith, q, k, l))
-    (attempt_by old g rest c (Exists p) e1 e2
+    (attempt_by old g env rest c (Exists p) e1 e2
     ∙ (ap (λ h. make h (old.levels ++ old.eigens ∷ []) old.eigens (us ++ Var n ∷ []))
     (ap (λ t. instantiate (sub_form s p) t) (sym free) ∙ sym (sub_instantiate s (closing old f) p (Var n)))
     ∙ (ap (λ ls. make (sub_form s goal) ls old.eigens (us ++ Var n ∷ [])) (sym w.levels)
@@ -434,9 +468,9 @@ exists_row old new g body rest c f e1 e2 w =
 -- the machine that goes on has a place that shows the formula
 pub opens_shown : (old mid new : Parts) → mid.problem ≡ old.problem → mid.modules ≡ old.modules → mid.resources ≡ old.resources → mid.steps ≡ old.steps
     → mid.left ≡ old.left
-    → (goal : FormAt) (f : Form) (rest : List Item) → Extends old.bank mid.bank → ShowsForm mid.bank goal.0 f → GoesOn mid (Goal goal ∷ []) rest Plain new
-    → PutsInFront old f rest new
-opens_shown old mid new p ms q st l goal f rest k sh go =
+    → (goal : FormAt) (f : Form) (rest : List Item) → Extends old.bank mid.bank → ShowsForm mid.bank goal.0 f → (item : Item)
+    → GoesOn mid (item ∷ []) rest Plain new → item ≡ closed_goal goal → PutsInFront old f rest new
+opens_shown old mid new p ms q st l goal f rest k sh item go is =
     let nb : new.bank ≡ mid.bank = ap (λ (m : Parts). m.bank) go.same in
     record {
       problem = ap (λ (m : Parts). m.problem) go.same ∙ p;
@@ -446,7 +480,7 @@ opens_shown old mid new p ms q st l goal f rest k sh go =
       goal = goal;
       shows = subst (λ (b : Nodes). ShowsForm b goal.0 f) (sym nb) sh;
       top = go.top;
-      items = go.items;
+      items = go.items ∙ ap (λ i. i ∷ rest) is;
       steps = go.steps ∙ ap (λ ss. ss ++ Plain ∷ []) st;
       left = go.left ∙ l;
     }
@@ -471,6 +505,6 @@ not_empty m h e = let x : true ≡ false = sym (ap (λ xs. is_empty xs) (agenda_
 
 -- an end in front has no candidate
 pub no_candidate : (m : Parts) (i : Item) (rest : List Item) (c : Candidate) → Contains (tries (state_of m)) c → items_of m ≡ i ∷ rest
-    → ((g : FormAt) → i ≡ Goal g → ⊥) → ⊥
+    → ((g : FormAt) (env : Environment) → i ≡ Goal g env → ⊥) → ⊥
 no_candidate m i rest c h e n =
     let p = subst (λ (cs : List Candidate). Contains cs c) (tries_end m i rest e n) h in let l = p.1 in absurd (omega (arith, l))

@@ -8,6 +8,7 @@ use Rattle.std.specs.Prelude.{Option, Some, None, option_map, not, ◌||◌, if�
 use Rattle.ll_list_laws.proofs.CallerLemmas.{false_from_not as not_true, and_true_left as and_left, and_true_right as and_right}
 use Rattle.ll_bank.specs.declared.At.{At}
 use Rattle.ll_bank.specs.declared.FormAt.{FormAt}
+use Rattle.ll_bank.specs.declared.environment.Environment.{Environment}
 use Rattle.ll_bank.specs.Nodes.{Nodes, HasForm, form_tree}
 use Rattle.ll_bank.specs.Form.{Form}
 use Rattle.ll_laws.specs.Settle.{Saved, Entry, Item as ItemOf, Goal as GoalOf, LolliEnd as EndOfLolli, ImpEnd as EndOfImp, WithMiddle as Middle}
@@ -30,7 +31,7 @@ use Rattle.ll_agenda.specs.declared.agenda.Top.{Top}
 use Rattle.ll_freeze.specs.Parts.{Parts}
 use Rattle.ll_freeze.specs.declared.machine.Item.{Item}
 use Rattle.ll_freeze.specs.declared.machine.Item.TheVariants.{Goal, LolliEnd, ImpEnd, Mid, WithEnd, BangEnd}
-use Rattle.ll_freeze.specs.Reading.{read_form, read_term}
+use Rattle.ll_freeze.specs.Reading.{read_form, read_goal, read_term}
 use Rattle.ll_freeze.specs.Shown.{shown_item, shown_entry, items_of, state_of}
 use Rattle.ll_freeze.specs.Fits.{Fits, HasItem, IsGoalIn, allowed, setting}
 use Rattle.ll_engine.specs.Calls.{IsSettled, SameSearch}
@@ -38,9 +39,13 @@ use Rattle.ll_engine.specs.declared.settle.Worked.{Worked}
 use Rattle.ll_engine.specs.declared.settle.Worked.TheVariants.{Settled, Failed}
 use Rattle.ll_engine.specs.Going.{raw_item, front_raw, EndsFit, Reaches, Going, IsDone, Works}
 
+-- a goal's place and environment, read under bindings
+abbrev read_placed : Nodes → List (Option At) → FormAt × Environment → Form
+read_placed bank bound g = read_goal bank bound g.1 g.0
+
 shown_raw : (bank : Nodes) (bound : List (Option At)) (kept : List Saved) (i : Item)
-    → shown_item bank bound kept i ≡ map_item (read_form bank bound) (raw_item kept i)
-shown_raw bank bound kept (Goal g) = refl
+    → shown_item bank bound kept i ≡ map_item (read_placed bank bound) (raw_item kept i)
+shown_raw bank bound kept (Goal g e) = refl
 shown_raw bank bound kept (LolliEnd b) = refl
 shown_raw bank bound kept ImpEnd = refl
 shown_raw bank bound kept (Mid s) = refl
@@ -48,23 +53,23 @@ shown_raw bank bound kept (WithEnd s h) = refl
 shown_raw bank bound kept (BangEnd s) = refl
 
 shown_raws : (bank : Nodes) (bound : List (Option At)) (kept : List Saved) (xs : List Item)
-    → map (shown_item bank bound kept) xs ≡ map (map_item (read_form bank bound)) (map (raw_item kept) xs)
+    → map (shown_item bank bound kept) xs ≡ map (map_item (read_placed bank bound)) (map (raw_item kept) xs)
 shown_raws bank bound kept [] = refl
 shown_raws bank bound kept (x ∷ xs) =
     ap (λ y. y ∷ map (shown_item bank bound kept) xs) (shown_raw bank bound kept x)
-    ∙ ap (λ ys. map_item (read_form bank bound) (raw_item kept x) ∷ ys) (shown_raws bank bound kept xs)
+    ∙ ap (λ ys. map_item (read_placed bank bound) (raw_item kept x) ∷ ys) (shown_raws bank bound kept xs)
 
 -- the state that a machine shows, with the front of another
-abbrev over : Parts → Option (Front FormAt FormAt) → Option State
-over m o = front_of (state_of m) (option_map (map_front (read_form m.bank m.bound) (read_form m.bank m.bound)) o)
+abbrev over : Parts → Option (Front (FormAt × Environment) FormAt) → Option State
+over m o = front_of (state_of m) (option_map (map_front (read_placed m.bank m.bound) (read_form m.bank m.bound)) o)
 
 settle_is : (m : Parts) → settle (state_of m) ≡ over m (front_raw m.resources (items_of m))
 unfolding settle state_of
 settle_is m =
-    let r = m.resources in let f = read_form m.bank m.bound in
+    let r = m.resources in let f = read_form m.bank m.bound in let g = read_placed m.bank m.bound in
     ap (λ o. front_of (state_of m) o)
     (ap (λ xs. settle_front xs (map (map_entry f) r.entries) r.flag) (shown_raws m.bank m.bound r.kept (items_of m))
-    ∙ front-map f f (map (raw_item r.kept) (items_of m)) r.entries r.flag)
+    ∙ front-map g f (map (raw_item r.kept) (items_of m)) r.entries r.flag)
 
 pub begins : (o : Parts) → Fits o → Going o o
 unfolding state_of
@@ -117,7 +122,7 @@ done o m g f e =
     ∙
     (ap
     (λ (s : State).
-    Some (with_front s (map_front (read_form o.bank o.bound) (read_form o.bank o.bound)
+    Some (with_front s (map_front (read_placed o.bank o.bound) (read_form o.bank o.bound)
     (record { agenda = map (raw_item r.kept) (items_of m); context = r.entries; flag = r.flag })))) (state_is o)
     ∙ (ap (λ xs. Some (make xs o.resources.next)) (sym (shown_raws o.bank o.bound r.kept (items_of m)))
     ∙ (ap (λ n. Some (make (map (shown_item o.bank o.bound r.kept) (items_of m)) n)) (sym g.next) ∙ ap (λ (s : State). Some s) (sym t)))) in
@@ -453,8 +458,8 @@ off_bang m h s rest top g e1 e3 e4 t =
     off_marks m h (BangEnd s) rest top sv.live g e1 refl e3 (bang_entries sv m.resources h e3) (bang_parts m s rest g e1).1 e4 t
 
 -- a goal is in front
-pub goal_done : (n : Parts) (g : FormAt) (rest : List Item) → items_of n ≡ Goal g ∷ rest → IsDone n
-goal_done n g rest e =
+pub goal_done : (n : Parts) (g : FormAt) (v : Environment) (rest : List Item) → items_of n ≡ Goal g v ∷ rest → IsDone n
+goal_done n g v rest e =
     let r = n.resources in
     subst (λ (xs : List Item). front_raw r xs ≡ Some (record { agenda = map (raw_item r.kept) xs; context = r.entries; flag = r.flag })) (sym e) refl
 
@@ -462,13 +467,14 @@ goal_done n g rest e =
 
 pub record IsSecond (xs : List Item) : Type 0 where
   pub goal : FormAt
+  pub values : Environment
   pub before : Handle
   pub old : Handle
   pub behind : List Item
-  pub is : xs ≡ Goal goal ∷ WithEnd before old ∷ behind
+  pub is : xs ≡ Goal goal values ∷ WithEnd before old ∷ behind
 
 raw_same : (bank : Nodes) (n : ℕ) (r s : Resources FormAt) (i : Item) → KeepsSaved n r s → HasItem bank n i → raw_item s.kept i ≡ raw_item r.kept i
-raw_same bank n r s (Goal g) k h = refl
+raw_same bank n r s (Goal g e) k h = refl
 raw_same bank n r s (LolliEnd b) k h = refl
 raw_same bank n r s ImpEnd k h = refl
 raw_same bank n r s (Mid a) k h = ap (λ x. Middle x) (k a h)
@@ -486,25 +492,25 @@ raws_same bank n r s (x ∷ xs) k h =
 abbrev pub at_second : Parts → Resources FormAt → Frames Item → Top → Parts
 at_second m h agenda top = record m { resources = h; agenda = agenda; top = top }
 
-pub middle : (m : Parts) (h : Resources FormAt) (agenda : Frames Item) (top : Top) (s before old half : Handle) (g : FormAt) (rest : List Item) → Going m m
-    → items_of m ≡ Mid s ∷ Goal g ∷ WithEnd before old ∷ rest → half ≡ saved_as (length m.resources.kept)
+pub middle : (m : Parts) (h : Resources FormAt) (agenda : Frames Item) (top : Top) (s before old half : Handle) (g : FormAt) (v : Environment)
+    (rest : List Item) → Going m m → items_of m ≡ Mid s ∷ Goal g v ∷ WithEnd before old ∷ rest → half ≡ saved_as (length m.resources.kept)
     → SettlesMiddle (saved_at m.resources.kept s) (saved_at h.kept half) m.resources h
     → KeepsSaved (length m.resources.kept) m.resources h → h ≡ after_with_mid s m.resources
-    → items_at agenda top ≡ Goal g ∷ WithEnd before half ∷ rest → HasTop agenda top → Reaches m (at_second m h agenda top) × IsDone (at_second m h agenda top)
-middle m h agenda top s before old half g rest go e1 n sm k e e4 t =
+    → items_at agenda top ≡ Goal g v ∷ WithEnd before half ∷ rest → HasTop agenda top → Reaches m (at_second m h agenda top) × IsDone (at_second m h agenda top)
+middle m h agenda top s before old half g v rest go e1 n sm k e e4 t =
     let r = m.resources in let y = go.reached in let z = h in
     let P : Item → Type 0 = HasItem m.bank (length r.kept) in let Q : Item → Type 0 = HasItem m.bank (length z.kept) in let R : Item
     → Type 0 = IsGoalIn (allowed m) m.bank in
-    let d = item_at m (Mid s) (Goal g ∷ WithEnd before old ∷ rest) go e1 in
-    let d1 = All-tail P (Mid s) (Goal g ∷ WithEnd before old ∷ rest) d in
-    let d2 = All-tail P (Goal g) (WithEnd before old ∷ rest) d1 in
+    let d = item_at m (Mid s) (Goal g v ∷ WithEnd before old ∷ rest) go e1 in
+    let d1 = All-tail P (Mid s) (Goal g v ∷ WithEnd before old ∷ rest) d in
+    let d2 = All-tail P (Goal g v) (WithEnd before old ∷ rest) d1 in
     let dr = All-tail P (WithEnd before old) rest d2 in
     let db = (All-head P (WithEnd before old) rest d2).0 in
-    let v : All R (Mid s ∷ Goal g ∷ WithEnd before old ∷ rest) = subst (λ (xs : List Item). All R xs) e1 y.sorted_goals in
-    let v1 = All-tail R (Mid s) (Goal g ∷ WithEnd before old ∷ rest) v in
-    let vr = All-tail R (WithEnd before old) rest (All-tail R (Goal g) (WithEnd before old ∷ rest) v1) in
-    let make : Saved → List (ItemOf FormAt) → Option (Front FormAt FormAt) =
-    λ b xs. Some (record { agenda = GoalOf g ∷ EndOfWith b (saved_at z.kept half) ∷ xs; context = z.entries; flag = z.flag }) in
+    let q : All R (Mid s ∷ Goal g v ∷ WithEnd before old ∷ rest) = subst (λ (xs : List Item). All R xs) e1 y.sorted_goals in
+    let q1 = All-tail R (Mid s) (Goal g v ∷ WithEnd before old ∷ rest) q in
+    let qr = All-tail R (WithEnd before old) rest (All-tail R (Goal g v) (WithEnd before old ∷ rest) q1) in
+    let make : Saved → List (ItemOf (FormAt × Environment)) → Option (Front (FormAt × Environment) FormAt) =
+    λ b xs. Some (record { agenda = GoalOf (g, v) ∷ EndOfWith b (saved_at z.kept half) ∷ xs; context = z.entries; flag = z.flag }) in
     let lk : length z.kept ≡ suc (length r.kept) = ap (λ (x : Resources FormAt). length x.kept) e ∙ one_more r.kept (saved_now r) in
     let hn : half.number ≡ length r.kept = ap (λ (x : Handle). x.number) n in (
       record {
@@ -517,13 +523,13 @@ middle m h agenda top s before old half g rest go e1 n sm k e e4 t =
             ap (λ xs. front_raw z xs) e4
             ∙ (ap (λ b. make b (map (raw_item z.kept) rest)) (k before db)
             ∙ (ap (λ xs. make (saved_at r.kept before) xs) (raws_same m.bank (length r.kept) r z rest k dr)
-            ∙ (sym (middles_settle (saved_at r.kept s) (saved_at z.kept half) (saved_at r.kept before) (saved_at r.kept old) g (map (raw_item r.kept) rest) r z
-            sm)
+            ∙ (sym (middles_settle (saved_at r.kept s) (saved_at z.kept half) (saved_at r.kept before) (saved_at r.kept old) (g, v)
+            (map (raw_item r.kept) rest) r z sm)
             ∙ ap (λ xs. front_raw r xs) (sym e1))));
         top = t;
         items =
             rw e4
-            (All-cons Q (Goal g) (WithEnd before half ∷ rest) (All-head P (Goal g) (WithEnd before old ∷ rest) d1)
+            (All-cons Q (Goal g v) (WithEnd before half ∷ rest) (All-head P (Goal g v) (WithEnd before old ∷ rest) d1)
             (All-cons Q (WithEnd before half) rest (omega (arith, db, lk), omega (arith, hn, lk))
             (All-weaker P Q (λ x w. more_kept m.bank (length r.kept) (length z.kept) x (omega (arith, lk)) w) rest dr)));
         clauses = marked_keeps r.entries z.entries (saved_at r.kept s).live (ap (λ (x : Resources FormAt). x.entries) e) (λ f. HasForm m.bank f.0) y.clauses;
@@ -531,14 +537,14 @@ middle m h agenda top s before old half g rest go e1 n sm k e e4 t =
             marked_keeps r.entries z.entries (saved_at r.kept s).live (ap (λ (x : Resources FormAt). x.entries) e)
             (λ f. IsFormula (allowed m) ClauseSide [] (form_tree m.bank f.0)) y.sorted_clauses;
         sorted_goals =
-            rw e4 (All-cons R (Goal g) (WithEnd before half ∷ rest) (All-head R (Goal g) (WithEnd before old ∷ rest) v1)
-            (All-cons R (WithEnd before half) rest tt vr));
+            rw e4 (All-cons R (Goal g v) (WithEnd before half ∷ rest) (All-head R (Goal g v) (WithEnd before old ∷ rest) q1)
+            (All-cons R (WithEnd before half) rest tt qr));
         keyed =
             keyed-alike m.bank (length m.problem.clauses) r z
             (ap (λ (x : Resources FormAt). clauses_of x.entries) e ∙ clauses-remark r.entries (saved_at r.kept s).live)
             (ap (λ (x : Resources FormAt). x.keys) e) y.keyed;
       },
-      goal_done (at_second m h agenda top) g (WithEnd before half ∷ rest) e4,
+      goal_done (at_second m h agenda top) g v (WithEnd before half ∷ rest) e4,
     )
 
 -- what settling a machine comes to, by what working off the item in front came to

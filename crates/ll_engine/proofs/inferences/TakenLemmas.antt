@@ -10,9 +10,11 @@ use Rattle.std.proofs.lemmas.List.{map-append}
 use Rattle.ll_list_laws.proofs.CallerLemmas.{map_same, and_true_left as and_left, and_true_right as and_right}
 use Rattle.ll_bank.specs.declared.At.{At}
 use Rattle.ll_bank.specs.declared.FormAt.{FormAt}
+use Rattle.ll_bank.specs.declared.environment.Environment.{Environment}
+use Rattle.ll_bank.specs.Environments.{IsWithin}
 use Rattle.ll_bank.specs.Term.{Term, Var, sub}
 use Rattle.ll_bank.specs.Form.{Form, sub_form}
-use Rattle.ll_bank.specs.Nodes.{Nodes, HasForm, AllInTerms, Extends, term_trees, form_tree}
+use Rattle.ll_bank.specs.Nodes.{Nodes, HasForm, AllInTerms, Extends, term_trees}
 use Rattle.ll_bank.proofs.CallerLemmas.{Extends-trans, sub-term_trees}
 use Rattle.ll_laws.specs.Leaf.{Premise, Needs, NeedsFree, premise_goal}
 use Rattle.ll_laws.specs.Settle.{Saved, Entry, map_entry, unlive}
@@ -22,13 +24,13 @@ use Rattle.ll_laws.specs.Valid.{Allowed, IsFormula, GoalSide}
 use Rattle.ll_laws.specs.Consistent.{is_made}
 use Rattle.ll_laws.proofs.CallerLemmas.{sub_premise, sub_same, formula_of_fits, PremisesFit}
 use Rattle.ll_freeze.specs.declared.machine.Item.TheVariants.{Goal}
-use Rattle.ll_freeze.specs.Reading.{reading, read_term, read_form, HasValue}
+use Rattle.ll_freeze.specs.Reading.{reading, read_term, read_form, goal_tree, read_goal, HasValue}
 use Rattle.ll_freeze.specs.Shown.{shown_item, shown_entry}
 use Rattle.ll_freeze.specs.Fits.{HasItem, IsGoalIn}
 use Rattle.ll_engine.proofs.machine.ReadLemmas.{reading_same}
 use Rattle.ll_engine.proofs.machine.ReadLemmas.{reading_past}
 use Rattle.ll_freeze.proofs.CallerLemmas.{form_same}
-use Rattle.ll_engine.proofs.machine.LaterLemmas.{form_later, terms_later, entries_later}
+use Rattle.ll_engine.proofs.machine.LaterLemmas.{goal_later, terms_later, entries_later}
 use Rattle.ll_engine.proofs.inferences.StepLemmas.{vars_fixed}
 
 -- ---- variables
@@ -126,22 +128,23 @@ module _ (first mid new : Nodes) (bound after : List (Option At)) (v : ℕ
   reads_first x = reads x ∙ ap (sub v) (reading_same first mid e1 bound has x)
 
   -- the premises of a leaf
-  pub goals_later : (gs : List FormAt) (ps : List Premise) (kept : List Saved) → All (λ g. HasForm mid g.0) gs
-      → map (λ g. form_tree mid g.0) gs ≡ map premise_goal ps
-      → map (shown_item new after kept) (map Goal gs) ≡ map (sub_item v)
+  pub goals_later : (gs : List (FormAt × Environment)) (ps : List Premise) (kept : List Saved) → All (λ g. HasForm mid g.0.0) gs
+      → map (λ g. goal_tree mid g.1 g.0) gs ≡ map premise_goal ps
+      → map (shown_item new after kept) (map (λ g. Goal g.0 g.1) gs) ≡ map (sub_item v)
       (map (λ p. Rattle.ll_laws.specs.Settle.Goal (premise_goal p)) (map (sub_premise (reading first bound)) ps))
   goals_later [] [] kept h e = refl
   goals_later [] (p ∷ ps) kept h e = cc
   goals_later (g ∷ gs) [] kept h e = cc
   goals_later (g ∷ gs) (p ∷ ps) kept h e =
-      let here : form_tree mid g.0 ≡ premise_goal p = cc in
-      let there : map (λ (f : FormAt). form_tree mid f.0) gs ≡ map premise_goal ps = cc in
-      let one : read_form new after g ≡ sub_form v (premise_goal (sub_premise (reading first bound) p)) =
-      form_later mid new bound after v e2 reads g (All-head (λ (f : FormAt). HasForm mid f.0) g gs h)
-      ∙ ap (sub_form v) (form_same (reading mid bound) (reading first bound) (reading_same first mid e1 bound has) (form_tree mid g.0)
+      let P : FormAt × Environment → Type 0 = λ f. HasForm mid f.0.0 in
+      let here : goal_tree mid g.1 g.0 ≡ premise_goal p = cc in
+      let there : map (λ (f : FormAt × Environment). goal_tree mid f.1 f.0) gs ≡ map premise_goal ps = cc in
+      let one : read_goal new after g.1 g.0 ≡ sub_form v (premise_goal (sub_premise (reading first bound) p)) =
+      goal_later mid new bound after v e2 reads g.1 g.0 (All-head P g gs h)
+      ∙ ap (sub_form v) (form_same (reading mid bound) (reading first bound) (reading_same first mid e1 bound has) (goal_tree mid g.1 g.0)
       ∙ (ap (sub_form (reading first bound)) here ∙ sym (goal_sub (reading first bound) p)))
       in
-      let rest = goals_later gs ps kept (All-tail (λ (f : FormAt). HasForm mid f.0) g gs h) there in
+      let rest = goals_later gs ps kept (All-tail P g gs h) there in
       λ i. Rattle.ll_laws.specs.Settle.Goal (one i) ∷ rest i
 
   -- the context
@@ -171,19 +174,22 @@ module _ (first mid new : Nodes) (bound after : List (Option At)) (v : ℕ
 
 -- ---- goals as they stand
 
-pub goals_sorted : (may : Allowed) (bank : Nodes) (gs : List FormAt) (ps : List Premise) → PremisesFit may ps
-    → map (λ g. form_tree bank g.0) gs ≡ map premise_goal ps → All (IsGoalIn may bank) (map Goal gs)
-goals_sorted may bank [] [] h e = λ k d l. absurd (omega arith)
-goals_sorted may bank [] (p ∷ ps) h e = cc
-goals_sorted may bank (g ∷ gs) [] h e = cc
-goals_sorted may bank (g ∷ gs) (p ∷ ps) h e =
-    let here : form_tree bank g.0 ≡ premise_goal p = cc in
-    let there : map (λ (f : FormAt). form_tree bank f.0) gs ≡ map premise_goal ps = cc in
-    All-cons (IsGoalIn may bank) (Goal g) (map Goal gs) (subst (IsFormula may GoalSide []) (sym here) (formula_of_fits may GoalSide [] (premise_goal p) h.0))
-    (goals_sorted may bank gs ps h.1 there)
+pub goals_sorted : (may : Allowed) (bank : Nodes) (gs : List (FormAt × Environment)) (ps : List Premise) → All (λ g. IsWithin may.variables g.1) gs
+    → PremisesFit may ps → map (λ g. goal_tree bank g.1 g.0) gs ≡ map premise_goal ps → All (IsGoalIn may bank) (map (λ g. Goal g.0 g.1) gs)
+goals_sorted may bank [] [] w h e = λ k d l. absurd (omega arith)
+goals_sorted may bank [] (p ∷ ps) w h e = cc
+goals_sorted may bank (g ∷ gs) [] w h e = cc
+goals_sorted may bank (g ∷ gs) (p ∷ ps) w h e =
+    let P : FormAt × Environment → Type 0 = λ f. IsWithin may.variables f.1 in
+    let here : goal_tree bank g.1 g.0 ≡ premise_goal p = cc in
+    let there : map (λ (f : FormAt × Environment). goal_tree bank f.1 f.0) gs ≡ map premise_goal ps = cc in
+    let one = subst (IsFormula may GoalSide []) (sym here) (formula_of_fits may GoalSide [] (premise_goal p) h.0) in
+    All-cons (IsGoalIn may bank) (Goal g.0 g.1) (map (λ f. Goal f.0 f.1) gs) (All-head P g gs w, one)
+    (goals_sorted may bank gs ps (All-tail P g gs w) h.1 there)
 
-pub goals_inside : (bank : Nodes) (kept : ℕ) (gs : List FormAt) → All (λ g. HasForm bank g.0) gs → All (HasItem bank kept) (map Goal gs)
+pub goals_inside : (bank : Nodes) (kept : ℕ) (gs : List (FormAt × Environment)) → All (λ g. HasForm bank g.0.0) gs
+    → All (HasItem bank kept) (map (λ g. Goal g.0 g.1) gs)
 goals_inside bank kept [] h = λ k d l. absurd (omega arith)
 goals_inside bank kept (g ∷ gs) h =
-    All-cons (HasItem bank kept) (Goal g) (map Goal gs) (All-head (λ (f : FormAt). HasForm bank f.0) g gs h)
-    (goals_inside bank kept gs (All-tail (λ (f : FormAt). HasForm bank f.0) g gs h))
+    let P : FormAt × Environment → Type 0 = λ f. HasForm bank f.0.0 in
+    All-cons (HasItem bank kept) (Goal g.0 g.1) (map (λ f. Goal f.0 f.1) gs) (All-head P g gs h) (goals_inside bank kept gs (All-tail P g gs h))

@@ -1,38 +1,39 @@
 -- The way to a leaf, step by step.
-use Rattle.std.proofs.Common.{◌≡◌, ℕ, zero, suc, ◌+◌, ◌-◌, ◌<◌, ◌≤◌, List, [], ◌∷◌, ◌++◌, length, map, take, drop, reverse, All, refl, ap, sym, subst, ◌∙◌}
-use Rattle.std.proofs.Common.{arith, Option, Some, Bool, true, false, append_assoc, get_or, inl, inr}
-use Rattle.std.specs.Prelude.{if◌then◌else◌, slice_get, option_map, ◌&&◌}
-use Rattle.std.specs.List.{list_all}
-use Rattle.std.proofs.lemmas.Bool.{cases_lt, lt-ltb, and_from as and_intro}
-use Rattle.std.proofs.lemmas.List.{append-nil, map-append, reverse-append, take_all, length-drop}
-use Rattle.std.proofs.lemmas.List.Elements.{All-cons, All-push, All-take, All-drop}
+use Rattle.std.proofs.Common.{◌≡◌, ℕ, zero, suc, ◌+◌, ◌-◌, ◌<◌, ◌≤◌, List, [], ◌∷◌, ◌++◌, length, map, All, refl, ap, sym, subst, ◌∙◌}
+use Rattle.std.proofs.Common.{arith, Option, Some, true, false, append_assoc, get_or, inl, inr}
+use Rattle.std.specs.Prelude.{if◌then◌else◌, slice_get, slice_index_or, option_map, ◌&&◌}
+use Rattle.std.proofs.lemmas.Bool.{cases_lt, lt-ltb}
+use Rattle.std.proofs.lemmas.List.{append-nil}
+use Rattle.std.proofs.lemmas.List.Elements.{All-cons, All-push}
 use Rattle.ll_list_laws.proofs.CallerLemmas.{length-map_suc as length-suc, slice_get-append_left as get_left, slice_get-append_right as get_right}
-use Rattle.ll_list_laws.proofs.CallerLemmas.{slice_get-map_suc as get_suc, lt_false as not_below, and_true_left as and_left, and_true_right as and_right}
+use Rattle.ll_list_laws.proofs.CallerLemmas.{slice_get-map_suc as get_suc, lt_false as not_below, and_true_right as and_right}
 use Rattle.ll_bank.specs.declared.At.{At}
 use Rattle.ll_bank.specs.declared.FormAt.{FormAt}
 use Rattle.ll_bank.specs.declared.FormNode.{FormNode}
 use Rattle.ll_bank.specs.declared.FormNode.TheVariants.{Top as TopView, One as OneView, Atom as AtomView, With as WithView, Tensor as TensorView}
 use Rattle.ll_bank.specs.declared.FormNode.TheVariants.{Plus as PlusView, Bang as BangView, Lolli as LolliView, Imp as ImpView, Forall as ForallView}
 use Rattle.ll_bank.specs.declared.FormNode.TheVariants.{Exists as ExistsView, Use as UseView, Is as IsView, Less as LessView, Most as MostView}
-use Rattle.ll_bank.specs.Term.{Term, Var, Env, close, applies_heads, is_spine, head_of}
-use Rattle.ll_bank.specs.Form.{Form, Top, One, Atom, With, Tensor, Plus, Bang, Lolli, Imp, Forall, Exists, Use, Num, close_form, form_applies_heads}
+use Rattle.ll_bank.specs.declared.Head.TheVariants.{Name, Eigen, Bound}
+use Rattle.ll_bank.specs.declared.environment.Environment.{Environment}
+use Rattle.ll_bank.specs.Term.{Term, Var, Int, Con, Ap, Env, close, applies_heads, is_spine, head_of}
+use Rattle.ll_bank.specs.Form.{Form, Atom, With, Bang, Lolli, Imp, Forall, close_form}
+use Rattle.ll_bank.specs.Environments.{IsWithin, values_before, values_in}
 use Rattle.ll_bank.specs.Nodes.{Nodes, HasTerm, HasForm, AllInTerms, Extends, term_tree, term_trees, form_tree, form_of}
 use Rattle.ll_bank.proofs.CallerLemmas.{HasForm-extends, form_tree-extends, AllInTerms-extends, term_trees-extends, Extends-refl, Extends-trans}
 use Rattle.ll_bank.proofs.CallerLemmas.{length-term_trees}
+use Rattle.ll_bind.specs.Built.{begins_fixed}
 use Rattle.ll_laws.specs.Leaf.{Leaf, Premise, Needs, NeedsFree, add_premise, premise_goal, ways, leaf, leaf_from}
 use Rattle.ll_laws.specs.Attempt.{vars_from}
-use Rattle.ll_laws.specs.Valid.{Allowed, Side, GoalSide, ClauseSide, Scope, has_heads, is_headed, may_head}
-use Rattle.ll_laws.proofs.CallerLemmas.{Grows, Closes, Widens, FormFits, fits_of_formula, formula_of_fits, fits-more, fits-close, length-vars}
-use Rattle.ll_laws.proofs.CallerLemmas.{headed_applies, all_headed}
+use Rattle.ll_laws.specs.Valid.{Allowed, ClauseSide, Scope, is_headed, may_head}
+use Rattle.ll_laws.proofs.CallerLemmas.{Grows, Closes, FormFits, IsHead, fits_of_formula, formula_of_fits, fits-more, fits-close, length-vars}
+use Rattle.ll_laws.proofs.CallerLemmas.{widens-refl, headed_applies}
 use Rattle.ll_agenda.specs.declared.agenda.Top.{Top as AgendaTop}
 use Rattle.ll_agenda.specs.Frames.{Frames, ShowsItems, items_at}
-use Rattle.ll_bank.specs.Environments.{values_before}
+use Rattle.ll_freeze.specs.Reading.{goal_tree}
 use Rattle.ll_freeze.specs.declared.machine.Item.{Item}
 use Rattle.ll_freeze.specs.declared.machine.Item.TheVariants.{Goal}
 use Rattle.ll_engine.specs.declared.open.Side.{Side as LeafSide}
 use Rattle.ll_engine.specs.Opening.{IsClause, IsSide, AreGoalsOf, Opens}
-use Rattle.ll_bank.specs.Closing.{env_of}
-use Rattle.ll_engine.proofs.inferences.TakenLemmas.{vars_split}
 
 -- the values of the first variables from one on, as an environment: the last made stands in front
 abbrev pub env_vars : ℕ → ℕ → Env
@@ -56,61 +57,16 @@ pub record IsOnWay (first : Nodes) (items : List Item) (before clause k : ℕ) (
   pub fits : FormFits may ClauseSide (scope_of count) (form_tree first form)
   pub among : at < length (ways (form_tree first form))
   pub premises : List Premise
-  pub goals : List FormAt
-  pub shows : ShowsItems now top (map Goal goals ++ items)
-  pub goals_are : AreGoalsOf bank goals premises
+  pub goals : List (FormAt × Environment)
+  pub shows : ShowsItems now top (map (λ g. Goal g.0 g.1) goals ++ items)
+  pub goals_are : AreGoalsOf bank (before + count) goals premises
   pub terms_inside : AllInTerms bank terms
   pub variables : term_trees bank terms ≡ vars_from 0 (before + count)
   pub way : (n : ℕ) → slice_get (ways (form_tree first form)) at ≡ Some n → slice_get (ways (form_tree first clause)) k ≡ Some (count + n)
   pub leaf_is : (n : ℕ) (l : Leaf) → leaf_from (env_vars before count) (form_tree first form) at (vars_from (before + count) n) ≡ Some l
       → leaf (form_tree first clause) k (vars_from before (count + n)) ≡ Some (record { premises = l.premises ++ premises; head = l.head })
 
--- nothing but a head has arguments in a clause
-heads_apply : (opens : Bool) (side : Side) (scope : Scope) (f : Form) → has_heads opens side scope f ≡ true → form_applies_heads f ≡ true
-heads_apply o side scope Top h = refl
-heads_apply o side scope One h = refl
-heads_apply o side scope (Atom a) h = headed_applies scope a (and_right (is_spine a && may_head scope (head_of a)) (is_headed scope a) h)
-heads_apply o side scope (With f g) h =
-    and_intro (form_applies_heads f) (form_applies_heads g) (heads_apply o side scope f (and_left (has_heads o side scope f) (has_heads o side scope g) h))
-    (heads_apply o side scope g (and_right (has_heads o side scope f) (has_heads o side scope g) h))
-heads_apply o side scope (Tensor f g) h =
-    and_intro (form_applies_heads f) (form_applies_heads g) (heads_apply o side scope f (and_left (has_heads o side scope f) (has_heads o side scope g) h))
-    (heads_apply o side scope g (and_right (has_heads o side scope f) (has_heads o side scope g) h))
-heads_apply o side scope (Plus f g) h =
-    and_intro (form_applies_heads f) (form_applies_heads g) (heads_apply o side scope f (and_left (has_heads o side scope f) (has_heads o side scope g) h))
-    (heads_apply o side scope g (and_right (has_heads o side scope f) (has_heads o side scope g) h))
-heads_apply o side scope (Bang f) h = heads_apply o side scope f h
-heads_apply o GoalSide scope (Lolli f g) h =
-    and_intro (form_applies_heads f) (form_applies_heads g) (heads_apply o ClauseSide scope f
-    (and_left (has_heads o ClauseSide scope f) (has_heads o GoalSide scope g) h))
-    (heads_apply o GoalSide scope g (and_right (has_heads o ClauseSide scope f) (has_heads o GoalSide scope g) h))
-heads_apply o ClauseSide scope (Lolli f g) h =
-    and_intro (form_applies_heads f) (form_applies_heads g) (heads_apply o GoalSide scope f
-    (and_left (has_heads o GoalSide scope f) (has_heads o ClauseSide scope g) h))
-    (heads_apply o ClauseSide scope g (and_right (has_heads o GoalSide scope f) (has_heads o ClauseSide scope g) h))
-heads_apply o GoalSide scope (Imp f g) h =
-    and_intro (form_applies_heads f) (form_applies_heads g) (heads_apply o ClauseSide scope f
-    (and_left (has_heads o ClauseSide scope f) (has_heads o GoalSide scope g) h))
-    (heads_apply o GoalSide scope g (and_right (has_heads o ClauseSide scope f) (has_heads o GoalSide scope g) h))
-heads_apply o ClauseSide scope (Imp f g) h =
-    and_intro (form_applies_heads f) (form_applies_heads g) (heads_apply o GoalSide scope f
-    (and_left (has_heads o GoalSide scope f) (has_heads o ClauseSide scope g) h))
-    (heads_apply o ClauseSide scope g (and_right (has_heads o GoalSide scope f) (has_heads o ClauseSide scope g) h))
-heads_apply o GoalSide scope (Forall f) h = heads_apply o GoalSide (o ∷ scope) f h
-heads_apply o ClauseSide scope (Forall f) h = heads_apply o ClauseSide (false ∷ scope) f h
-heads_apply o side scope (Exists f) h = heads_apply o side (false ∷ scope) f h
-heads_apply o side scope (Use m ts f) h =
-    and_intro (list_all applies_heads ts) (form_applies_heads f) (all_headed scope ts (and_left (list_all (is_headed scope) ts) (has_heads o side scope f) h))
-    (heads_apply o side scope f (and_right (list_all (is_headed scope) ts) (has_heads o side scope f) h))
-heads_apply o side scope (Num r t u) h =
-    and_intro (applies_heads t) (applies_heads u) (headed_applies scope t (and_left (is_headed scope t) (is_headed scope u) h))
-    (headed_applies scope u (and_right (is_headed scope t) (is_headed scope u) h))
-
 -- ---- the environment of the variables made on the way
-
-same_scope : (n : ℕ) → Widens (scope_of n) (scope_of n)
-same_scope zero = tt
-same_scope (suc n) = (λ h. h, same_scope n)
 
 closes_vars : (may : Allowed) (before n : ℕ) → before + n ≤ may.variables → Closes may (env_vars before n) (scope_of n) []
 closes_vars may before zero h = tt
@@ -122,19 +78,29 @@ with_vars may n = record { modules = may.modules; variables = may.variables + n;
 grows_vars : (may : Allowed) (n : ℕ) → Grows may (with_vars may n)
 grows_vars may n = record { modules = refl; variables = omega arith; eigens = omega arith; opens = λ h. h }
 
--- what fits under the quantifiers is well sorted with the variables in place of their bound places
-closed_fits : (may : Allowed) (before count : ℕ) (side : Side) (f : Form) → FormFits may side (scope_of count) f
-    → FormFits (with_vars may (before + count)) side [] (close_form (env_vars before count) f)
-closed_fits may before count side f h =
-    let more = with_vars may (before + count) in
-    fits-close more (env_vars before count) side (scope_of count) [] f (closes_vars more before count (omega arith))
-    (fits-more may more side (scope_of count) (scope_of count) f (grows_vars may (before + count)) (same_scope count) h)
+-- an atom that fits under the quantifiers begins with a sign that is no bound place
+scope_opens_none : (n k : ℕ) → slice_index_or (scope_of n) k false ≡ false
+scope_opens_none zero k = refl
+scope_opens_none (suc n) zero = refl
+scope_opens_none (suc n) (suc k) = scope_opens_none n k
 
-pub closed_applies : (may : Allowed) (before count : ℕ) (side : Side) (f : Form) → FormFits may side (scope_of count) f
-    → form_applies_heads (close_form (env_vars before count) f) ≡ true
-closed_applies may before count side f h =
-    let more = with_vars may (before + count) in let g = close_form (env_vars before count) f in
-    heads_apply more.opens side [] g (formula_of_fits more side [] g (closed_fits may before count side f h)).heads
+pub begins_in : (count : ℕ) (t : Term) → IsHead (scope_of count) t → begins_fixed t ≡ true
+begins_in count (Var x) h = absurd (cc (h.0))
+begins_in count (Int z) h = absurd (cc (h.0))
+begins_in count (Con (Name n)) h = refl
+begins_in count (Con (Eigen n)) h = refl
+begins_in count (Con (Bound k)) h = sym (scope_opens_none count k) ∙ h.1
+begins_in count (Ap f a) h = begins_in count f h
+
+-- nothing but its head has arguments, with the variables in place of its bound places
+applies_in : (may : Allowed) (before count : ℕ) (t : Term) → FormFits may ClauseSide (scope_of count) (Atom t)
+    → applies_heads (close (env_vars before count) t) ≡ true
+applies_in may before count t h =
+    let more = with_vars may (before + count) in let u = close (env_vars before count) t in
+    let fits = fits-close more (env_vars before count) ClauseSide (scope_of count) [] (Atom t) (closes_vars more before count (omega arith))
+    (fits-more may more ClauseSide (scope_of count) (scope_of count) (Atom t) (grows_vars may (before + count)) (widens-refl (scope_of count)) h)
+    in
+    headed_applies [] u (and_right (is_spine u && may_head [] (head_of u)) (is_headed [] u) (formula_of_fits more ClauseSide [] (Atom u) fits).heads)
 
 -- ---- lists
 
@@ -152,61 +118,22 @@ trees_push : (nodes : Nodes) (ats : List At) (at : At) → term_trees nodes (ats
 trees_push nodes [] at = refl
 trees_push nodes (a ∷ ats) at = ap (λ ts. term_tree nodes a.0 ∷ ts) (trees_push nodes ats at)
 
-trees_same : (old new : Nodes) (gs : List FormAt) → Extends old new → All (λ g. HasForm old g.0) gs
-    → map (λ g. form_tree new g.0) gs ≡ map (λ g. form_tree old g.0) gs
+trees_same : (old new : Nodes) (gs : List (FormAt × Environment)) → Extends old new → All (λ g. HasForm old g.0.0) gs
+    → map (λ g. goal_tree new g.1 g.0) gs ≡ map (λ g. goal_tree old g.1 g.0) gs
 trees_same old new [] e h = refl
-trees_same old new (g ∷ gs) e h = λ i. form_tree-extends e g.0 (h 0 g (omega arith)) i ∷ trees_same old new gs e (λ k d l. h (suc k) d (omega arith)) i
+trees_same old new (g ∷ gs) e h =
+    let here = form_tree-extends e g.0.0 (h 0 g (omega arith)) in
+    λ i. close_form (values_in g.1) (here i) ∷ trees_same old new gs e (λ k d l. h (suc k) d (omega arith)) i
 
-env_push : (before n : ℕ) → reverse (map (λ t. Some t) (vars_from before n)) ≡ env_vars before n
-env_push before zero = refl
-env_push before (suc n) =
-    ap (λ ts. reverse (map (λ t. Some t) ts)) (vars_push before n (suc n) refl)
-    ∙ (ap (λ os. reverse os) (map-append (λ t. let o : Option Term = Some t in o) (vars_from before n) (Var (before + n) ∷ []))
-    ∙ (reverse-append (map (λ t. let o : Option Term = Some t in o) (vars_from before n)) (Some (Var (before + n)) ∷ [])
-    ∙ ap (λ os. Some (Var (before + n)) ∷ os) (env_push before n)))
+within_more : (n m : ℕ) (gs : List (FormAt × Environment)) → n ≤ m → All (λ g. IsWithin n g.1) gs → All (λ g. IsWithin m g.1) gs
+within_more n m gs le h = λ k d l. let w = h k d l in record { count = w.count; end = (let e = w.end in omega (arith, le, e)) }
 
-drop_first : {A : Type 0} (xs ys : List A) (n : ℕ) → length xs ≡ n → drop n (xs ++ ys) ≡ ys
-drop_first [] ys zero e = refl
-drop_first [] ys (suc n) e = absurd (omega (arith, e))
-drop_first (x ∷ xs) ys zero e = absurd (omega (arith, e))
-drop_first (x ∷ xs) ys (suc n) e = drop_first xs ys n (omega (arith, e))
-
-map_some : (nodes : Nodes) (ats : List At) → map (λ (v : At). let o : Option Term = Some (term_tree nodes v.0) in o) ats
-    ≡ map (λ t. Some t) (term_trees nodes ats)
-map_some nodes [] = refl
-map_some nodes (a ∷ ats) = ap (λ os. Some (term_tree nodes a.0) ∷ os) (map_some nodes ats)
-
-drop_trees : (nodes : Nodes) (n : ℕ) (ats : List At) → term_trees nodes (drop n ats) ≡ drop n (term_trees nodes ats)
-drop_trees nodes zero ats = refl
-drop_trees nodes (suc n) [] = refl
-drop_trees nodes (suc n) (a ∷ ats) = drop_trees nodes n ats
-
--- the variables made on the way are the environment
-pub env_is : (nodes : Nodes) (terms : List At) (before count : ℕ) → term_trees nodes terms ≡ vars_from 0 (before + count)
-    → env_of nodes (drop before terms) ≡ env_vars before count
-env_is nodes terms before count e =
-    let z : 0 + before ≡ before = omega arith in
-    ap (λ os. reverse os) (map_some nodes (drop before terms))
-    ∙ (ap (λ ts. reverse (map (λ t. Some t) ts))
-    (drop_trees nodes before terms ∙ (ap (drop before) (e ∙ (vars_split 0 before count ∙ ap (λ b. vars_from 0 before ++ vars_from b count) z))
-    ∙ drop_first (vars_from 0 before) (vars_from before count) before (length-vars 0 before)))
-    ∙ env_push before count)
-
--- it is that of the last variables
+-- the environment is that of the last variables
 pub env_before : (before n : ℕ) → env_vars before n ≡ values_before (before + n) n
 env_before before zero = refl
 env_before before (suc n) =
     (λ i. Some (Var ((let e : before + n ≡ before + suc n - 1 = omega arith in e) i)) ∷ env_before before n i)
     ∙ ap (λ m. Some (Var (before + suc n - 1)) ∷ values_before m n) (let e : before + n ≡ before + suc n - 1 = omega arith in e)
-
--- so is the part of the list of variables that is lent
-pub slice_env : (nodes : Nodes) (lent terms : List At) (from before count : ℕ) → lent ≡ terms → from ≡ before
-    → term_trees nodes terms ≡ vars_from 0 (before + count)
-    → env_of nodes (take (length lent - from) (drop from lent)) ≡ env_vars before count
-slice_env nodes lent terms from before count e f vars =
-    let n = length-drop from lent in
-    ap (λ ats. env_of nodes ats) (take_all (length lent - from) (drop from lent) (omega (arith, n)))
-    ∙ ((λ i. env_of nodes (drop (f i) (e i))) ∙ env_is nodes terms before count vars)
 
 -- ---- parts
 
@@ -255,7 +182,7 @@ module _ (first : Nodes) (items : List Item) (before clause k : ℕ) where
     premises = [];
     goals = [];
     shows = shows;
-    goals_are = record { inside = λ i d l. absurd (omega arith); trees = refl };
+    goals_are = record { inside = λ i d l. absurd (omega arith); within = λ i d l. absurd (omega arith); trees = refl };
     terms_inside = in_terms;
     variables = vars ∙ ap (vars_from 0) (omega arith);
     way = λ n h. h ∙ ap (λ m. Some m) (omega arith);
@@ -287,12 +214,6 @@ module _ (first : Nodes) (items : List Item) (before clause k : ℕ) where
         let l = subst (λ (f : Form). at < length (ways f)) (sym (same_part form w.inside) ∙ seen) w.among in
         let z = subst (λ (ws : List ℕ). at < length ws) none l in absurd (omega (arith, z))
 
-    -- the part of the variables that is lent is one, in the bank
-    pub lent_inside : (lent : List At) (from : ℕ) → lent ≡ terms → AllInTerms bank (take (length lent - from) (drop from lent))
-    lent_inside lent from e =
-        let P : At → Type 0 = λ a. a.0 < length bank.terms in
-        All-take P (length lent - from) (drop from lent) (All-drop P from lent (subst (All P) (sym e) w.terms_inside))
-
     -- it goes along with the bank
     pub way_extends : (new : Nodes) → Extends bank new → IsOnWay first items before clause k new now terms form.0 at top
     way_extends new e =
@@ -307,7 +228,8 @@ module _ (first : Nodes) (items : List Item) (before clause k : ℕ) where
           goals = w.goals;
           shows = w.shows;
           goals_are = record {
-            inside = λ i d l. HasForm-extends e (get_or w.goals i d).0 (w.goals_are.inside i d l);
+            inside = λ i d l. HasForm-extends e (get_or w.goals i d).0.0 (w.goals_are.inside i d l);
+            within = w.goals_are.within;
             trees =
                 trees_same bank new w.goals e w.goals_are.inside ∙ w.goals_are.trees;
           };
@@ -374,15 +296,23 @@ module _ (first : Nodes) (items : List Item) (before clause k : ℕ) where
               ∙ (ap (λ j. leaf_from v right j ts) (sym e) ∙ q)));
         }
 
+    -- the environment of the variables made so far
+    abbrev own : Environment
+    own = record { end = before + w.count; count = w.count }
+
+    count_terms : length terms ≡ before + w.count
+    count_terms = sym (length-term_trees bank terms) ∙ (ap (λ (ts : List Term). length ts) w.variables ∙ length-vars 0 (before + w.count))
+
     -- past a premise, whose goal came in front of the agenda in a bank with more places
-    pub way_past : (p : Premise) (b r : FormAt) (more : Nodes) (new : Frames Item) (top' : AgendaTop) → Extends bank more
+    way_past : (p : Premise) (b r : FormAt) (n : Environment) (more : Nodes) (new : Frames Item) (top' : AgendaTop) → Extends bank more
         → ways (form_tree first form.0) ≡ ways (form_tree first r.0)
         → ((ts : List Term) → leaf_from (env_vars before w.count) (form_tree first form.0) at ts
         ≡ option_map (add_premise p) (leaf_from (env_vars before w.count) (form_tree first r.0) at ts))
-        → HasForm first r.0 → FormFits w.may ClauseSide (scope_of w.count) (form_tree first r.0) → HasForm more b.0 → form_tree more b.0 ≡ premise_goal p
-        → ShowsItems new top' (Goal b ∷ items_at now top) → IsOnWay first items before clause k more new terms r.0 at top'
+        → HasForm first r.0 → FormFits w.may ClauseSide (scope_of w.count) (form_tree first r.0) → HasForm more b.0 → IsWithin (before + w.count) n
+        → goal_tree more n b ≡ premise_goal p
+        → ShowsItems new top' (Goal b n ∷ items_at now top) → IsOnWay first items before clause k more new terms r.0 at top'
     unfolding way_extends
-    way_past p b r more new top' e same leaves inside fits goal_inside goal shows =
+    way_past p b r n more new top' e same leaves inside fits goal_inside within goal shows =
         let v = way_extends more e in record {
           keeps = v.keeps;
           inside = inside;
@@ -391,10 +321,11 @@ module _ (first : Nodes) (items : List Item) (before clause k : ℕ) where
           fits = fits;
           among = subst (λ (ws : List ℕ). at < length ws) same w.among;
           premises = p ∷ w.premises;
-          goals = b ∷ w.goals;
-          shows = record { inside = shows.inside; list = shows.list ∙ ap (λ is. Goal b ∷ is) w.shows.list };
+          goals = (b, n) ∷ w.goals;
+          shows = record { inside = shows.inside; list = shows.list ∙ ap (λ is. Goal b n ∷ is) w.shows.list };
           goals_are = record {
-            inside = All-cons (λ (g : FormAt). HasForm more g.0) b w.goals goal_inside v.goals_are.inside;
+            inside = All-cons (λ (g : FormAt × Environment). HasForm more g.0.0) (b, n) w.goals goal_inside v.goals_are.inside;
+            within = All-cons (λ (g : FormAt × Environment). IsWithin (before + w.count) g.1) (b, n) w.goals within w.goals_are.within;
             trees =
                 λ i. goal i ∷ v.goals_are.trees i;
           };
@@ -406,60 +337,76 @@ module _ (first : Nodes) (items : List Item) (before clause k : ℕ) where
               ∙ ap (λ ps. let o : Option Leaf = Some (record { premises = ps; head = l.head }) in o) (append_assoc l.premises (p ∷ []) w.premises);
         }
 
-    -- the goal of a premise has no arguments but those of heads, once it is closed by the part of the variables that is lent
-    closed_heads : (g : FormAt) → HasForm first g.0 → FormFits w.may GoalSide (scope_of w.count) (form_tree first g.0) → (lent : List At) (from : ℕ)
-        → lent ≡ terms → from ≡ before
-        → form_applies_heads (close_form (env_of bank (take (length lent - from) (drop from lent))) (form_tree bank g.0)) ≡ true
-    closed_heads g inside fits lent from e f =
-        (λ i. form_applies_heads (close_form (slice_env bank lent terms from before w.count e f w.variables i) (same_part g inside i)))
-        ∙ closed_applies w.may before w.count GoalSide (form_tree first g.0) fits
+    module _ (lent : List At) (from : ℕ) (n : Environment) (lent_is : lent ≡ terms) (from_is : from ≡ before) (end_is : n.end ≡ length lent)
+        (count_is : n.count ≡ length lent - from) where
+      -- it is what is made of the variables that are lent
+      own_made : n ≡ own
+      own_made =
+          let a = ap (λ (ts : List At). length ts) lent_is in let c = count_terms in
+          let end : n.end ≡ before + w.count = omega (arith, end_is, a, c) in
+          let count : n.count ≡ w.count = omega (arith, count_is, from_is, a, c) in
+          λ i. record { end = end i; count = count i }
 
-    -- it is that of the clause, closed by the variables
-    closed_goal : (g : FormAt) → HasForm first g.0 → (lent : List At) (from : ℕ) → lent ≡ terms → from ≡ before
-        → close_form (env_of bank (take (length lent - from) (drop from lent))) (form_tree bank g.0)
-        ≡ close_form (env_vars before w.count) (form_tree first g.0)
-    closed_goal g inside lent from e f i = close_form (slice_env bank lent terms from before w.count e f w.variables i) (same_part g inside i)
+      own_within : IsWithin (before + w.count) n
+      own_within = subst (IsWithin (before + w.count)) (sym own_made) (record { count = omega arith; end = omega arith })
+
+      -- under it bound places stand for the variables
+      own_values : values_in n ≡ env_vars before w.count
+      own_values = ap values_in own_made ∙ sym (env_before before w.count)
+
+      module _ (g r : FormAt) (parts : (g.0 < form.0) × (r.0 < form.0)) where
+        -- past a premise of either kind
+        pub way_lolli : (new : Frames Item) (top' : AgendaTop) → form_tree bank form.0 ≡ Lolli (form_tree bank g.0) (form_tree bank r.0)
+            → ShowsItems new top' (Goal g n ∷ items_at now top) → IsOnWay first items before clause k bank new terms r.0 at top'
+        way_lolli new top' seen shows =
+            let a = part_inside g parts.0 in let b = part_inside r parts.1 in let env = env_vars before w.count in
+            let tree : form_tree first form.0 ≡ Lolli (form_tree first g.0) (form_tree first r.0) =
+            sym (same_part form w.inside) ∙ (seen ∙ (λ i. Lolli (same_part g a i) (same_part r b i))) in
+            way_past (Needs (close_form env (form_tree first g.0))) g r n bank new top' (Extends-refl bank) (ap ways tree)
+            (λ ts. ap (λ t. leaf_from env t at ts) tree) b (subst (FormFits w.may ClauseSide (scope_of w.count)) tree w.fits).1
+            (part_stands g parts.0) own_within (λ i. close_form (own_values i) (same_part g a i)) shows
+
+        pub way_imp : (b : FormAt) (more : Nodes) (new : Frames Item) (top' : AgendaTop)
+            → form_tree bank form.0 ≡ Imp (form_tree bank g.0) (form_tree bank r.0) → Extends bank more → HasForm more b.0
+            → form_tree more b.0 ≡ Bang (form_tree bank g.0)
+            → ShowsItems new top' (Goal b n ∷ items_at now top) → IsOnWay first items before clause k more new terms r.0 at top'
+        way_imp b more new top' seen keeps inside free shows =
+            let a = part_inside g parts.0 in let d = part_inside r parts.1 in let env = env_vars before w.count in
+            let tree : form_tree first form.0 ≡ Imp (form_tree first g.0) (form_tree first r.0) =
+            sym (same_part form w.inside) ∙ (seen ∙ (λ i. Imp (same_part g a i) (same_part r d i))) in
+            way_past (NeedsFree (close_form env (form_tree first g.0))) b r n more new top' keeps (ap ways tree)
+            (λ ts. ap (λ t. leaf_from env t at ts) tree) d (subst (FormFits w.may ClauseSide (scope_of w.count)) tree w.fits).1
+            inside own_within (ap (close_form (values_in n)) free ∙ (λ i. Bang (close_form (own_values i) (same_part g a i)))) shows
+
+      -- to the head, whose bound places stand for the variables
+      pub way_end : (a : At) → form_tree bank form.0 ≡ Atom (term_tree bank a.0) → HasTerm bank a.0
+          → Opens first items before clause k bank now terms a n top
+      way_end a seen has =
+          let t = term_tree bank a.0 in
+          let tree : form_tree first form.0 ≡ Atom t = sym (same_part form w.inside) ∙ seen in
+          let fits = subst (FormFits w.may ClauseSide (scope_of w.count)) tree w.fits in
+          let last : at ≡ 0 = (let q = subst (λ t. at < length (ways t)) tree w.among in omega arith) in record {
+            premises = w.premises;
+            count = w.count;
+            goals = w.goals;
+            shows = w.shows;
+            goals_are = w.goals_are;
+            terms_inside = w.terms_inside;
+            variables = w.variables;
+            way = w.way 0 ((λ i. slice_get (ways (tree i)) (last i))) ∙ ap (λ m. Some m) (let e : w.count + 0 ≡ w.count = omega arith in e);
+            own_is = own_made;
+            inside = has;
+            begins = begins_in w.count t fits.0;
+            heads = ap (λ z. applies_heads (close z t)) own_values ∙ applies_in w.may before w.count t fits;
+            leaf_is =
+                ap (λ m. leaf (form_tree first clause) k (vars_from before m)) (let e : w.count ≡ w.count + 0 = omega arith in e)
+                ∙ w.leaf_is 0 (record { premises = []; head = close (values_in n) t })
+                ((λ i. leaf_from (env_vars before w.count) (tree i) (last i) [])
+                ∙ (let some : Term → Option Leaf = λ u. Some (record { premises = []; head = u }) in
+                ap (λ z. some (close z t)) (sym own_values)));
+          }
 
     module _ (g r : FormAt) (parts : (g.0 < form.0) × (r.0 < form.0)) where
-      lolli_seen : form_tree bank form.0 ≡ Lolli (form_tree bank g.0) (form_tree bank r.0)
-          → form_tree first form.0 ≡ Lolli (form_tree first g.0) (form_tree first r.0)
-      lolli_seen seen =
-          sym (same_part form w.inside) ∙ (seen ∙ (λ i. Lolli (same_part g (part_inside g parts.0) i) (same_part r (part_inside r parts.1) i)))
-
-      imp_seen : form_tree bank form.0 ≡ Imp (form_tree bank g.0) (form_tree bank r.0)
-          → form_tree first form.0 ≡ Imp (form_tree first g.0) (form_tree first r.0)
-      imp_seen seen =
-          sym (same_part form w.inside) ∙ (seen ∙ (λ i. Imp (same_part g (part_inside g parts.0) i) (same_part r (part_inside r parts.1) i)))
-
-      pub lolli_heads : form_tree bank form.0 ≡ Lolli (form_tree bank g.0) (form_tree bank r.0) → (lent : List At) (from : ℕ) → lent ≡ terms → from ≡ before
-          → form_applies_heads (close_form (env_of bank (take (length lent - from) (drop from lent))) (form_tree bank g.0)) ≡ true
-      lolli_heads seen = closed_heads g (part_inside g parts.0) (subst (FormFits w.may ClauseSide (scope_of w.count)) (lolli_seen seen) w.fits).0
-
-      pub imp_heads : form_tree bank form.0 ≡ Imp (form_tree bank g.0) (form_tree bank r.0) → (lent : List At) (from : ℕ) → lent ≡ terms → from ≡ before
-          → form_applies_heads (close_form (env_of bank (take (length lent - from) (drop from lent))) (form_tree bank g.0)) ≡ true
-      imp_heads seen = closed_heads g (part_inside g parts.0) (subst (FormFits w.may ClauseSide (scope_of w.count)) (imp_seen seen) w.fits).0
-
-      -- past a premise of either kind, whose goal was closed by them
-      pub way_lolli : (b : FormAt) (more : Nodes) (new : Frames Item) (top' : AgendaTop) (lent : List At) (from : ℕ) → lent ≡ terms → from ≡ before
-          → form_tree bank form.0 ≡ Lolli (form_tree bank g.0) (form_tree bank r.0) → Extends bank more → HasForm more b.0
-          → form_tree more b.0 ≡ close_form (env_of bank (take (length lent - from) (drop from lent))) (form_tree bank g.0)
-          → ShowsItems new top' (Goal b ∷ items_at now top) → IsOnWay first items before clause k more new terms r.0 at top'
-      way_lolli b more new top' lent from e f seen keeps inside goal shows =
-          let a = part_inside g parts.0 in let tree = lolli_seen seen in let env = env_vars before w.count in
-          way_past (Needs (close_form env (form_tree first g.0))) b r more new top' keeps (ap ways tree)
-          (λ ts. ap (λ t. leaf_from env t at ts) tree) (part_inside r parts.1) (subst (FormFits w.may ClauseSide (scope_of w.count)) tree w.fits).1 inside
-          (goal ∙ closed_goal g a lent from e f) shows
-
-      pub way_imp : (b : FormAt) (more : Nodes) (new : Frames Item) (top' : AgendaTop) (lent : List At) (from : ℕ) → lent ≡ terms → from ≡ before
-          → form_tree bank form.0 ≡ Imp (form_tree bank g.0) (form_tree bank r.0) → Extends bank more → HasForm more b.0
-          → form_tree more b.0 ≡ Bang (close_form (env_of bank (take (length lent - from) (drop from lent))) (form_tree bank g.0))
-          → ShowsItems new top' (Goal b ∷ items_at now top) → IsOnWay first items before clause k more new terms r.0 at top'
-      way_imp b more new top' lent from e f seen keeps inside goal shows =
-          let a = part_inside g parts.0 in let tree = imp_seen seen in let env = env_vars before w.count in
-          way_past (NeedsFree (close_form env (form_tree first g.0))) b r more new top' keeps (ap ways tree)
-          (λ ts. ap (λ t. leaf_from env t at ts) tree) (part_inside r parts.1) (subst (FormFits w.may ClauseSide (scope_of w.count)) tree w.fits).1 inside
-          (goal ∙ ap Bang (closed_goal g a lent from e f)) shows
-
       -- to the side of a `&` on which the leaf is
       pub way_side : (side : LeafSide) → form_tree bank form.0 ≡ With (form_tree bank g.0) (form_tree bank r.0)
           → IsSide (ways (form_tree bank g.0)) g r at side → IsOnWay first items before clause k bank now terms side.form.0 side.leaf top
@@ -471,12 +418,6 @@ module _ (first : Nodes) (items : List Item) (before clause k : ℕ) where
             subst (λ (f : FormAt). IsOnWay first items before clause k bank now terms f.0 side.leaf top) (sym s.0)
             (way_right g r side.leaf seen parts l s.1)
       ]
-
-    pub count_terms : length terms ≡ before + w.count
-    count_terms = sym (length-term_trees bank terms) ∙ (ap (λ (ts : List Term). length ts) w.variables ∙ length-vars 0 (before + w.count))
-
-    pub lent_behind : (lent : List At) (from : ℕ) → lent ≡ terms → from ≡ before → from ≤ length lent
-    lent_behind lent from e f = let a = ap (λ (ts : List At). length ts) e in let n = count_terms in omega (arith, a, f, n)
 
     -- into a quantifier, with a new variable
     pub way_in : (body : FormAt) (v : At) (new : Nodes) (more : List At) → form_tree bank form.0 ≡ Forall (form_tree bank body.0) → body.0 < form.0
@@ -499,7 +440,11 @@ module _ (first : Nodes) (items : List Item) (before clause k : ℕ) where
           premises = w.premises;
           goals = w.goals;
           shows = w.shows;
-          goals_are = z.goals_are;
+          goals_are = record {
+            inside = z.goals_are.inside;
+            within = within_more x (before + suc w.count) w.goals (omega arith) z.goals_are.within;
+            trees = z.goals_are.trees;
+          };
           terms_inside = subst (AllInTerms new) (sym is_more) (All-push (λ (a : At). a.0 < length new.terms) terms v z.terms_inside has);
           variables = ap (term_trees new) is_more ∙ (trees_push new terms v
               ∙ ((λ i. z.variables i ++ x_is i ∷ []) ∙ sym (vars_push 0 x (before + suc w.count) (omega arith)
@@ -511,29 +456,4 @@ module _ (first : Nodes) (items : List Item) (before clause k : ℕ) where
               ∙ w.leaf_is (suc n) l
               (ap (λ t. leaf_from (env_vars before w.count) t at (Var x ∷ vars_from (suc x) n)) tree
               ∙ (ap (λ m. leaf_from (env_vars before (suc w.count)) inner at (vars_from m n)) (sym next) ∙ q));
-        }
-
-    -- to the head, whose bound places stand for the variables
-    pub way_end : (a : At) → form_tree bank form.0 ≡ Atom (term_tree bank a.0) → HasTerm bank a.0 → Opens first items before clause k bank now terms a top
-    way_end a seen has =
-        let env : env_of bank (drop before terms) ≡ env_vars before w.count = env_is bank terms before w.count w.variables in
-        let tree : form_tree first form.0 ≡ Atom (term_tree bank a.0) = sym (same_part form w.inside) ∙ seen in
-        let last : at ≡ 0 = (let q = subst (λ t. at < length (ways t)) tree w.among in omega arith) in record {
-          premises = w.premises;
-          goals = w.goals;
-          shows = w.shows;
-          goals_are = w.goals_are;
-          count = w.count;
-          terms_inside = w.terms_inside;
-          variables = w.variables;
-          way = w.way 0 ((λ i. slice_get (ways (tree i)) (last i))) ∙ ap (λ m. Some m) (let e : w.count + 0 ≡ w.count = omega arith in e);
-          inside = has;
-          heads = ap (λ z. applies_heads (close z (term_tree bank a.0))) env
-              ∙ closed_applies w.may before w.count ClauseSide (Atom (term_tree bank a.0)) (subst (FormFits w.may ClauseSide (scope_of w.count)) tree w.fits);
-          leaf_is =
-              ap (λ m. leaf (form_tree first clause) k (vars_from before m)) (let e : w.count ≡ w.count + 0 = omega arith in e)
-              ∙ w.leaf_is 0 (record { premises = []; head = close (env_of bank (drop before terms)) (term_tree bank a.0) })
-              ((λ i. leaf_from (env_vars before w.count) (tree i) (last i) [])
-              ∙ (let some : Term → Option Leaf = λ t. Some (record { premises = []; head = t }) in
-              ap (λ z. some (close z (term_tree bank a.0))) (sym env)));
         }

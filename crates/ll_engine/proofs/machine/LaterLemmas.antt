@@ -4,7 +4,9 @@ use Rattle.std.proofs.lemmas.List.Elements.{All-head, All-tail}
 use Rattle.ll_bank.specs.declared.At.{At}
 use Rattle.ll_bank.specs.declared.FormAt.{FormAt}
 use Rattle.ll_bank.specs.Term.{Term, sub}
-use Rattle.ll_bank.specs.Form.{sub_form}
+use Rattle.ll_bank.specs.declared.environment.Environment.{Environment}
+use Rattle.ll_bank.specs.Environments.{values_in}
+use Rattle.ll_bank.specs.Form.{close_form, sub_form}
 use Rattle.ll_bank.specs.Nodes.{Nodes, HasTerm, HasForm, AllInTerms, Extends, term_tree, form_tree}
 use Rattle.ll_bank.proofs.CallerLemmas.{term_tree-extends, form_tree-extends}
 use Rattle.ll_laws.specs.Settle.{Saved, Entry}
@@ -12,7 +14,7 @@ use Rattle.ll_laws.specs.State.{sub_item, sub_entry}
 use Rattle.ll_laws.proofs.CallerLemmas.{sub_comp, sub_same, sub_form_comp}
 use Rattle.ll_freeze.specs.declared.machine.Item.{Item}
 use Rattle.ll_freeze.specs.declared.machine.Item.TheVariants.{Goal, LolliEnd, ImpEnd, Mid, WithEnd, BangEnd}
-use Rattle.ll_freeze.specs.Reading.{reading, read_term, read_form}
+use Rattle.ll_freeze.specs.Reading.{reading, read_term, read_form, goal_tree, read_goal}
 use Rattle.ll_freeze.specs.Shown.{shown_item, shown_entry}
 use Rattle.ll_freeze.specs.Fits.{HasItem}
 use Rattle.ll_freeze.proofs.CallerLemmas.{form_same}
@@ -31,13 +33,19 @@ module _ (old new : Nodes) (before after : List (Option At)) (v : ℕ → Term) 
       ∙ (form_same (reading new after) (λ x. sub v (reading old before x)) reads (form_tree old at.0)
       ∙ sym (sub_form_comp v (reading old before) (form_tree old at.0)))
 
+  pub goal_later : (e : Environment) (at : FormAt) → HasForm old at.0 → read_goal new after e at ≡ sub_form v (read_goal old before e at)
+  goal_later e at h =
+      ap (λ f. sub_form (reading new after) (close_form (values_in e) f)) (form_tree-extends keeps at.0 h)
+      ∙ (form_same (reading new after) (λ x. sub v (reading old before x)) reads (goal_tree old e at)
+      ∙ sym (sub_form_comp v (reading old before) (goal_tree old e at)))
+
   pub terms_later : (ats : List At) → AllInTerms old ats → map (read_term new after) ats ≡ map (sub v) (map (read_term old before) ats)
   terms_later [] h = refl
   terms_later (a ∷ ats) h = λ i. term_later a (All-head (λ (b : At). HasTerm old b.0) a ats h) i
       ∷ terms_later ats (All-tail (λ (b : At). HasTerm old b.0) a ats h) i
 
   item_later : (kept : List Saved) (n : ℕ) (i : Item) → HasItem old n i → shown_item new after kept i ≡ sub_item v (shown_item old before kept i)
-  item_later kept n (Goal g) h = ap (λ r. Rattle.ll_laws.specs.Settle.Goal r) (form_later g h)
+  item_later kept n (Goal g e) h = ap (λ r. Rattle.ll_laws.specs.Settle.Goal r) (goal_later e g h)
   item_later kept n (LolliEnd b) h = refl
   item_later kept n ImpEnd h = refl
   item_later kept n (Mid s) h = refl

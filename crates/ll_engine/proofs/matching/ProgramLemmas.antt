@@ -1,5 +1,5 @@
 -- The candidates among the program's clauses, as the index lists them.
-use Rattle.std.proofs.Common.{◌≡◌, ℕ, zero, suc, ◌+◌, ◌<◌, Bool, true, false, List, [], ◌∷◌, ◌++◌, length, map, filter, refl, ap, sym, ◌∙◌, arith}
+use Rattle.std.proofs.Common.{◌≡◌, ℕ, ◌+◌, ◌<◌, Bool, true, false, List, [], ◌∷◌, ◌++◌, length, map, filter, ap, sym, ◌∙◌, arith}
 use Rattle.std.proofs.Common.{append_assoc, drop}
 use Rattle.std.specs.Prelude.{if◌then◌else◌, slice_get, Some, option_map, flat_map}
 use Rattle.std.proofs.lemmas.List.{length-map, length-drop}

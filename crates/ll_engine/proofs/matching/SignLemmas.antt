@@ -20,22 +20,23 @@ use Rattle.ll_engine.proofs.machine.Standing.{spine-head, spine-arity}
 
 -- ---- what is read
 
+-- what stands for variables leaves the sign of a head with arguments
+pub spine_sign : (s : ℕ → Term) (u : Term) → is_spine u ≡ true → sign_of (sub s u) ≡ sign_of u
+spine_sign s (Var x) e = cc
+spine_sign s (Int z) e = refl
+spine_sign s (Con h) e = refl
+spine_sign s (Ap f a) e = (λ i. name_sign (spine-head s f e i) (suc (spine-arity s f e i)))
+
 -- where a walk ends what is read is the same
 module _ (nodes : Nodes) (t : Table) (tb : IsTable nodes t) (at end : At) (same : AreSame nodes t (term_tree nodes end.0) (term_tree nodes at.0)) where
   read_end : sub (found nodes t) (term_tree nodes at.0) ≡ sub (found nodes t) (term_tree nodes end.0)
   read_end = sym (same (found nodes t) (λ x to e. found-bound nodes t x to tb e))
 
-  spine_sign : (u : Term) → is_spine u ≡ true → sign_of (sub (found nodes t) u) ≡ sign_of u
-  spine_sign (Var x) e = cc
-  spine_sign (Int z) e = refl
-  spine_sign (Con h) e = refl
-  spine_sign (Ap f a) e = (λ i. name_sign (spine-head (found nodes t) f e i) (suc (spine-arity (found nodes t) f e i)))
-
   pub sign_app : (h : Head) (args : List At) → term_tree nodes end.0 ≡ app h (term_trees nodes args)
       → sign_of (sub (found nodes t) (term_tree nodes at.0)) ≡ name_sign (Some h) (length args)
   sign_app h args e =
       ap sign_of read_end
-      ∙ (spine_sign (term_tree nodes end.0) (ap is_spine e ∙ is_spine-apply (Con h) (term_trees nodes args) refl)
+      ∙ (spine_sign (found nodes t) (term_tree nodes end.0) (ap is_spine e ∙ is_spine-apply (Con h) (term_trees nodes args) refl)
       ∙ sign_of-read nodes (term_tree nodes end.0) h args e)
 
   pub sign_var : (x : ℕ) → term_tree nodes end.0 ≡ Var x → IsFree t (term_tree nodes end.0) → sign_of (sub (found nodes t) (term_tree nodes at.0)) ≡ Open
@@ -66,28 +67,31 @@ module _ (s : ℕ → Term) where
   first_none nodes t h args e n = ap (λ u. first_of (sub s u)) (e ∙ ap (λ as'. app h (term_trees nodes as')) n)
 
   -- the first of several
+  pub first_of_app : (h : Head) (t : Term) (ts : List Term) → first_of (sub s (app h (t ∷ ts))) ≡ sign_of (sub s t)
+  first_of_app h t ts = ap sign_if_some (first-sub (app h (t ∷ ts)) (is_spine-apply (Con h) (t ∷ ts) refl) ∙ ap (option_map (sub s)) (first-apply (Con h) t ts))
+
   pub first_some : (nodes : Nodes) (t : Term) (h : Head) (a : At) (args : List At) → t ≡ app h (term_trees nodes (a ∷ args))
       → first_of (sub s t) ≡ sign_of (sub s (term_tree nodes a.0))
-  first_some nodes t h a args e =
-      ap (λ u. first_of (sub s u)) e
-      ∙ ap sign_if_some
-      (first-sub (app h (term_trees nodes (a ∷ args))) (is_spine-apply (Con h) (term_trees nodes (a ∷ args)) refl)
-      ∙ ap (option_map (sub s)) (first-apply (Con h) (term_tree nodes a.0) (term_trees nodes args)))
+  first_some nodes t h a args e = ap (λ u. first_of (sub s u)) e ∙ first_of_app h (term_tree nodes a.0) (term_trees nodes args)
 
 -- an argument has no variables but those of the term
-below-apply : (n : ℕ) (f : Term) (ts : List Term) → vars_below n (apply f ts) ≡ true → vars_below n f ≡ true
+pub below-apply : (n : ℕ) (f : Term) (ts : List Term) → vars_below n (apply f ts) ≡ true → vars_below n f ≡ true
 below-apply n f [] e = e
 below-apply n f (t ∷ ts) e = and_left (vars_below n f) (vars_below n t) (below-apply n (Ap f t) ts e)
+
+pub below_first : (s : ℕ → Term) (n : ℕ) (h : Head) (t : Term) (ts : List Term) → vars_below n (sub s (app h (t ∷ ts))) ≡ true
+    → vars_below n (sub s t) ≡ true
+below_first s n h t ts e =
+    and_right (vars_below n (Con h)) (vars_below n (sub s t))
+    (below-apply n (Ap (Con h) (sub s t)) (map (sub s) ts) (ap (vars_below n) (sym (sub-app s h (t ∷ ts))) ∙ e))
 
 pub first_place : (nodes : Nodes) (t : Table) (u : Term) (h : Head) (a : At) (args : List At) → IsTable nodes t → u ≡ app h (term_trees nodes (a ∷ args))
     → HasTerm nodes a.0
     → vars_below (count t) (sub (found nodes t) u) ≡ true → IsPlaceOf nodes t a.0
 first_place nodes t u h a args tb e inside below =
     place-below nodes t a.0 tb inside
-    (let all : vars_below (count t) (apply (Con h) (map (sub (found nodes t)) (term_trees nodes (a ∷ args)))) ≡ true =
-    ap (vars_below (count t)) (sym (sub-app (found nodes t) h (term_trees nodes (a ∷ args))) ∙ ap (sub (found nodes t)) (sym e)) ∙ below in
-    and_right (vars_below (count t) (Con h)) (vars_below (count t) (sub (found nodes t) (term_tree nodes a.0)))
-    (below-apply (count t) (Ap (Con h) (sub (found nodes t) (term_tree nodes a.0))) (map (sub (found nodes t)) (term_trees nodes args)) all))
+    (below_first (found nodes t) (count t) h (term_tree nodes a.0) (term_trees nodes args) (ap (λ v. vars_below (count t) (sub (found nodes t) v)) (sym e)
+    ∙ below))
 
 -- ---- heads
 

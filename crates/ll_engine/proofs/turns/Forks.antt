@@ -14,8 +14,8 @@ use Rattle.ll_bank.specs.Term.{Term}
 use Rattle.ll_bank.specs.Form.{Form, Top, One, Atom, With, Tensor, Plus, Bang, Lolli, Imp, Forall, Exists, Use, Num, Is, Less, Most}
 use Rattle.ll_laws.specs.Leaf.{ways, leaf}
 use Rattle.ll_laws.specs.Module.{Setting, ModuleTree}
-use Rattle.ll_laws.specs.Settle.{Item, Goal, Front, settle_front}
-use Rattle.ll_laws.specs.State.{State, settle, front_of, with_front}
+use Rattle.ll_laws.specs.Settle.{Item, Goal}
+use Rattle.ll_laws.specs.State.{State, settle}
 use Rattle.ll_laws.specs.Attempt.{tries, agenda_tries, attempt, attempt_agenda, attempt_goal, goal_tries, take_entry, take_way, take_leaf, load_module}
 use Rattle.ll_laws.specs.Attempt.{take_value, stepped, entry_at, vars_from}
 use Rattle.ll_laws.specs.Number.{value_of, holds}

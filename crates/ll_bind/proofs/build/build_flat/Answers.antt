@@ -1,6 +1,7 @@
 use Rattle.std.proofs.Common.{◌≡◌, ◌≤◌, List, length, All, true, ap, sym, subst, ◌∙◌}
 use Rattle.std.proofs.lemmas.List.{length-take-le}
 use Rattle.std.proofs.lemmas.Result.{IfOk-weaker}
+use Rattle.ll_list_laws.proofs.CallerLemmas.{take-front}
 use Rattle.ll_bank.specs.declared.At.{At}
 use Rattle.ll_bank.specs.Term.{Term, close, app, head_of, not_bound}
 use Rattle.ll_bank.specs.Nodes.{Nodes, AllInTerms, ShowsTerm, term_tree, term_trees}
@@ -11,7 +12,7 @@ use Rattle.ll_unify.proofs.CallerLemmas.{args_in-app, table-extends}
 use Rattle.ll_bank.specs.Environments.{values_in}
 use Rattle.ll_store.specs.Tables.{table_of}
 use Rattle.ll_bind.specs.Built.{ShowsSame, AreBuilt, IsFlat, is_bare}
-use Rattle.ll_bind.proofs.Building.{shows-itself, shows-app, take-front, built-length, built-inside, closed-cells}
+use Rattle.ll_bind.proofs.Building.{shows-itself, shows-app, built-length, built-inside, closed-cells}
 use Rattle.ll_bind.proofs.build.build_flat.Goals as goal
 
 -- a flat pattern has few arguments, each of which is bare, and no bound place as its head

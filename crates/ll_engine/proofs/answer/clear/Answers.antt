@@ -1,4 +1,4 @@
-use Rattle.std.proofs.Common.{◌≡◌, List, [], ◌∷◌, length, refl, sym, subst, ap, ◌∙◌, arith}
+use Rattle.std.proofs.Common.{sym, subst, ap, ◌∙◌}
 use Rattle.std.proofs.lemmas.List.{nil_from_length}
 use Rattle.ll_bank.specs.declared.BankSize.{BankSize}
 use Rattle.ll_bank.specs.Nodes.{Nodes, HasSize, no_nodes, front, size_of}

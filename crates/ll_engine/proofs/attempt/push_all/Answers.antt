@@ -4,7 +4,7 @@ use Rattle.std.proofs.lemmas.List.{drop_more}
 use Rattle.ll_agenda.specs.Frames.{items_at}
 use Rattle.ll_agenda.proofs.CallerLemmas.{Extends-trans}
 use Rattle.ll_freeze.specs.declared.machine.Item.{Item}
-use Rattle.ll_freeze.specs.declared.machine.Item.TheVariants.{Goal}
+use Rattle.ll_freeze.specs.Shown.{closed_goal}
 use Rattle.ll_engine.proofs.attempt.push_all.Goals as goal
 
 -- one more item in front of the rest
@@ -16,7 +16,7 @@ one_more xs at d rest p h =
 
 pub loop-at-preserved : goal.loop-at-preserved
 loop-at-preserved c =
-    let i = c.loop-at.invariant in let h = c.in_ok-top.ensures in let d = Goal (record { 0 = 0 }) in let xs = c.args.items.now in
+    let i = c.loop-at.invariant in let h = c.in_ok-top.ensures in let d = closed_goal (record { 0 = 0 }) in let xs = c.args.items.now in
     let rest = items_at c.args.agenda.now c.args.rest in (
       omega (arith, i.0),
       h.list.inside,

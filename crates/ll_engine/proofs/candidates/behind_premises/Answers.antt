@@ -1,4 +1,4 @@
-use Rattle.std.proofs.Common.{ℕ, ◌<◌, length, ap, sym, ◌∙◌, arith, lt_trans}
+use Rattle.std.proofs.Common.{length, ap, sym, ◌∙◌, lt_trans}
 use Rattle.ll_bank.specs.Form.{Form}
 use Rattle.ll_bank.specs.Nodes.{form_tree}
 use Rattle.ll_laws.specs.Leaf.{ways}

@@ -19,14 +19,15 @@ returns-in_ok-push-in-Plus c =
     let rest = items_at c.args.machine.now.agenda c.in-Some.field-0-1 in
     c.in_ok-push-in-Plus.ensures
     ∙ (ap (λ xs. xs ++ record { label = 0; leaf = 1 } ∷ []) c.one-found.ensures
-    ∙ sym (matches_two (parts_of c.args.machine.now) c.in-Goal.goal c.in-Plus.field-0 c.in-Plus.field-1 rest
+    ∙ sym (matches_two (parts_of c.args.machine.now) c.in-Goal.goal c.in-Goal.environment c.in-Plus.field-0 c.in-Plus.field-1 rest
     (c.in-Some.ensures.some.list ∙ ap (λ i. i ∷ rest) c.in-Goal.is) c.in-Plus.ensures.shown.tree))
 
 pub returns-in_default-form_at : goal.returns-in_default-form_at
 returns-in_default-form_at c =
     let rest = items_at c.args.machine.now.agenda c.in-Some.field-0-1 in
     c.one.ensures
-    ∙ sym (matches_one (parts_of c.args.machine.now) c.in-Goal.goal c.form_at.result rest (c.in-Some.ensures.some.list ∙ ap (λ i. i ∷ rest) c.in-Goal.is)
+    ∙ sym (matches_one (parts_of c.args.machine.now) c.in-Goal.goal c.in-Goal.environment c.form_at.result rest
+    (c.in-Some.ensures.some.list ∙ ap (λ i. i ∷ rest) c.in-Goal.is)
     c.form_at.ensures.shown.tree c.in_default-form_at.not-Atom c.in_default-form_at.not-Plus)
 
 pub returns-in_err-push-in-Plus : goal.returns-in_err-push-in-Plus

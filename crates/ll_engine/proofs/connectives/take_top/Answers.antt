@@ -3,13 +3,15 @@ use Rattle.ll_agenda.specs.Frames.{items_at}
 use Rattle.ll_freeze.specs.Parts.{parts_of}
 use Rattle.ll_freeze.proofs.CallerLemmas.{later_then}
 use Rattle.ll_engine.proofs.machine.Keeping.{later_context}
+use Rattle.ll_engine.proofs.machine.MachineLemmas.{front_tree}
 use Rattle.ll_engine.proofs.inferences.Connecting.{top}
 use Rattle.ll_engine.proofs.connectives.take_top.Goals as goal
 
 pub returns-clause-attempts : goal.returns-clause-attempts
 returns-clause-attempts c candidate =
     let m = parts_of c.args.machine.now in let h = c.requires.front in
-    top m (parts_of c.go_on.new.machine) c.erase.new.self.present h.goal (items_at m.agenda c.args.rest) candidate c.requires.fits h.list h.seen.tree
+    top m (parts_of c.go_on.new.machine) c.erase.new.self.present h.goal c.args.position.environment (items_at m.agenda c.args.position.rest) candidate
+    c.requires.fits h.list (front_tree m _ c.args.position h)
     c.in_ok-erase.ensures.erased c.in_ok-go_on.ensures.goes
 
 pub returns-clause-later : goal.returns-clause-later

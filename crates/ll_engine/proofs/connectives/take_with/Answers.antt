@@ -3,14 +3,16 @@ use Rattle.ll_agenda.specs.Frames.{items_at}
 use Rattle.ll_freeze.specs.Parts.{parts_of}
 use Rattle.ll_freeze.proofs.CallerLemmas.{later_then}
 use Rattle.ll_engine.proofs.machine.Keeping.{later_context}
+use Rattle.ll_engine.proofs.machine.MachineLemmas.{front_tree}
 use Rattle.ll_engine.proofs.inferences.Connecting.{both}
 use Rattle.ll_engine.proofs.connectives.take_with.Goals as goal
 
 pub returns-clause-attempts : goal.returns-clause-attempts
 returns-clause-attempts c candidate =
     let m = parts_of c.args.machine.now in let h = c.requires.front in
-    both m (parts_of c.go_on.new.machine) c.save.new.self.present h.goal c.args.first c.args.second c.in_ok-saved.saved (items_at m.agenda c.args.rest)
-    candidate c.requires.fits h.list h.seen.tree h.seen.parts c.in_ok-saved.ensures.number c.in_ok-saved.ensures.kept
+    both m (parts_of c.go_on.new.machine) c.save.new.self.present h.goal c.args.position.environment c.args.first c.args.second c.in_ok-saved.saved
+    (items_at m.agenda c.args.position.rest)
+    candidate c.requires.fits h.list (front_tree m _ c.args.position h) h.seen.parts c.in_ok-saved.ensures.number c.in_ok-saved.ensures.kept
     c.in_ok-saved.ensures.same c.in_ok-saved.ensures.saved c.in_ok-go_on.ensures.goes
 
 pub returns-clause-later : goal.returns-clause-later

@@ -1,4 +1,4 @@
-use Rattle.std.proofs.Common.{ℕ, ◌<◌, length, ap, sym, ◌∙◌, arith, lt_trans}
+use Rattle.std.proofs.Common.{ap, sym, ◌∙◌, lt_trans}
 use Rattle.ll_bank.specs.Form.{Form}
 use Rattle.ll_freeze.specs.Keyed.{clause_key}
 use Rattle.ll_engine.proofs.matching.KeyedLemmas.{no_key}

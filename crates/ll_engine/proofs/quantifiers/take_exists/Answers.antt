@@ -35,7 +35,7 @@ returns c =
             (Extends-trans grows c.in_ok-goal.ensures.keeps)
             (body_shown m.store.bank c.var.new.self c.instantiate.new.self c.args.body.0 c.in_ok-goal.goal.0 c.in_ok-value.value.0 (Var n) grows c.requires.body
             v
-            c.in_ok-goal.ensures.shows) go;
+            c.in_ok-goal.ensures.shows) _ go c.closed.ensures;
         bound = ap (λ (x : Parts). x.bound) go.same ∙ (ap (λ cs. map (λ (d : Cell). d.to) cs) cells ∙ map-append (λ (d : Cell). d.to) m.store.cells.cells _);
         levels = ap (λ (x : Parts). x.levels) go.same ∙ (ap (λ cs. map (λ (d : Cell). d.level) cs) cells
             ∙ map-append (λ (d : Cell). d.level) m.store.cells.cells _);

@@ -28,7 +28,7 @@ returns c =
             keeps
             (body_shown m.store.bank c.app.new.self c.instantiate.new.self c.args.body.0 c.in_ok-goal.goal.0 c.in_ok-value.value.0 (Con (Eigen e))
             c.in_ok-value.ensures.keeps c.requires.body
-            c.in_ok-value.ensures.shows c.in_ok-goal.ensures.shows) go;
+            c.in_ok-value.ensures.shows c.in_ok-goal.ensures.shows) _ go c.closed.ensures;
         bound = ap (λ (x : Parts). x.bound) go.same;
         levels = ap (λ (x : Parts). x.levels) go.same;
         terms = ap (λ (x : Parts). x.terms) go.same;

@@ -22,7 +22,7 @@ returns c =
             opens_shown (parts_of m) (parts_of mid) (parts_of c.go_on.new.machine) refl refl refl refl refl c.in_ok-goal.goal
             (unfold_load (module_tree m.store.bank c.args.«module».now) (term_trees m.store.bank c.args.args.now) (form_tree m.store.bank c.args.body.0))
             (items_at m.agenda c.args.rest) c.in_ok-goal.ensures.keeps
-            c.in_ok-goal.ensures.shows go;
+            c.in_ok-goal.ensures.shows _ go c.closed.ensures;
         bound = ap (λ (x : Parts). x.bound) go.same;
         levels = ap (λ (x : Parts). x.levels) go.same;
         terms = ap (λ (x : Parts). x.terms) go.same;

@@ -14,15 +14,15 @@ with_mid-requires c = let m = parts_of c.args.machine.now in middle_fits m c.arg
 pub returns-clause-reaches : goal.returns-clause-reaches
 returns-clause-reaches c =
     let m = parts_of c.args.machine.now in let i = c.in-Some-Goal-default in let j = c.in-Some-WithEnd-default in
-    middle m c.with_mid.new.self.present c.push-2.new.self c.in_ok-machine.field-0 c.args.saved j.before j.field-0-0-1 c.in_ok-half.half i.goal
+    middle m c.with_mid.new.self.present c.push-2.new.self c.in_ok-machine.field-0 c.args.saved j.before j.field-0-0-1 c.in_ok-half.half i.goal i.environment
     (items_at m.agenda j.behind) c.requires.going
     (c.requires.front
     ∙ ap (λ xs. Mid c.args.saved ∷ xs)
     (i.ensures.some.list
     ∙ (ap (λ x. x ∷ items_at m.agenda i.after) i.field-0-0-is
-    ∙ ap (λ ys. Goal i.goal ∷ ys) (j.ensures.some.list ∙ ap (λ x. x ∷ items_at m.agenda j.behind) j.field-0-0-is))))
+    ∙ ap (λ ys. Goal i.goal i.environment ∷ ys) (j.ensures.some.list ∙ ap (λ x. x ∷ items_at m.agenda j.behind) j.field-0-0-is))))
     c.in_ok-half.ensures.number c.in_ok-half.ensures.settles c.in_ok-half.ensures.same c.in_ok-half.ensures.middle
-    (c.in_ok-machine.ensures.list.list ∙ ap (λ xs. Goal i.goal ∷ xs) c.in_ok-end.ensures.list.list) c.in_ok-machine.ensures.list.inside
+    (c.in_ok-machine.ensures.list.list ∙ ap (λ xs. Goal i.goal i.environment ∷ xs) c.in_ok-end.ensures.list.list) c.in_ok-machine.ensures.list.inside
 
 pub returns-clause-later : goal.returns-clause-later
 returns-clause-later c =

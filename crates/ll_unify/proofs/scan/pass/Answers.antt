@@ -1,5 +1,5 @@
 use Rattle.std.proofs.lemmas.Result.{IfOk-from_err}
-use Rattle.std.proofs.Common.{◌≡◌, ℕ, ◌<◌, ◌-◌, ◌+◌, ◌++◌, ◌∷◌, [], length, arith, sym, ap, ◌∙◌, refl, subst}
+use Rattle.std.proofs.Common.{◌≡◌, inr, ℕ, ◌<◌, ◌-◌, ◌+◌, ◌++◌, ◌∷◌, [], length, arith, sym, ap, ◌∙◌, refl, subst}
 use Rattle.std.specs.Prelude.{slice_index_or}
 use Rattle.ll_bank.specs.Term.{sub}
 use Rattle.ll_bank.specs.Nodes.{term_tree}
@@ -25,8 +25,8 @@ walk-end-requires-clause-place g c =
     (slice_index_or c.arguments-args.result.now c.loop-next.next (record { 0 = 0 })).0 f.frame.end.place
     (c.arguments-args.ensures.each c.loop-next.next c.loop-next-test.true)
 
-pub returns-then-not-is_empty-clause-passed : goal.returns-then-not-is_empty-clause-passed
-returns-then-not-is_empty-clause-passed g c =
+pub returns-then-not-has-clause-passed : goal.returns-then-not-has-clause-passed
+returns-then-not-has-clause-passed g c =
     rw (c.in_ok-push-2.ensures.ok, c.in_ok-push.ensures.ok, c.loop-next.invariant.frames)
     (scan-opens c.args.bank.now (g.T.Bindings.table c.args.table.now) c.args.var c.args.level c.loop-next.seen.places.items c.loop-next.seen.vars.items
     (sub (found c.args.bank.now (g.T.Bindings.table c.args.table.now)) (term_tree c.args.bank.now c.args.start.0))
@@ -35,8 +35,8 @@ returns-then-not-is_empty-clause-passed g c =
     (slice_index_or c.arguments-args.result.now c.loop-next.next (record { 0 = 0 })) c.walk-end.result c.requires.table c.loop-next.invariant.scanned refl
     (c.arguments-args.ensures.each c.loop-next.next c.loop-next-test.true) c.walk-end.ensures.end c.walk-end.ensures.same refl refl)
 
-pub returns-then-not-is_empty-clause-less : goal.returns-then-not-is_empty-clause-less
-returns-then-not-is_empty-clause-less g c =
+pub returns-then-not-has-clause-less : goal.returns-then-not-has-clause-less
+returns-then-not-has-clause-less g c =
     rw (c.in_ok-push-2.ensures.ok, c.in_ok-push.ensures.ok, c.loop-next.invariant.frames)
     (let l = c.loop-next.invariant.less in
     let w = weight-opens c.args.bank.now (found c.args.bank.now (g.T.Bindings.table c.args.table.now)) c.args.frames.now.items
@@ -50,44 +50,44 @@ returns-then-not-is_empty-clause-less g c =
 
 pub returns-then-not-branch-clause-passed : goal.returns-then-not-branch-clause-passed
 returns-then-not-branch-clause-passed g c =
-    let none : length c.arguments.result.now ≡ 0 = let h = c.is_empty.ensures in let k = c.if-not-is_empty.false in grind arith in
-    subst (IsPassed c.args.bank.now (g.T.Bindings.table c.args.table.now) c.args.var c.args.level c.done.new.self.places.items c.done.new.self.vars.items
+    let none : length c.arguments.result.now ≡ 0 = let h = c.is_empty.ensures in let k = c.if-is_empty.true in grind arith in
+    subst (IsPassed c.args.bank.now (g.T.Bindings.table c.args.table.now) c.args.var c.args.level c.look.new.self.places.items c.look.new.self.vars.items
     (sub (found c.args.bank.now (g.T.Bindings.table c.args.table.now)) (term_tree c.args.bank.now c.args.start.0))
     (c.args.frames.now.items ++ (record { at = c.args.frame.at; next = c.loop-next.next + 1 }) ∷ [])) c.if-not-branch.true
-    (scan-done c.args.bank.now (g.T.Bindings.table c.args.table.now) c.args.var c.args.level c.loop-next.seen.places.items c.done.new.self.places.items
-    c.loop-next.seen.vars.items c.done.new.self.vars.items
+    (scan-done c.args.bank.now (g.T.Bindings.table c.args.table.now) c.args.var c.args.level c.loop-next.seen.places.items c.look.new.self.places.items
+    c.loop-next.seen.vars.items c.look.new.self.vars.items
     (sub (found c.args.bank.now (g.T.Bindings.table c.args.table.now)) (term_tree c.args.bank.now c.args.start.0))
     ((c.args.frames.now.items ++ (record { at = c.args.frame.at; next = c.loop-next.next + 1 }) ∷ []) ++ (record { at = c.walk-end.result; next = 0 }) ∷ [])
     (c.args.frames.now.items ++ (record { at = c.args.frame.at; next = c.loop-next.next + 1 }) ∷ []) (record { at = c.walk-end.result; next = 0 })
-    c.in_ok-done.field-0 c.requires.table
+    c.in_ok-look.field-0 c.requires.table
     (scan-opens c.args.bank.now (g.T.Bindings.table c.args.table.now) c.args.var c.args.level c.loop-next.seen.places.items c.loop-next.seen.vars.items
     (sub (found c.args.bank.now (g.T.Bindings.table c.args.table.now)) (term_tree c.args.bank.now c.args.start.0))
     (c.args.frames.now.items ++ (record { at = c.args.frame.at; next = c.loop-next.next }) ∷ []) c.args.frames.now.items
     (record { at = c.args.frame.at; next = c.loop-next.next }) (record { at = c.args.frame.at; next = c.loop-next.next + 1 })
     (slice_index_or c.arguments-args.result.now c.loop-next.next (record { 0 = 0 })) c.walk-end.result c.requires.table c.loop-next.invariant.scanned refl
     (c.arguments-args.ensures.each c.loop-next.next c.loop-next-test.true) c.walk-end.ensures.end c.walk-end.ensures.same refl refl) refl (let n =
-    c.arguments.ensures.count in omega arith) c.in_ok-done.ensures.look c.in_ok-done.ensures.places)
+    c.arguments.ensures.count in omega arith) c.in_ok-look.ensures.look (λ _. inr c.in_ok-look.ensures.places))
 
 pub loop-next-preserved-else-not-branch : goal.loop-next-preserved-else-not-branch
 loop-next-preserved-else-not-branch g c =
-    let none : length c.arguments.result.now ≡ 0 = let h = c.is_empty.ensures in let k = c.if-not-is_empty.false in grind arith in
+    let none : length c.arguments.result.now ≡ 0 = let h = c.is_empty.ensures in let k = c.if-is_empty.true in grind arith in
     record {
-      scanned = subst (IsPassed c.args.bank.now (g.T.Bindings.table c.args.table.now) c.args.var c.args.level c.done.new.self.places.items
-          c.done.new.self.vars.items (sub (found c.args.bank.now (g.T.Bindings.table c.args.table.now)) (term_tree c.args.bank.now c.args.start.0))
+      scanned = subst (IsPassed c.args.bank.now (g.T.Bindings.table c.args.table.now) c.args.var c.args.level c.look.new.self.places.items
+          c.look.new.self.vars.items (sub (found c.args.bank.now (g.T.Bindings.table c.args.table.now)) (term_tree c.args.bank.now c.args.start.0))
           (c.args.frames.now.items ++ (record { at = c.args.frame.at; next = c.loop-next.next + 1 }) ∷ [])) c.if-not-branch.false
-          (scan-done c.args.bank.now (g.T.Bindings.table c.args.table.now) c.args.var c.args.level c.loop-next.seen.places.items c.done.new.self.places.items
-          c.loop-next.seen.vars.items c.done.new.self.vars.items
+          (scan-done c.args.bank.now (g.T.Bindings.table c.args.table.now) c.args.var c.args.level c.loop-next.seen.places.items c.look.new.self.places.items
+          c.loop-next.seen.vars.items c.look.new.self.vars.items
           (sub (found c.args.bank.now (g.T.Bindings.table c.args.table.now)) (term_tree c.args.bank.now c.args.start.0))
           ((c.args.frames.now.items ++ (record { at = c.args.frame.at; next = c.loop-next.next + 1 }) ∷ []) ++ (record { at = c.walk-end.result; next = 0 })
           ∷ []) (c.args.frames.now.items ++ (record { at = c.args.frame.at; next = c.loop-next.next + 1 }) ∷ [])
-          (record { at = c.walk-end.result; next = 0 }) c.in_ok-done.field-0 c.requires.table
+          (record { at = c.walk-end.result; next = 0 }) c.in_ok-look.field-0 c.requires.table
           (scan-opens c.args.bank.now (g.T.Bindings.table c.args.table.now) c.args.var c.args.level c.loop-next.seen.places.items c.loop-next.seen.vars.items
           (sub (found c.args.bank.now (g.T.Bindings.table c.args.table.now)) (term_tree c.args.bank.now c.args.start.0))
           (c.args.frames.now.items ++ (record { at = c.args.frame.at; next = c.loop-next.next }) ∷ []) c.args.frames.now.items
           (record { at = c.args.frame.at; next = c.loop-next.next }) (record { at = c.args.frame.at; next = c.loop-next.next + 1 })
           (slice_index_or c.arguments-args.result.now c.loop-next.next (record { 0 = 0 })) c.walk-end.result c.requires.table c.loop-next.invariant.scanned
           refl (c.arguments-args.ensures.each c.loop-next.next c.loop-next-test.true) c.walk-end.ensures.end c.walk-end.ensures.same refl refl) refl
-          (let n = c.arguments.ensures.count in omega arith) c.in_ok-done.ensures.look c.in_ok-done.ensures.places);
+          (let n = c.arguments.ensures.count in omega arith) c.in_ok-look.ensures.look (λ _. inr c.in_ok-look.ensures.places));
       frames = c.loop-next.invariant.frames;
       less = (let l = c.loop-next.invariant.less in let w = weight-known c.args.bank.now (found c.args.bank.now (g.T.Bindings.table c.args.table.now))
           c.args.frames.now.items (record { at = c.args.frame.at; next = c.loop-next.next }) (record { at = c.args.frame.at; next = c.loop-next.next + 1 })
@@ -111,14 +111,14 @@ loop-next-preserved g c = record {
 pub returns-clause-passed : goal.returns-clause-passed
 returns-clause-passed g c =
     rw c.loop-next.invariant.frames
-    (both c.done-2.result _ _ _ (λ b look places.
-    scan-done c.args.bank.now (g.T.Bindings.table c.args.table.now) c.args.var c.args.level c.loop-next.seen.places.items c.done-2.new.self.places.items
-    c.loop-next.seen.vars.items c.done-2.new.self.vars.items
+    (both c.done.result _ _ _ (λ b look places.
+    scan-done c.args.bank.now (g.T.Bindings.table c.args.table.now) c.args.var c.args.level c.loop-next.seen.places.items c.done.new.self.places.items
+    c.loop-next.seen.vars.items c.done.new.self.vars.items
     (sub (found c.args.bank.now (g.T.Bindings.table c.args.table.now)) (term_tree c.args.bank.now c.args.start.0))
     (c.args.frames.now.items ++ (record { at = c.args.frame.at; next = c.loop-next.next }) ∷ []) c.args.frames.now.items
     (record { at = c.args.frame.at; next = c.loop-next.next }) b c.requires.table c.loop-next.invariant.scanned refl
     (let n = c.arguments-args.ensures.count in let k = c.loop-next-test.false in omega arith) look places)
-    c.done-2.ensures.look c.done-2.ensures.places)
+    c.done.ensures.look c.done.ensures.places)
 
 pub loop-next-init : goal.loop-next-init
 loop-next-init g c = record { scanned = c.requires.scanned; frames = refl; less = omega arith }
@@ -135,8 +135,8 @@ arguments-args-requires g c =
     (sub (found c.args.bank.now (g.T.Bindings.table c.args.table.now)) (term_tree c.args.bank.now c.args.start.0))
     (c.args.frames.now.items ++ c.args.frame ∷ []) c.args.frames.now.items c.args.frame c.requires.scanned refl).frame.end.place.inside
 
-pub done-requires-2 : goal.done-requires-2
-done-requires-2 g c =
+pub done-requires : goal.done-requires
+done-requires g c =
     (scan-top c.args.bank.now (g.T.Bindings.table c.args.table.now) c.args.var c.args.level c.args.seen.now.places.items c.args.seen.now.vars.items
     (sub (found c.args.bank.now (g.T.Bindings.table c.args.table.now)) (term_tree c.args.bank.now c.args.start.0))
     (c.args.frames.now.items ++ c.args.frame ∷ []) c.args.frames.now.items c.args.frame c.requires.scanned refl).frame.end.place.inside
@@ -144,8 +144,8 @@ done-requires-2 g c =
 pub arguments-requires : goal.arguments-requires
 arguments-requires g c = c.walk-end.ensures.end.place.inside
 
-pub done-requires : goal.done-requires
-done-requires g c = c.walk-end.ensures.end.place.inside
+pub look-requires : goal.look-requires
+look-requires g c = c.walk-end.ensures.end.place.inside
 
 pub returns-then-not-branch-clause-less : goal.returns-then-not-branch-clause-less
 returns-then-not-branch-clause-less g c =
@@ -159,10 +159,10 @@ pub loop-next-smaller : goal.loop-next-smaller
 loop-next-smaller g c = falls_by_one c.loop-next.next _ c.loop-next-test.true
 
 pub returns-in_err-push-clause-passed : goal.returns-in_err-push-clause-passed
-returns-in_err-push-clause-passed g c = IfOk-from_err c.from_residual.result _ c.from_residual.ensures.0
+returns-in_err-push-clause-passed g c = IfOk-from_err c.from_residual-in_err-push.result _ c.from_residual-in_err-push.ensures.0
 
 pub returns-in_err-push-clause-less : goal.returns-in_err-push-clause-less
-returns-in_err-push-clause-less g c = IfOk-from_err c.from_residual.result _ c.from_residual.ensures.0
+returns-in_err-push-clause-less g c = IfOk-from_err c.from_residual-in_err-push.result _ c.from_residual-in_err-push.ensures.0
 
 pub returns-in_err-push-2-clause-passed : goal.returns-in_err-push-2-clause-passed
 returns-in_err-push-2-clause-passed g c = IfOk-from_err c.from_residual-in_err-push-2.result _ c.from_residual-in_err-push-2.ensures.0
@@ -170,8 +170,8 @@ returns-in_err-push-2-clause-passed g c = IfOk-from_err c.from_residual-in_err-p
 pub returns-in_err-push-2-clause-less : goal.returns-in_err-push-2-clause-less
 returns-in_err-push-2-clause-less g c = IfOk-from_err c.from_residual-in_err-push-2.result _ c.from_residual-in_err-push-2.ensures.0
 
-pub returns-in_err-done-clause-passed : goal.returns-in_err-done-clause-passed
-returns-in_err-done-clause-passed g c = IfOk-from_err c.from_residual-in_err-done.result _ c.from_residual-in_err-done.ensures.0
+pub returns-in_err-look-clause-passed : goal.returns-in_err-look-clause-passed
+returns-in_err-look-clause-passed g c = IfOk-from_err c.from_residual.result _ c.from_residual.ensures.0
 
-pub returns-in_err-done-clause-less : goal.returns-in_err-done-clause-less
-returns-in_err-done-clause-less g c = IfOk-from_err c.from_residual-in_err-done.result _ c.from_residual-in_err-done.ensures.0
+pub returns-in_err-look-clause-less : goal.returns-in_err-look-clause-less
+returns-in_err-look-clause-less g c = IfOk-from_err c.from_residual.result _ c.from_residual.ensures.0

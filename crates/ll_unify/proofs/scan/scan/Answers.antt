@@ -1,11 +1,10 @@
-use Rattle.std.proofs.lemmas.Result.{IfOk-from_err}
-use Rattle.std.proofs.Common.{◌≡◌, [], ◌∷◌, ◌++◌, length, refl, arith}
+use Rattle.std.proofs.lemmas.Result.{IfOk-from_err, IfOk-weaker}
+use Rattle.std.proofs.Common.{◌≡◌, inr, [], ◌∷◌, ◌++◌, length, refl, arith}
 use Rattle.ll_bank.specs.Term.{sub}
 use Rattle.ll_bank.specs.Nodes.{term_tree}
 use Rattle.ll_unify.specs.declared.frame.Frame.{Frame}
 use Rattle.ll_unify.specs.Bindings.{found}
 use Rattle.ll_unify.specs.Scanned.{IsScanned}
-use Rattle.ll_unify.proofs.FreshLemmas.{both}
 use Rattle.ll_unify.proofs.Scans.{scan-starts, scan-done, passed-ends}
 use Rattle.ll_unify.proofs.scan.scan.Goals as goal
 
@@ -29,8 +28,8 @@ returns-then-is_empty g c =
     let none : length c.arguments.result.now ≡ 0 = let h = c.is_empty.ensures in let k = c.if-is_empty.true in grind arith in
     let starts : IsScanned nodes t c.args.var c.args.level c.args.seen.now.places.items c.args.seen.now.vars.items whole ([] ++ frame ∷ []) =
     rw (c.requires.places, c.requires.vars) (scan-starts nodes t c.args.var c.args.level c.args.start c.requires.start) in
-    both c.done.result _ _ _ (λ b look places.
-    passed-ends nodes t c.args.var c.args.level c.done.new.self.places.items c.done.new.self.vars.items whole b
-    (scan-done nodes t c.args.var c.args.level c.args.seen.now.places.items c.done.new.self.places.items c.args.seen.now.vars.items
-    c.done.new.self.vars.items whole ([] ++ frame ∷ []) [] frame b c.requires.table starts refl (let n = c.arguments.ensures.count in omega arith) look places))
-    c.done.ensures.look c.done.ensures.places
+    IfOk-weaker c.look.result _ _ (λ b look.
+    passed-ends nodes t c.args.var c.args.level c.look.new.self.places.items c.look.new.self.vars.items whole b
+    (scan-done nodes t c.args.var c.args.level c.args.seen.now.places.items c.look.new.self.places.items c.args.seen.now.vars.items
+    c.look.new.self.vars.items whole ([] ++ frame ∷ []) [] frame b c.requires.table starts refl (let n = c.arguments.ensures.count in omega arith) look
+    (λ _. inr c.look.ensures.places))) c.look.ensures.look

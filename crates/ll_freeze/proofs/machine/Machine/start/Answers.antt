@@ -5,7 +5,6 @@ use Rattle.ll_store.specs.declared.cells.Cell.{Cell}
 use Rattle.ll_resources.specs.History.{History}
 use Rattle.ll_resources.specs.Resources.{started}
 use Rattle.ll_freeze.specs.declared.machine.Machine.{Machine}
-use Rattle.ll_freeze.specs.declared.machine.Item.TheVariants.{Goal}
 use Rattle.ll_freeze.specs.Parts.{parts_of}
 use Rattle.ll_freeze.proofs.Starting.{starts_in, cells_bound, cells_levels}
 use Rattle.ll_freeze.proofs.machine.Machine.start.Goals as goal
@@ -25,6 +24,7 @@ returns c =
       eigens = 0;
       terms = c.in_ok-store.terms;
       steps = c.new.result;
+      args = c.new-2.result;
     } in
     let count : n ≡ length i.asked.items = search rules in
     let top = c.in_ok-top.ensures.list in let first = c.in_ok-store.ensures in
@@ -38,7 +38,10 @@ returns c =
     (ap (λ (h : History _). h.present) c.in_ok-context.ensures
     ∙ ap (λ xs. started xs) (c.deref-2.ensures.value ∙ (c.in_ok-clauses.ensures
     ∙ ap (λ (cs : List Clause). map (λ (k : Clause). (k.kind, k.form)) cs) c.deref.ensures.value)))
-    (record { inside = top.inside; list = top.list ∙ ap (λ xs. Goal i.goal ∷ xs) (c.none.ensures c.new-agenda.result).list })
+    (record {
+      inside = top.inside;
+      list = top.list ∙ (λ j. c.closed.ensures j ∷ (c.none.ensures c.new-agenda.result).list j);
+    })
     (ap (λ (p : ProblemTree). p.bound) c.problem.view_is) refl
     first.inside first.shows c.new.ensures.items i.modules.items
     c.deref-3.ensures.value c.problem.invariant.0 (ap (λ (p : ProblemTree). p.modules) c.problem.view_is)

@@ -18,6 +18,7 @@ returns c =
       eigens = k.eigens;
       terms = c.truncate.new.self;
       steps = c.truncate-2.new.self;
+      args = old.args;
     } in
     let a = cut_front k.agenda old.agenda new.agenda c.cut.ensures.keeps.more c.cut.ensures.keeps.frames c.cut.ensures.left in
     record {
